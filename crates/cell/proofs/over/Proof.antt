@@ -1,0 +1,20 @@
+-- `cell::over` meets its contract: each return is decided by one field.
+-- Assumes nothing.
+use mathlib.Core.Path.{sym}
+use Rattle.cell.proofs.Order.{over-by-rank, over-by-slot, over-by-input}
+use Rattle.cell.proofs.over.Statement.{statement}
+use Rattle.cell.proofs.over.Tie as tie
+
+returns : tie.Need-returns
+returns c = sym (over-by-rank _ _ (c .before .before .if1 .taken))
+
+returns-2 : tie.Need-returns-2
+returns-2 c =
+    sym (over-by-slot _ _ (c .before .before .before .before .before .if1 .left) (c .before .before .if2 .taken))
+
+returns-3 : tie.Need-returns-3
+returns-3 c =
+    sym (over-by-input _ _ (c .before .before .before .before .before .if1 .left) (c .before .before .if2 .left))
+
+pub over-spec : {M : Type 1} → statement M
+over-spec = tie.close (tie.spec returns returns-2 returns-3)

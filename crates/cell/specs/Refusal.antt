@@ -1,0 +1,17 @@
+-- Document 01, "What is turned back": the number of each refusal.
+use Prim.Native.Nat.{ℕ}
+use Rattle.cell.specs.declared.Refusal.{Refusal}
+use Rattle.cell.specs.declared.Refusal.the-variants.{BadSize, BrokenTable, ClockEnd, NoSuchPort, NoSuchFlow}
+use Rattle.cell.specs.declared.Refusal.the-variants.{InputOrder, RankOrder, Full, BadLine, ShortBuffer}
+
+abbrev pub number : Refusal → ℕ
+number BadSize = 1
+number BrokenTable = 2
+number ClockEnd = 3
+number NoSuchPort = 4
+number NoSuchFlow = 5
+number InputOrder = 6
+number RankOrder = 7
+number Full = 8
+number BadLine = 9
+number ShortBuffer = 10

@@ -1,0 +1,144 @@
+// What travels through the switch and what may be said of it: the cell, the arrival record, the order in
+// which an output sends, the identity of a flow, the limits, and the refusals with their numbers.
+ghost use mathlib.Core.Path.{_≡_};
+ghost use Rattle.cell.specs.Order.{over};
+ghost use Rattle.cell.specs.Flow.{sameFlow};
+ghost use Rattle.cell.specs.Limits.{portsInRange, flowInRange, inputFull};
+ghost use Rattle.cell.specs.Refusal.{number};
+
+// A cell in the switch. `slot` is the slot in which it was accepted.
+pub struct Cell {
+    pub input: u32,
+    pub output: u32,
+    pub flow: u32,
+    pub rank: u32,
+    pub tag: u32,
+    pub slot: u32,
+}
+
+// A record of the arrivals that a slot is lent: any five numbers.
+pub struct Arrival {
+    pub input: u32,
+    pub output: u32,
+    pub flow: u32,
+    pub rank: u32,
+    pub tag: u32,
+}
+
+// Why a call is turned back.
+pub enum Refusal {
+    // bad size: the number of ports is not 1 to 16
+    BadSize,
+    // broken table: the lent table is not sound or has the wrong length
+    BrokenTable,
+    // clock end: the clock stands at its last value
+    ClockEnd,
+    // no such port: an input or output is N or more
+    NoSuchPort,
+    // no such flow: a flow is above 7
+    NoSuchFlow,
+    // out of turn: an input is not above that of the record before it
+    InputOrder,
+    // falling rank: a cell of the same flow is in the switch with a higher rank
+    RankOrder,
+    // full: 64 cells from this input are in the switch
+    Full,
+    // bad line: the text breaks the grammar
+    BadLine,
+    // short tray: the buffer for an answer is too short
+    ShortBuffer,
+}
+
+impl Refusal {
+    // The number that document 01 gives the refusal.
+    pub fn number(self) -> u32
+        ensures { λ r. ⌜ r ≡ number self ⌝ }
+    {
+        match self {
+            Refusal::BadSize => 1,
+            Refusal::BrokenTable => 2,
+            Refusal::ClockEnd => 3,
+            Refusal::NoSuchPort => 4,
+            Refusal::NoSuchFlow => 5,
+            Refusal::InputOrder => 6,
+            Refusal::RankOrder => 7,
+            Refusal::Full => 8,
+            Refusal::BadLine => 9,
+            Refusal::ShortBuffer => 10,
+        }
+    }
+}
+
+// The switch's size and its clock, the number of the next slot. Its limits are named here and nowhere else.
+pub struct Switch {
+    pub ports: u32,
+    pub clock: u32,
+}
+
+impl Switch {
+    pub const PORTS: u32 = 16;
+
+    pub const FLOWS: u32 = 8;
+
+    pub const CELLS: u32 = 64;
+
+    // A switch of `ports` ports in which no slot has run.
+    pub fn fresh(ports: u32, first: u32) -> Self
+        ensures { λ r. ⌜ (r .ports ≡ ports) × (r .clock ≡ first) ⌝ }
+    {
+        Switch {
+            ports,
+            clock: first,
+        }
+    }
+
+    // Whether a switch can have this many ports.
+    pub fn ports_in_range(ports: u32) -> bool
+        ensures { λ r. ⌜ r ≡ portsInRange ports ⌝ }
+    {
+        if ports < 1 {
+            return false;
+        }
+        ports <= Switch::PORTS
+    }
+
+    // Whether a flow has this number.
+    pub fn flow_in_range(flow: u32) -> bool
+        ensures { λ r. ⌜ r ≡ flowInRange flow ⌝ }
+    {
+        flow < Switch::FLOWS
+    }
+
+    // Whether an input with this many cells in the switch may accept no more.
+    pub fn input_full(cells: u32) -> bool
+        ensures { λ r. ⌜ r ≡ inputFull cells ⌝ }
+    {
+        Switch::CELLS <= cells
+    }
+}
+
+// Whether an output sends `a` before `b`.
+pub fn over(a: Cell, b: Cell) -> bool
+    ensures { λ r. ⌜ r ≡ over a b ⌝ }
+{
+    if a.rank != b.rank {
+        return a.rank < b.rank;
+    }
+    if a.slot != b.slot {
+        return a.slot < b.slot;
+    }
+    a.input < b.input
+}
+
+// Whether two cells are of one flow.
+pub fn same_flow(a: Cell, b: Cell) -> bool
+    ensures { λ r. ⌜ r ≡ sameFlow a b ⌝ }
+{
+    if a.input != b.input {
+        return false;
+    }
+    if a.output != b.output {
+        return false;
+    }
+    a.flow == b.flow
+}

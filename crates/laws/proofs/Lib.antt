@@ -1,0 +1,5 @@
+pub mod Tests
+pub mod Lists
+pub mod Count
+pub mod Least
+pub mod Pairwise

@@ -1,0 +1,140 @@
+-- Laws of pairwise: every one of a list stands in r to every later one.
+--     pairwise-head, pairwise-tail, pairwise-cons    one more at the front
+--     pairwise-append, pairwise-split                two lists one after the other
+--     pairwise-mono, pairwise-keep, pairwise-map
+--     pairwise-le-one                                no two pass: at most one passes
+--     pairwise-i                                     any two members stand in r
+use Prim.Native.Nat.{_≤_}
+use native.Mathlib.Omega.{arith}
+use mathlib.Core.Bool.{Bool, true, false, not, _&&_}
+use mathlib.Core.Path.{_≡_, refl, sym, _∙_, ap}
+use mathlib.Core.Logic.{_⊎_, inl, inr}
+use mathlib.Core.List.{List, [], _∷_, _++_, map, List·Memᴰ, List·Memᴰ·head, List·Memᴰ·tail, List·Memᴰ·cases-cons}
+use mathlib.Core.List.{List·Memᴰ·not-nil, Memᴰ·append-left, Memᴰ·append-right, List·Memᴰ·append-cases}
+use Rattle.laws.specs.Lists.{keep, none?, all?, count, pairwise}
+use Rattle.laws.proofs.Tests.{and-i, and-l, and-r, not-e}
+use Rattle.laws.proofs.Lists.{all?-e, all?-i, all?-map, none?-i, keep-pass, keep-fail, keep-nil, mem-keep-in}
+use Rattle.laws.proofs.Count.{count-nil, count-pass, count-fail, count-zero}
+
+module _ {A : Type 0} where
+  ------------------------------------------------------------------------
+  -- clauses
+
+  pub pairwise-nil : (r : A → A → Bool) → pairwise r [] ≡ true
+  unfolding pairwise
+  pairwise-nil r = refl
+
+  -- the first stands in r to each later one
+  pub pairwise-head : (r : A → A → Bool) {x y : A} {l : List A} → pairwise r (x ∷ l) ≡ true → List·Memᴰ y l
+      → r x y ≡ true
+  unfolding pairwise
+  pairwise-head r {x} {y} {l} h m = all?-e (r x) (and-l (all? (r x) l) (pairwise r l) h) m
+
+  pub pairwise-tail : (r : A → A → Bool) (x : A) (l : List A) → pairwise r (x ∷ l) ≡ true → pairwise r l ≡ true
+  unfolding pairwise
+  pairwise-tail r x l h = and-r (all? (r x) l) (pairwise r l) h
+
+  pub pairwise-cons : (r : A → A → Bool) (x : A) (l : List A) → ((y : A) → List·Memᴰ y l → r x y ≡ true)
+      → pairwise r l ≡ true → pairwise r (x ∷ l) ≡ true
+  unfolding pairwise
+  pairwise-cons r x l h t = and-i (all? (r x) l) (pairwise r l) (all?-i (r x) l h) t
+
+  -- it is enough that any two members stand in r
+  pub pairwise-i : (r : A → A → Bool) (l : List A) → ((x y : A) → List·Memᴰ x l → List·Memᴰ y l → r x y ≡ true)
+      → pairwise r l ≡ true
+  pairwise-i r [] h = pairwise-nil r
+  pairwise-i r (x ∷ l) h =
+      pairwise-cons r x l (λ y m. h x y (List·Memᴰ·head refl) (List·Memᴰ·tail m))
+      (pairwise-i r l (λ y z m k. h y z (List·Memᴰ·tail m) (List·Memᴰ·tail k)))
+
+  -- two members are the same, or one stands in r to the other
+  pub pairwise-e : (r : A → A → Bool) (l : List A) {x y : A} → pairwise r l ≡ true → List·Memᴰ x l → List·Memᴰ y l
+      → (x ≡ y) ⊎ ((r x y ≡ true) ⊎ (r y x ≡ true))
+  pairwise-e r [] h m k = absurd (List·Memᴰ·not-nil m)
+  pairwise-e r (z ∷ l) {x} {y} h m k =
+      go (List·Memᴰ·cases-cons m) (List·Memᴰ·cases-cons k) (pairwise-e r l (pairwise-tail r z l h))
+    where
+      go : (x ≡ z) ⊎ List·Memᴰ x l → (y ≡ z) ⊎ List·Memᴰ y l
+          → (List·Memᴰ x l → List·Memᴰ y l → (x ≡ y) ⊎ ((r x y ≡ true) ⊎ (r y x ≡ true)))
+          → (x ≡ y) ⊎ ((r x y ≡ true) ⊎ (r y x ≡ true))
+      go (inl e) (inl f) rec = inl (e ∙ sym f)
+      go (inl e) (inr j) rec = inr (inl (ap (λ w. r w y) e ∙ pairwise-head r h j))
+      go (inr i) (inl f) rec = inr (inr (ap (λ w. r w x) f ∙ pairwise-head r h i))
+      go (inr i) (inr j) rec = rec i j
+
+  ------------------------------------------------------------------------
+  -- two lists one after the other
+
+  -- each of the first list stands in r to each of the second
+  pub pairwise-split : (r : A → A → Bool) {x y : A} {l m : List A} → List·Memᴰ x l → List·Memᴰ y m
+      → pairwise r (l ++ m) ≡ true → r x y ≡ true
+  pairwise-split r {y} (List·Memᴰ·head {xs = k} e) j h =
+      ap (λ w. r w y) e ∙ pairwise-head r h (Memᴰ·append-right k j)
+  pairwise-split r {m} (List·Memᴰ·tail {x = z} {xs = k} i) j h = pairwise-split r i j (pairwise-tail r z (k ++ m) h)
+
+  pub pairwise-append-l : (r : A → A → Bool) (l m : List A) → pairwise r (l ++ m) ≡ true → pairwise r l ≡ true
+  pairwise-append-l r [] m h = pairwise-nil r
+  pairwise-append-l r (x ∷ l) m h =
+      pairwise-cons r x l (λ y i. pairwise-head r h (Memᴰ·append-left m i))
+      (pairwise-append-l r l m (pairwise-tail r x (l ++ m) h))
+
+  pub pairwise-append-r : (r : A → A → Bool) (l m : List A) → pairwise r (l ++ m) ≡ true → pairwise r m ≡ true
+  pairwise-append-r r [] m h = h
+  pairwise-append-r r (x ∷ l) m h = pairwise-append-r r l m (pairwise-tail r x (l ++ m) h)
+
+  pub pairwise-append : (r : A → A → Bool) (l m : List A) → pairwise r l ≡ true → pairwise r m ≡ true
+      → ((x y : A) → List·Memᴰ x l → List·Memᴰ y m → r x y ≡ true) → pairwise r (l ++ m) ≡ true
+  pairwise-append r [] m h k c = k
+  pairwise-append r (x ∷ l) m h k c =
+      pairwise-cons r x (l ++ m) (λ y i. go y (List·Memᴰ·append-cases l i))
+      (pairwise-append r l m (pairwise-tail r x l h) k (λ y z i j. c y z (List·Memᴰ·tail i) j))
+    where
+      go : (y : A) → List·Memᴰ y l ⊎ List·Memᴰ y m → r x y ≡ true
+      go y (inl i) = pairwise-head r h i
+      go y (inr j) = c x y (List·Memᴰ·head refl) j
+
+  ------------------------------------------------------------------------
+  -- another relation, another list
+
+  pub pairwise-mono : (r s : A → A → Bool) (l : List A)
+      → ((x y : A) → List·Memᴰ x l → List·Memᴰ y l → r x y ≡ true → s x y ≡ true)
+      → pairwise r l ≡ true → pairwise s l ≡ true
+  pairwise-mono r s [] h p = pairwise-nil s
+  pairwise-mono r s (x ∷ l) h p =
+      pairwise-cons s x l
+      (λ y m. h x y (List·Memᴰ·head refl) (List·Memᴰ·tail m) (pairwise-head r p m))
+      (pairwise-mono r s l (λ y z m k. h y z (List·Memᴰ·tail m) (List·Memᴰ·tail k)) (pairwise-tail r x l p))
+
+  pub pairwise-keep : (r : A → A → Bool) (p : A → Bool) (l : List A) → pairwise r l ≡ true
+      → pairwise r (keep p l) ≡ true
+  pairwise-keep r p [] h = rw (keep-nil p) h
+  pairwise-keep r p (x ∷ l) h = go (p x) refl (pairwise-keep r p l (pairwise-tail r x l h))
+    where
+      go : (b : Bool) → p x ≡ b → pairwise r (keep p l) ≡ true → pairwise r (keep p (x ∷ l)) ≡ true
+      go true e rec =
+          rw (keep-pass p x l e) (pairwise-cons r x (keep p l) (λ y m. pairwise-head r h (mem-keep-in p l m)) rec)
+      go false e rec = rw (keep-fail p x l e) rec
+
+  ------------------------------------------------------------------------
+  -- counts
+
+  -- where no two pass, at most one passes
+  pub pairwise-le-one : (p : A → Bool) (l : List A) → pairwise (λ x y. not (p x && p y)) l ≡ true → count p l ≤ 1
+  pairwise-le-one p [] h = omega (arith, count-nil p)
+  pairwise-le-one p (x ∷ l) h = go (p x) refl (pairwise-le-one p l (pairwise-tail two x l h))
+    where
+      two : A → A → Bool
+      two x y = not (p x && p y)
+
+      others : p x ≡ true → none? p l ≡ true
+      others e = none?-i p l (λ y m. not-e (p y) (ap (λ b. not (b && p y)) (sym e) ∙ pairwise-head two h m))
+
+      go : (b : Bool) → p x ≡ b → count p l ≤ 1 → count p (x ∷ l) ≤ 1
+      go true e rec = omega (arith, count-pass p x l e, count-zero p l (others e))
+      go false e rec = omega (arith, count-fail p x l e)
+
+module _ {A B : Type 0} (r : B → B → Bool) (f : A → B) where
+  pub pairwise-map : (l : List A) → pairwise r (map f l) ≡ pairwise (λ x y. r (f x) (f y)) l
+  unfolding pairwise
+  pairwise-map [] = refl
+  pairwise-map (x ∷ l) = rw (all?-map (r (f x)) f l, pairwise-map l)

@@ -1,0 +1,1 @@
+// Definitions and laws only: tests over lists, in specs/ and proofs/.

@@ -1,0 +1,148 @@
+-- Document 01, "One slot", scheduling: one phase. Unlike the source, every blocked head may take part in the matching
+-- (document 01, "Ground it stands on"). All choices use the state at the start of the phase, save the output's choice.
+-- Each step below is a list of waiting cells, made from those before it:
+--     lists, crosspoints   the cells in the lists and at the crosspoints as the phase starts
+--     heads, scheduled, urgent, candidates, matched   rules 1 to 4
+--     straight, sent       rule 5
+--     pulled               rule 6
+use Prim.Native.Nat.{ℕ, zero, suc, _+_, _*_}
+use mathlib.Core.Bool.{Bool, true, false, cond, not, _&&_, _||_}
+use mathlib.Core.List.{List, [], _∷_, _++_, map, flatten}
+use lib.Dec.{ltb, eqb}
+use Rattle.laws.specs.Lists.{keep, some?, none?, all?, least}
+use Rattle.cell.specs.declared.Cell.{Cell}
+use Rattle.cell.specs.Flow.{sameFlow}
+use Rattle.cell.specs.Limits.{cellLimit}
+use Rattle.cell.specs.Order.{over}
+use Rattle.matching.specs.Matching.{matched, proposals}
+use Rattle.model.specs.State.{Place, listed, crossed, buffered, Entry, isListed, isCrossed}
+
+-- An entry and its number, 64 × input + its position in the section of its input.
+pub record Waiting : Type 0 where
+  pub at : ℕ
+  pub cell : Cell
+  pub place : Place
+
+unfoldable pub numberFrom : ℕ → List Entry → List Waiting
+numberFrom at [] = []
+numberFrom at (e ∷ es) = record { at = at; cell = e .cell; place = e .place } ∷ numberFrom (at + 1) es
+
+unfoldable pub numberSections : ℕ → List (List Entry) → List (List Waiting)
+numberSections input [] = []
+numberSections input (s ∷ ss) = numberFrom (cellLimit * input) s ∷ numberSections (input + 1) ss
+
+unfoldable pub numbered : List (List Entry) → List (List Waiting)
+numbered sections = numberSections 0 sections
+
+-- all waiting cells of the switch
+unfoldable pub waiting : List (List Entry) → List Waiting
+waiting sections = flatten (numbered sections)
+
+unfoldable pub sameInput : Waiting → Waiting → Bool
+sameInput e f = eqb (e .cell .input) (f .cell .input)
+
+unfoldable pub sameOutput : Waiting → Waiting → Bool
+sameOutput e f = eqb (e .cell .output) (f .cell .output)
+
+-- of two cells in the lists: both are of one input, and e stands before f
+unfoldable pub ahead : Waiting → Waiting → Bool
+ahead e f = sameInput e f && ltb (e .at) (f .at)
+
+-- both go to one output, and e has the higher output priority
+unfoldable pub beats : Waiting → Waiting → Bool
+beats e f = sameOutput e f && over (e .cell) (f .cell)
+
+unfoldable pub among : List Waiting → Waiting → Bool
+among l e = some? (λ f. eqb (f .at) (e .at)) l
+
+-- the crosspoint of a cell's input and output is this one's
+unfoldable pub sameCrosspoint : Waiting → Waiting → Bool
+sameCrosspoint h x = sameInput h x && sameOutput h x
+
+-- 1. head cells are the first of each flow in an input's list
+unfoldable pub heads : List Waiting → List Waiting
+heads lists = least (λ e f. sameFlow (e .cell) (f .cell) && ahead e f) lists
+
+-- a head is blocked if its crosspoint holds a cell of lower output priority; otherwise it is normal
+unfoldable pub blocked : List Waiting → Waiting → Bool
+blocked crosspoints h = some? (λ x. sameCrosspoint h x && beats h x) crosspoints
+
+-- its crosspoint is empty
+unfoldable pub crosspointEmpty : List Waiting → Waiting → Bool
+crosspointEmpty crosspoints h = none? (sameCrosspoint h) crosspoints
+
+-- 2. the scheduled cell of an input is the first normal head in its list whose crosspoint is empty, if there is one
+unfoldable pub scheduled : List Waiting → List Waiting → List Waiting
+scheduled crosspoints hs = least ahead (keep (λ h. not (blocked crosspoints h) && crosspointEmpty crosspoints h) hs)
+
+-- 3. a blocked head is urgent if it stands before the scheduled cell of its input (or there is none) and has higher
+-- output priority than every cell in the crosspoints of its output
+unfoldable pub isUrgent : List Waiting → List Waiting → Waiting → Bool
+isUrgent crosspoints ss h =
+    blocked crosspoints h
+    && (all? (ahead h) (keep (sameInput h) ss)
+    && all? (beats h) (keep (sameOutput h) crosspoints))
+
+unfoldable pub urgent : List Waiting → List Waiting → List Waiting → List Waiting
+urgent crosspoints ss hs = keep (isUrgent crosspoints ss) hs
+
+-- 4. the urgent cells and those scheduled cells that stand first in their list are matched, if a cell is urgent
+unfoldable pub takesPart : List Waiting → List Waiting → List Waiting → Waiting → Bool
+takesPart lists us ss e = among us e || (among ss e && none? (λ f. ahead f e) lists)
+
+unfoldable pub candidates : List Waiting → List Waiting → List Waiting → List Waiting
+candidates lists [] ss = []
+candidates lists (u ∷ us) ss = keep (takesPart lists (u ∷ us) ss) lists
+
+-- 5. a matched urgent cell goes straight to its output buffer
+unfoldable pub straight : List Waiting → List Waiting → List Waiting
+straight us ms = keep (among us) ms
+
+-- every input without one sends its scheduled cell to the crosspoint
+unfoldable pub sent : List Waiting → List Waiting → List Waiting
+sent ss straights = keep (λ s. none? (sameInput s) straights) ss
+
+-- 6. an output that got no straight cell takes the cell of highest output priority among its crosspoints, those just
+-- filled included
+unfoldable pub pulled : List Waiting → List Waiting → List Waiting → List Waiting
+pulled crosspoints sents straights = keep (λ x. none? (sameOutput x) straights) (least beats (crosspoints ++ sents))
+
+pub record Phase : Type 0 where
+  pub scheduled : List Waiting
+  pub urgent : List Waiting
+  pub candidates : List Waiting
+  pub matched : List Waiting
+  pub proposals : ℕ
+  pub straight : List Waiting
+  pub sent : List Waiting
+  pub pulled : List Waiting
+
+unfoldable pub phase : List Waiting → Phase
+phase all =
+    let lists = keep (λ e. isListed (e .place)) all in
+    let crosspoints = keep (λ e. isCrossed (e .place)) all in
+    let hs = heads lists in
+    let ss = scheduled crosspoints hs in
+    let us = urgent crosspoints ss hs in
+    let cs = candidates lists us ss in
+    let ms = matched ahead beats cs in
+    let straights = straight us ms in
+    let sents = sent ss straights in
+    record {
+      scheduled = ss;
+      urgent = us;
+      candidates = cs;
+      matched = ms;
+      proposals = proposals ahead beats cs;
+      straight = straights;
+      sent = sents;
+      pulled = pulled crosspoints sents straights;
+    }
+
+-- where a cell is after the phase
+unfoldable pub placeAfter : Phase → Waiting → Place
+placeAfter p e =
+    cond (among (p .straight) e || among (p .pulled) e) buffered (cond (among (p .sent) e) crossed (e .place))
+
+unfoldable pub moved : Phase → List (List Entry) → List (List Entry)
+moved p sections = map (map (λ e. record { cell = e .cell; place = placeAfter p e })) (numbered sections)

@@ -1,0 +1,71 @@
+-- Document 01, "The PIFO switch it is held against": no lists, crosspoints or phases. Its state is N, a clock and a
+-- queue of cells for each output.
+use Prim.Native.Nat.{ℕ, _+_}
+use mathlib.Core.Bool.{Bool, true, false}
+use mathlib.Core.List.{List, [], _∷_, _++_, map, flatten}
+use mathlib.Core.Option.{Option, none, some}
+use lib.Dec.{eqb}
+use lib.ListN.{replicate}
+use Rattle.laws.specs.Lists.{keep, some?, least, update, first?}
+use Rattle.cell.specs.declared.Cell.{Cell}
+use Rattle.cell.specs.declared.Arrival.{Arrival}
+use Rattle.cell.specs.declared.Refusal.the-variants.{BrokenTable, ClockEnd}
+use Rattle.cell.specs.Cell.{accepted}
+use Rattle.cell.specs.Limits.{clockEnd}
+use Rattle.cell.specs.Order.{over}
+use Rattle.model.specs.Checks.{Outcome, done, refused, firstFault}
+
+pub record Pifo : Type 0 where
+  pub ports : ℕ
+  pub clock : ℕ
+  pub queues : List (List Cell)
+
+-- fresh, the clock is the first slot and the queues are empty
+unfoldable pub freshPifo : ℕ → ℕ → Pifo
+freshPifo ports first = record { ports = ports; clock = first; queues = replicate ports [] }
+
+unfoldable pub queued : Pifo → List Cell
+queued s = flatten (s .queues)
+
+-- each new cell joins its output's queue
+unfoldable pub join : List Cell → List (List Cell) → List (List Cell)
+join [] queues = queues
+join (c ∷ cs) queues = join cs (update (c .output) (λ q. q ++ (c ∷ [])) queues)
+
+-- the cell of highest output priority in a queue, if any
+unfoldable pub best : List Cell → Option Cell
+best q = first? (least over q)
+
+-- the queue without it
+unfoldable pub rest : List Cell → List Cell
+rest q = keep (λ c. some? (λ d. over d c) q) q
+
+-- An accepted slot: for each output the cell that it sends, or none, and the switch after it.
+pub record Sent : Type 0 where
+  pub departures : List (Option Cell)
+  pub pifo : Pifo
+
+unfoldable pub runPifo : Pifo → List Cell → Sent
+runPifo s cs =
+    let queues = join cs (s .queues) in
+    record {
+      departures = map best queues;
+      pifo = record { ports = s .ports; clock = s .clock + 1; queues = map rest queues };
+    }
+
+-- 1. arrivals that are no whole number of records, then the clock's end; 2. the checks of the records, with the cells
+-- in its own queues before the slot; 3. a refused slot sends nothing; 4. otherwise the slot runs
+unfoldable pub slotPifo : Pifo → Option (List Arrival) → Outcome Sent
+slotPifo s none = refused BrokenTable 0
+slotPifo s (some records) =
+    elim (eqb (s .clock) clockEnd) [
+      | true ↦ refused ClockEnd 0
+      | false ↦
+          let cs = map (accepted (s .clock)) records in
+          elim (firstFault (s .ports) (queued s) cs) [ some f ↦ refused (f .0) (f .1) | none ↦ done (runPifo s cs) ]
+    ]
+
+-- a refused slot leaves clock and queues as they were
+unfoldable pub pifoAfter : Pifo → Outcome Sent → Pifo
+pifoAfter s (done r) = r .pifo
+pifoAfter s (refused r place) = s

@@ -1,0 +1,6 @@
+pub mod Arrivals
+pub mod Answer
+pub mod Host
+pub mod Number
+pub mod Table
+pub mod TallyBytes
