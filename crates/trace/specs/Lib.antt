@@ -1,3 +1,4 @@
+pub mod Ascii
 pub mod Contents
 pub mod Line
 pub mod Reader

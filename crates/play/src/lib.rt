@@ -1,0 +1,1 @@
+// Definitions only: the player as text in, text out, in specs/.
