@@ -2,6 +2,7 @@
 use Prim.Native.Nat.{ℕ}
 use mathlib.Core.Bool.{Bool, _&&_}
 use lib.Dec.{eqb}
+use Rattle.cell.specs.Limits.{fits32}
 use Rattle.cell.specs.declared.Cell.{Cell}
 use Rattle.cell.specs.declared.Arrival.{Arrival}
 
@@ -16,3 +17,8 @@ sameCell c d =
     eqb (c .input) (d .input)
     && (eqb (c .output) (d .output)
     && (eqb (c .flow) (d .flow) && (eqb (c .rank) (d .rank) && (eqb (c .tag) (d .tag) && eqb (c .slot) (d .slot)))))
+
+-- a record of numbers of 32 bits
+unfoldable pub arrivalFits : Arrival → Bool
+arrivalFits a =
+    fits32 (a .input) && fits32 (a .output) && fits32 (a .flow) && fits32 (a .rank) && fits32 (a .tag)

@@ -1,7 +1,9 @@
 pub mod Checks
 pub mod Crossbar
+pub mod Emulation
 pub mod Phase
 pub mod Pifo
+pub mod Slackness
 pub mod Sound
 pub mod State
 pub mod Tally

@@ -1,2 +1,4 @@
 pub mod Tests
 pub mod Line
+pub mod Blocks
+pub mod RoundTrip

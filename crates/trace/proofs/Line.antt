@@ -15,11 +15,13 @@ use borrow.Author.Tests.{ltb-true, ltb-false, leb-true, eqb-true, eqb-false, not
 use lib.Dec.{ltb, leb, eqb}
 use lib.ListN.{length, length-append}
 use Rattle.laws.specs.Lists.{all?}
+use Rattle.laws.proofs.Tests.{and-i, and-l, and-r}
+use Rattle.laws.proofs.Lists.{all?-nil, all?-append}
 use Rattle.cell.specs.Limits.{fits32}
 use Rattle.trace.specs.declared.Key.{Key}
 use Rattle.trace.specs.declared.Key.the-variants.{Slot, In, End}
 use Rattle.trace.specs.Line.{keyName, keyText, digitsWithin, decimal, line, after, upToLineFeed, isDigit, valueAfter, noLeadingZero, readNumber, readLine}
-use Rattle.trace.proofs.Tests.{and-i, and-l, and-r, all?-cons-i, all?-head, all?-tail, all?-append, fits32-i, fits32-e}
+use Rattle.trace.proofs.Tests.{all?-both, all?-head, all?-tail}
 
 -- an Option made in two steps is some where both are
 module _ {A B P : Type 0} where
@@ -37,7 +39,7 @@ module _ {A B P : Type 0} where
 
 pub isDigit-i : (b : ℕ) → 48 ≤ b → b ≤ 57 → isDigit b ≡ true
 unfolding isDigit
-isDigit-i b h k = and-i (le-leb _ _ h) (le-leb _ _ k)
+isDigit-i b h k = and-i _ _ (le-leb _ _ h) (le-leb _ _ k)
 
 pub isDigit-e : (b : ℕ) → isDigit b ≡ true → (48 ≤ b) × (b ≤ 57)
 unfolding isDigit
@@ -126,11 +128,11 @@ record Digits (n : ℕ) (ds : List ℕ) : Type 0 where
   plain : noLeadingZero ds ≡ true
 
 digits-one : (n : ℕ) → n < 10 → Digits n ((48 + n) ∷ [])
-unfolding valueAfter all? noLeadingZero
+unfolding valueAfter noLeadingZero
 digits-one n h =
     let l : 48 ≤ 48 + n = omega arith in
     let k : 48 + n ≤ 57 = omega arith in
-    record { value = omega arith; digits = and-i (isDigit-i (48 + n) l k) refl; plain = refl }
+    record { value = omega arith; digits = all?-both isDigit (48 + n) [] (isDigit-i (48 + n) l k) (all?-nil isDigit); plain = refl }
 
 digitsWithin-digits : (k n : ℕ) → n ≤ k → Digits n (digitsWithin k n)
 digitsWithin-digits zero n h =
@@ -148,7 +150,7 @@ digitsWithin-digits (suc k) n h = go (size n) (digitsWithin-digits k (n / 10))
         let e = valueAfter-snoc 0 (48 + n % 10) (digitsWithin k (n / 10)) in
         rw (digitsWithin-large k n s) (record {
           value = omega arith;
-          digits = all?-append isDigit _ _ (f .digits) (o .digits);
+          digits = all?-append isDigit _ _ ∙ and-i _ _ (f .digits) (o .digits);
           plain = noLeadingZero-snoc _ _ (f .plain) p;
         })
 

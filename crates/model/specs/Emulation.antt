@@ -1,0 +1,83 @@
+-- Demand 3: for every list of slot calls from a fresh switch the crossbar answers as the PIFO switch does. One claim
+-- about the whole list, refused calls included; each call gets the switch that the call before returned, or left in
+-- refusing. The tally takes no part in a slot's answer.
+use Prim.Native.Nat.{ℕ, _≤_, _<_}
+use mathlib.Core.Bool.{Bool, true, false, _&&_}
+use mathlib.Core.List.{List, [], _∷_, map, flatten}
+use mathlib.Core.Option.{Option, none, some}
+use mathlib.Core.Path.{_≡_}
+use lib.Dec.{eqb}
+use lib.ListN.{getD}
+use Rattle.laws.specs.Lists.{keep, none?, all?, count}
+use Rattle.cell.specs.declared.Arrival.{Arrival}
+use Rattle.cell.specs.declared.Cell.{Cell}
+use Rattle.cell.specs.Cell.{sameCell, arrivalFits}
+use Rattle.cell.specs.Limits.{portsInRange, fits32}
+use Rattle.model.specs.State.{Place, Entry, Switch, fresh, cells, isListed, isCrossed, isBuffered}
+use Rattle.model.specs.Checks.{Outcome, done, refused}
+use Rattle.model.specs.Crossbar.{Course, slot, switchAfter}
+use Rattle.model.specs.Pifo.{Pifo, freshPifo, Sent, slotPifo, pifoAfter}
+
+-- The arrivals of a call: any number of records of any 32-bit values, or no whole number of records.
+unfoldable pub lent : Option (List Arrival) → Bool
+lent none = true
+lent (some records) = all? arrivalFits records
+
+-- each output the same cell in all six fields, or none exactly when the other sends none; refused exactly when the
+-- other refuses, with the same number and the same place
+abbrev pub AnswersAlike : Outcome Course → Outcome Sent → Type 0
+AnswersAlike (done c) (done d) = c .departures ≡ d .departures
+AnswersAlike (done c) (refused r place) = ⊥
+AnswersAlike (refused r place) (done d) = ⊥
+AnswersAlike (refused r place) (refused r′ place′) = (r ≡ r′) × (place ≡ place′)
+
+-- the cells of the sections whose place passes a test
+unfoldable pub cellsAt : (Place → Bool) → List (List Entry) → List Cell
+cellsAt p sections = map (λ e. e .cell) (keep (λ e. p (e .place)) (flatten sections))
+
+-- Taken from an input are the cells that leave its list in a slot, this slot's arrivals included.
+unfoldable pub taken : ℕ → Course → ℕ
+taken input c =
+    count (λ d. eqb (d .input) input && none? (sameCell d) (cellsAt isListed (c .settled))) (cellsAt isListed (c .arrived))
+
+-- Brought to an output are those that enter its buffer in it, also those sent at once.
+unfoldable pub brought : ℕ → Course → ℕ
+brought output c =
+    count (λ d. eqb (d .output) output && none? (sameCell d) (cellsAt isBuffered (c .arrived)))
+    (cellsAt isBuffered (c .settled))
+
+unfoldable pub atCrosspoint : ℕ → ℕ → List (List Entry) → ℕ
+atCrosspoint input output sections =
+    count (λ d. eqb (d .input) input && eqb (d .output) output) (cellsAt isCrossed sections)
+
+-- at most two cells are taken from each input and two brought to each output, and at most one is at each crosspoint
+pub record WithinLimits (c : Course) : Type 0 where
+  pub taken-two : (input : ℕ) → taken input c ≤ 2
+  pub brought-two : (output : ℕ) → brought output c ≤ 2
+  pub crosspoint-arrived : (input output : ℕ) → atCrosspoint input output (c .arrived) ≤ 1
+  pub crosspoint-between : (input output : ℕ) → atCrosspoint input output (c .between) ≤ 1
+  pub crosspoint-settled : (input output : ℕ) → atCrosspoint input output (c .settled) ≤ 1
+
+abbrev pub Within : Outcome Course → Type 0
+Within (done c) = WithinLimits c
+Within (refused r place) = Unit {0}
+
+-- the clocks are equal, and the same cells wait in both, as multisets per output with all fields
+pub record SameWaiting (s : Switch) (q : Pifo) : Type 0 where
+  pub clock : s .clock ≡ q .clock
+  pub waiting : (output : ℕ) (c : Cell)
+      → count (sameCell c) (keep (λ d. eqb (d .output) output) (cells s)) ≡ count (sameCell c) (getD (q .queues) output [])
+
+-- call by call both answer alike, all along the limits are kept, and after the list the same cells wait
+abbrev pub Alike : Switch → Pifo → List (Option (List Arrival)) → Type 0
+Alike s q [] = SameWaiting s q
+Alike s q (arrivals ∷ calls) =
+    AnswersAlike (slot s arrivals) (slotPifo q arrivals)
+    × Within (slot s arrivals)
+    × Alike (switchAfter s (slot s arrivals)) (pifoAfter q (slotPifo q arrivals)) calls
+
+-- for every N from 1 to 16, every first slot of 32 bits and every list of slot calls
+abbrev pub Demand3 : Type 0
+Demand3 = (ports first : ℕ) (calls : List (Option (List Arrival)))
+    → portsInRange ports ≡ true → fits32 first ≡ true → all? lent calls ≡ true
+    → Alike (fresh ports first) (freshPifo ports first) calls
