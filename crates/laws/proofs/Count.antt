@@ -138,6 +138,11 @@ module _ {A : Type 0} where
   pub count-all : (p : A → Bool) (l : List A) → all? p l ≡ true → count p l ≡ length l
   count-all p l h = sym (length-keep p l) ∙ ap length (keep-all p l h)
 
+  -- a member that fails is missing from the kept list
+  pub length-keep-lt : (p : A → Bool) {x : A} {l : List A} → List·Memᴰ x l → p x ≡ false → length (keep p l) < length l
+  length-keep-lt p {x} {l} m f =
+      omega (arith, length-keep p l, count-lt p (λ y. true) (λ y k t. refl) m f refl, count-le-length (λ y. true) l)
+
   ------------------------------------------------------------------------
   -- at most one
 

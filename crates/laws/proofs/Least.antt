@@ -1,6 +1,6 @@
 -- Laws of least: those of a list that no other of it is before.
 --     least-mem, mem-least-in, mem-least-none   its members
---     least-below     under a strict order each member is at or after a least one
+--     least-below, least-before                 under a strict order each member is at or after a least one
 --     least-part, keep-least, least-least       of a part of the list
 --     least-ext, least-map                      by another order, under map
 use Prim.Native.Nat.{ℕ, zero, suc, _<_}
@@ -11,8 +11,8 @@ use mathlib.Core.Logic.{_⊎_, inl, inr}
 use mathlib.Core.List.{List, [], map, List·Memᴰ}
 use Rattle.laws.specs.Lists.{keep, none?, count, least}
 use Rattle.laws.specs.Order.{Strict}
-use Rattle.laws.proofs.Tests.{same}
-use Rattle.laws.proofs.Lists.{Passing, find, none?-e, none?-ext, none?-within, none?-map}
+use Rattle.laws.proofs.Tests.{by-fail, same}
+use Rattle.laws.proofs.Lists.{Passing, find, none?-e, none?-i, none?-clash, none?-ext, none?-within, none?-map}
 use Rattle.laws.proofs.Lists.{all?-i, keep-mem, mem-keep-in, mem-keep-passes, keep-all, keep-ext}
 use Rattle.laws.proofs.Lists.{keep-keep, keep-map}
 use Rattle.laws.proofs.Count.{count-lt}
@@ -56,14 +56,15 @@ module _ {A : Type 0} where
   Below lt l x = (y : A) × List·Memᴰ y (least lt l) × ((y ≡ x) ⊎ (lt y x ≡ true))
 
   module _ (lt : A → A → Bool) (strict : Strict lt) (l : List A) where
-    below-before : {x z : A} → lt z x ≡ true → Below lt l z → Below lt l x
+    -- a least one at or before z is before all that z is before
+    below-before : {x z : A} → lt z x ≡ true → Below lt l z → Passing (λ y. lt y x) (least lt l)
     below-before {x} {z} h w = (w .0, w .1, go (w .2))
       where
-        go : (w .0 ≡ z) ⊎ (lt (w .0) z ≡ true) → (w .0 ≡ x) ⊎ (lt (w .0) x ≡ true)
-        go (inl e) = inr (ap (λ y. lt y x) e ∙ h)
-        go (inr k) = inr (strict .transitive (w .0) z x k h)
+        go : (w .0 ≡ z) ⊎ (lt (w .0) z ≡ true) → lt (w .0) x ≡ true
+        go (inl e) = ap (λ y. lt y x) e ∙ h
+        go (inr k) = strict .transitive (w .0) z x k h
 
-    -- fewer are before one that is before x
+    -- fewer are before z than before all that z is before
     before-fewer : {x z : A} → List·Memᴰ z l → lt z x ≡ true → count (λ y. lt y z) l < count (λ y. lt y x) l
     before-fewer {x} {z} k h =
         count-lt (λ y. lt y z) (λ y. lt y x) (λ y i t. strict .transitive y z x t h) k (strict .irreflexive z) h
@@ -72,14 +73,33 @@ module _ {A : Type 0} where
     below zero m b = absurd (omega arith)
     below (suc n) {x} m b = go (find (λ y. lt y x) l) (λ z k c. below n k c)
       where
+        before : Passing (λ y. lt y x) (least lt l) → Below lt l x
+        before w = (w .0, w .1, inr (w .2))
+
         go : Passing (λ y. lt y x) l ⊎ (none? (λ y. lt y x) l ≡ true)
             → ((z : A) → List·Memᴰ z l → count (λ y. lt y z) l < n → Below lt l z) → Below lt l x
         go (inl w) rec =
-            below-before (w .2) (rec (w .0) (w .1) (omega (arith, before-fewer {x = x} (w .1) (w .2))))
+            before (below-before (w .2) (rec (w .0) (w .1) (omega (arith, before-fewer {x = x} (w .1) (w .2)))))
         go (inr f) rec = (x, least-mem lt m f, inl refl)
 
     pub least-below : {x : A} → List·Memᴰ x l → Below lt l x
     least-below {x} m = below (suc (count (λ y. lt y x) l)) m (omega arith)
+
+    -- where a member is before x, a least one is
+    pub least-before : {x z : A} → List·Memᴰ z l → lt z x ≡ true → Passing (λ y. lt y x) (least lt l)
+    least-before m h = below-before h (least-below m)
+
+    pub none?-least : (x : A) → none? (λ y. lt y x) (least lt l) ≡ none? (λ y. lt y x) l
+    none?-least x =
+        same (none? before (least lt l)) (none? before l)
+        (λ n. none?-i before l (λ y m. by-fail (lt y x) (λ t. clash n (least-before m t))))
+        (none?-within before (least lt l) l (λ y m t. mem-least-in lt l m))
+      where
+        before : A → Bool
+        before y = lt y x
+
+        clash : none? before (least lt l) ≡ true → Passing before (least lt l) → ⊥
+        clash n w = none?-clash before n (w .1) (w .2)
 
   ------------------------------------------------------------------------
   -- of another list, or by another order

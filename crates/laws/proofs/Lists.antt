@@ -108,13 +108,19 @@ module _ {A : Type 0} where
   pub none?-false : (p : A → Bool) (l : List A) → some? p l ≡ true → none? p l ≡ false
   none?-false p l s = by-fail (none? p l) (some?-clash p l s)
 
+  pub none?-by-some? : (p : A → Bool) (l : List A) → some? p l ≡ false → none? p l ≡ true
+  none?-by-some? p l f = none?-not-some? p l ∙ ap not f
+
+  pub some?-by-none? : (p : A → Bool) (l : List A) → none? p l ≡ false → some? p l ≡ true
+  some?-by-none? p l f = not-false-e (some? p l) (sym (none?-not-some? p l) ∙ f)
+
   -- some member passes, or none does
   pub find : (p : A → Bool) (l : List A) → Passing p l ⊎ (none? p l ≡ true)
   find p l = go (some? p l) refl
     where
       go : (b : Bool) → some? p l ≡ b → Passing p l ⊎ (none? p l ≡ true)
       go true s = inl (some?-e p l s)
-      go false s = inr (none?-not-some? p l ∙ ap not s)
+      go false s = inr (none?-by-some? p l s)
 
   pub none?-append : (p : A → Bool) (l m : List A) → none? p (l ++ m) ≡ none? p l && none? p m
   unfolding none?
@@ -244,6 +250,15 @@ module _ {A : Type 0} where
   keep-ext p q [] h = refl
   keep-ext p q (y ∷ l) h =
       ap₂ (λ b k. cond b (y ∷ k) k) (h y (List·Memᴰ·head refl)) (keep-ext p q l (λ x m. h x (List·Memᴰ·tail m)))
+
+  -- two parts of a list with the same members are equal
+  pub keep-members : (p q : A → Bool) (l : List A) → ((x : A) → List·Memᴰ x (keep p l) → List·Memᴰ x (keep q l))
+      → ((x : A) → List·Memᴰ x (keep q l) → List·Memᴰ x (keep p l)) → keep p l ≡ keep q l
+  keep-members p q l f g =
+      keep-ext p q l (λ x m.
+      same (p x) (q x)
+      (λ t. mem-keep-passes q l (f x (keep-mem p m t)))
+      (λ t. mem-keep-passes p l (g x (keep-mem q m t))))
 
   pub keep-keep : (p q : A → Bool) (l : List A) → keep q (keep p l) ≡ keep (λ x. p x && q x) l
   unfolding keep

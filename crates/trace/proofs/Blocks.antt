@@ -4,9 +4,9 @@
 --     arrivals-text, arrivals-exact   the arrivals of a block
 --     block-text, block-exact         a block
 --     next-slot, next-end, next-exact what stands after the header or a block
-use Prim.Native.Nat.{ℕ, zero, suc, _+_, _≤_, _<_}
+use Prim.Native.Nat.{ℕ, zero, suc, _+_, _≤_}
 use native.Mathlib.Omega.{arith}
-use mathlib.Core.Bool.{Bool, true, false, cond, _&&_}
+use mathlib.Core.Bool.{Bool, true, false}
 use mathlib.Core.List.{List, [], _∷_, _++_, append-assoc, append-nil}
 use mathlib.Core.Option.{Option, none, some}
 use mathlib.Core.Path.{_≡_, refl, sym, ap, _∙_}
@@ -21,10 +21,12 @@ use Rattle.cell.specs.Limits.{fits32}
 use Rattle.trace.specs.declared.Key.{Key}
 use Rattle.trace.specs.declared.Key.the-variants.{Slot, In, Out, Flow, Rank, Tag, End}
 use Rattle.trace.specs.Line.{keyText, line, after, readLine}
-use Rattle.trace.specs.Contents.{blockLimit, arrivalText, arrivalsText, arrivalFits, blockFits}
-use Rattle.trace.specs.Reader.{Cursor, Read, got, badAt, Reader, give, _>>=_, number, exactly, begins, arrival, arrivals, block, Next, slotAhead, finished, faulty, afterEnd, next}
+use Rattle.cell.specs.Cell.{arrivalFits}
+use Rattle.trace.specs.Contents.{blockLimit, arrivalText, arrivalsText, blockFits}
+use Rattle.trace.specs.Reader.{Cursor, Read, got, badAt, Reader, give, _>>=_, number, exactly, begins}
+use Rattle.trace.specs.Reader.{arrival, arrivals, block, Next, slotAhead, finished, faulty, afterEnd, next}
 use Rattle.trace.proofs.Tests.{all?-both, all?-head, all?-tail}
-use Rattle.trace.proofs.Line.{readLine-line, readLine-exact, after-line, after-in-slot, after-in-end, after-end-slot}
+use Rattle.trace.proofs.Line.{readLine-line, readLine-exact, after-line, after-end-slot}
 
 abbrev pub at : ℕ → List ℕ → Cursor
 at l t = record { line = l; text = t }
@@ -41,16 +43,17 @@ got-bad h =
     absurd (omega arith)
 
 module _ {A B : Type 0} where
-  bind-got : (m : Reader A) (f : A → Reader B) (c : Cursor) {a : A} {d : Cursor} → m c ≡ got a d → _>>=_ m f c ≡ f a d
+  pub bind-got : (m : Reader A) (f : A → Reader B) (c : Cursor) {a : A} {d : Cursor} → m c ≡ got a d
+      → _>>=_ m f c ≡ f a d
   unfolding _>>=_
   bind-got m f c h = rw (h, _>>=_)
 
-  bind-bad : (m : Reader A) (f : A → Reader B) (c : Cursor) {l : ℕ} → m c ≡ badAt l → _>>=_ m f c ≡ badAt l
+  pub bind-bad : (m : Reader A) (f : A → Reader B) (c : Cursor) {l : ℕ} → m c ≡ badAt l → _>>=_ m f c ≡ badAt l
   unfolding _>>=_
   bind-bad m f c h = rw (h, _>>=_)
 
   -- the second gets a value only where the first does
-  bind-exact : {P : Type 0} (m : Reader A) (f : A → Reader B) (c : Cursor) {b : B} {e : Cursor}
+  pub bind-exact : {P : Type 0} (m : Reader A) (f : A → Reader B) (c : Cursor) {b : B} {e : Cursor}
       → _>>=_ m f c ≡ got b e → ((a : A) (d : Cursor) → m c ≡ got a d → f a d ≡ got b e → P) → P
   bind-exact {P} m f c {b} {e} h k = go (m c) refl
     where
@@ -77,12 +80,12 @@ module _ {A B : Type 0} where
 
 -- a line
 
-number-some : (k : Key) (c : Cursor) {s : ℕ × List ℕ} → readLine k (c .text) ≡ some s
+pub number-some : (k : Key) (c : Cursor) {s : ℕ × List ℕ} → readLine k (c .text) ≡ some s
     → number k c ≡ got (s .0) (at (c .line + 1) (s .1))
 unfolding number
 number-some k c h = rw (h, number)
 
-number-none : (k : Key) (c : Cursor) → readLine k (c .text) ≡ none → number k c ≡ badAt (c .line)
+pub number-none : (k : Key) (c : Cursor) → readLine k (c .text) ≡ none → number k c ≡ badAt (c .line)
 unfolding number
 number-none k c h = rw (h, number)
 
@@ -103,17 +106,17 @@ number-exact k c n d h = go (readLine k (c .text)) refl
         let j : at (c .line + 1) (s .1) ≡ d = cc in
         rw (← i, ← j) (readLine-exact k (c .text) (s .0) (s .1) e)
 
-exactly-same : (k : Key) (n : ℕ) (c : Cursor) {m : ℕ} {d : Cursor} → number k c ≡ got m d → eqb m n ≡ true
+pub exactly-same : (k : Key) (n : ℕ) (c : Cursor) {m : ℕ} {d : Cursor} → number k c ≡ got m d → eqb m n ≡ true
     → exactly k n c ≡ got m d
 unfolding exactly
 exactly-same k n c h e = rw (h, e, exactly)
 
-exactly-other : (k : Key) (n : ℕ) (c : Cursor) {m : ℕ} {d : Cursor} → number k c ≡ got m d → eqb m n ≡ false
+pub exactly-other : (k : Key) (n : ℕ) (c : Cursor) {m : ℕ} {d : Cursor} → number k c ≡ got m d → eqb m n ≡ false
     → exactly k n c ≡ badAt (c .line)
 unfolding exactly
 exactly-other k n c h e = rw (h, e, exactly)
 
-exactly-bad : (k : Key) (n : ℕ) (c : Cursor) {l : ℕ} → number k c ≡ badAt l → exactly k n c ≡ badAt l
+pub exactly-bad : (k : Key) (n : ℕ) (c : Cursor) {l : ℕ} → number k c ≡ badAt l → exactly k n c ≡ badAt l
 unfolding exactly
 exactly-bad k n c h = rw (h, exactly)
 
@@ -144,10 +147,10 @@ exactly-exact k n c m d h = go (number k c) refl
 -- an arrival
 
 pub arrivalFits-e : (a : Arrival) → arrivalFits a ≡ true
-    → (fits32 (a .input) ≡ true) × (fits32 (a .output) ≡ true) × (fits32 (a .flow) ≡ true) × (fits32 (a .rank) ≡ true) × (fits32 (a .tag) ≡ true)
+    → (fits32 (a .input) ≡ true) × (fits32 (a .output) ≡ true)
+    × (fits32 (a .flow) ≡ true) × (fits32 (a .rank) ≡ true) × (fits32 (a .tag) ≡ true)
 unfolding arrivalFits
-arrivalFits-e a h =
-    (search (and-l, and-r) depth 9, search (and-l, and-r) depth 9, search (and-l, and-r) depth 9, search (and-l, and-r) depth 9, search (and-l, and-r) depth 9)
+arrivalFits-e a h = search (and-l, and-r) depth 9
 
 pub arrival-text : (a : Arrival) → arrivalFits a ≡ true → Reads arrival (arrivalText a) a
 unfolding arrival arrivalText
@@ -179,18 +182,18 @@ arrival-exact c a d h =
 
 -- the arrivals of a block
 
-begins-some : (k : Key) (c : Cursor) {t : List ℕ} → after (keyText k) (c .text) ≡ some t → begins k c ≡ true
+pub begins-some : (k : Key) (c : Cursor) {t : List ℕ} → after (keyText k) (c .text) ≡ some t → begins k c ≡ true
 unfolding begins
 begins-some k c h = rw (h, begins)
 
-begins-none : (k : Key) (c : Cursor) → after (keyText k) (c .text) ≡ none → begins k c ≡ false
+pub begins-none : (k : Key) (c : Cursor) → after (keyText k) (c .text) ≡ none → begins k c ≡ false
 unfolding begins
 begins-none k c h = rw (h, begins)
 
-begins-line : (k : Key) (n : ℕ) (rest : List ℕ) (l : ℕ) → begins k (at l (line k n ++ rest)) ≡ true
+pub begins-line : (k : Key) (n : ℕ) (rest : List ℕ) (l : ℕ) → begins k (at l (line k n ++ rest)) ≡ true
 begins-line k n rest l = begins-some k (at l (line k n ++ rest)) (after-line k n rest)
 
-arrivals-stop : (most : ℕ) (c : Cursor) → begins In c ≡ false → arrivals most c ≡ got [] c
+pub arrivals-stop : (most : ℕ) (c : Cursor) → begins In c ≡ false → arrivals most c ≡ got [] c
 unfolding arrivals give
 arrivals-stop zero c h = refl
 arrivals-stop (suc most) c h = rw (h, arrivals)
@@ -198,7 +201,8 @@ arrivals-stop (suc most) c h = rw (h, arrivals)
 moreArrivals : ℕ → Arrival → Reader (List Arrival)
 moreArrivals most a = _>>=_ (arrivals most) (λ rs. give (a ∷ rs))
 
-arrivals-more : (most : ℕ) (c : Cursor) → begins In c ≡ true → arrivals (suc most) c ≡ _>>=_ arrival (moreArrivals most) c
+arrivals-more : (most : ℕ) (c : Cursor) → begins In c ≡ true
+    → arrivals (suc most) c ≡ _>>=_ arrival (moreArrivals most) c
 unfolding arrivals moreArrivals
 arrivals-more most c h = rw (h, arrivals)
 
@@ -250,7 +254,8 @@ arrivals-exact (suc most) c rs d h = go (begins In c) refl (arrivals-exact most)
         let (m, n, o) = exact c₁ l c₂ q in
         let e : a ∷ l ≡ rs = cc in
         let f : c₂ ≡ d = cc in
-        rw (← e, ← f) (i ∙ ap (λ x. arrivalText a ++ x) m ∙ sym (append-assoc (arrivalText a) (arrivalsText l) (c₂ .text)), omega arith, all?-both arrivalFits a l j o)
+        let t : c .text ≡ arrivalText a ++ arrivalsText l ++ c₂ .text = simp append-assoc (i ∙ rw m) in
+        rw (← e, ← f) (t, omega arith, all?-both arrivalFits a l j o)
 
 -- a block
 
@@ -261,17 +266,19 @@ blockFits-i rs h k = and-i _ _ (le-leb _ _ h) k
 pub blockFits-e : (rs : List Arrival) → blockFits rs ≡ true → (length rs ≤ blockLimit) × (all? arrivalFits rs ≡ true)
 unfolding blockFits
 blockFits-e rs h =
-    (leb-true _ _ (and-l (leb (length rs) blockLimit) (all? arrivalFits rs) h), and-r (leb (length rs) blockLimit) (all? arrivalFits rs) h)
+    let b : Bool = leb (length rs) blockLimit in
+    (leb-true _ _ (and-l b (all? arrivalFits rs) h), and-r b (all? arrivalFits rs) h)
 
 pub block-text : (clock : ℕ) (rs : List Arrival) (rest : List ℕ) → fits32 clock ≡ true → blockFits rs ≡ true
     → after (keyText In) rest ≡ none
     → (l : ℕ) → (k : ℕ) × (block clock (at l (line Slot clock ++ (arrivalsText rs ++ rest))) ≡ got rs (at k rest))
 unfolding block
 block-text clock rs rest h f e l =
+    let t : List ℕ = arrivalsText rs ++ rest in
     let (i, j) = blockFits-e rs f in
-    let (k, p) = exactly-line Slot clock h .before (arrivalsText rs ++ rest) l in
+    let (k, p) = exactly-line Slot clock h .before t l in
     let (m, q) = arrivals-text rest e blockLimit rs i j k in
-    (m, bind-got (exactly Slot clock) (λ _. arrivals blockLimit) (at l (line Slot clock ++ (arrivalsText rs ++ rest))) p ∙ q)
+    (m, bind-got (exactly Slot clock) (λ _. arrivals blockLimit) (at l (line Slot clock ++ t)) p ∙ q)
 
 pub block-exact : (clock : ℕ) (c : Cursor) (rs : List Arrival) (d : Cursor) → block clock c ≡ got rs d
     → (c .text ≡ line Slot clock ++ (arrivalsText rs ++ d .text)) × (blockFits rs ≡ true)
@@ -284,21 +291,24 @@ block-exact clock c rs d h =
 
 -- what stands after the header or a block
 
-next-block : (clock : ℕ) (c : Cursor) {rs : List Arrival} {d : Cursor} → begins End c ≡ false → block clock c ≡ got rs d
+pub next-block : (clock : ℕ) (c : Cursor) {rs : List Arrival} {d : Cursor} → begins End c ≡ false
+    → block clock c ≡ got rs d
     → next clock c ≡ slotAhead rs d
 unfolding next
 next-block clock c h k = rw (h, k, next)
 
-next-no-block : (clock : ℕ) (c : Cursor) {l : ℕ} → begins End c ≡ false → block clock c ≡ badAt l → next clock c ≡ faulty l
+pub next-no-block : (clock : ℕ) (c : Cursor) {l : ℕ} → begins End c ≡ false → block clock c ≡ badAt l
+    → next clock c ≡ faulty l
 unfolding next
 next-no-block clock c h k = rw (h, k, next)
 
-next-last : (clock : ℕ) (c : Cursor) {n : ℕ} {d : Cursor} → begins End c ≡ true → exactly End clock c ≡ got n d
+pub next-last : (clock : ℕ) (c : Cursor) {n : ℕ} {d : Cursor} → begins End c ≡ true → exactly End clock c ≡ got n d
     → next clock c ≡ afterEnd d
 unfolding next
 next-last clock c h k = rw (h, k, next)
 
-next-no-last : (clock : ℕ) (c : Cursor) {l : ℕ} → begins End c ≡ true → exactly End clock c ≡ badAt l → next clock c ≡ faulty l
+pub next-no-last : (clock : ℕ) (c : Cursor) {l : ℕ} → begins End c ≡ true → exactly End clock c ≡ badAt l
+    → next clock c ≡ faulty l
 unfolding next
 next-no-last clock c h k = rw (h, k, next)
 
@@ -322,11 +332,11 @@ Stands clock c (slotAhead rs d) = (c .text ≡ line Slot clock ++ (arrivalsText 
 Stands clock c finished = (c .text ≡ line End clock) × (fits32 clock ≡ true)
 Stands clock c (faulty l) = Unit
 
-afterEnd-nil : (c : Cursor) → c .text ≡ [] → afterEnd c ≡ finished
+pub afterEnd-nil : (c : Cursor) → c .text ≡ [] → afterEnd c ≡ finished
 unfolding afterEnd
 afterEnd-nil c h = rw (h, afterEnd)
 
-afterEnd-cons : (c : Cursor) {b : ℕ} {t : List ℕ} → c .text ≡ b ∷ t → afterEnd c ≡ faulty (c .line)
+pub afterEnd-cons : (c : Cursor) {b : ℕ} {t : List ℕ} → c .text ≡ b ∷ t → afterEnd c ≡ faulty (c .line)
 unfolding afterEnd
 afterEnd-cons c h = rw (h, afterEnd)
 

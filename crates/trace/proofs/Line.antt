@@ -6,12 +6,13 @@
 --     readLine-line, readLine-exact          what is read as a line is the line
 use Prim.Native.Nat.{ℕ, zero, suc, _+_, _*_, _-_, _/_, _%_, _≤_, _<_}
 use native.Mathlib.Omega.{arith}
-use mathlib.Core.Bool.{Bool, true, false, cond, not, _&&_, _||_}
+use mathlib.Core.Bool.{Bool, true, false, cond, _&&_}
 use mathlib.Core.List.{List, [], _∷_, _++_, append-assoc, append-nil}
 use mathlib.Core.Option.{Option, none, some, bind, Option·map, Option·none-ne-some, Option·some-injective}
 use mathlib.Core.Path.{_≡_, refl, sym, ap, _∙_}
 use mathlib.Core.Logic.{_≢_}
-use borrow.Author.Tests.{ltb-true, ltb-false, leb-true, eqb-true, eqb-false, not-true, lt-ltb, le-ltb, le-leb, eq-eqb, ne-eqb}
+use borrow.Author.Tests.{ltb-true, ltb-false, leb-true, eqb-true, eqb-false, not-true}
+use borrow.Author.Tests.{lt-ltb, le-ltb, le-leb, eq-eqb, ne-eqb}
 use lib.Dec.{ltb, leb, eqb}
 use lib.ListN.{length, length-append}
 use Rattle.laws.specs.Lists.{all?}
@@ -20,7 +21,9 @@ use Rattle.laws.proofs.Lists.{all?-nil, all?-append}
 use Rattle.cell.specs.Limits.{fits32}
 use Rattle.trace.specs.declared.Key.{Key}
 use Rattle.trace.specs.declared.Key.the-variants.{Slot, In, End}
-use Rattle.trace.specs.Line.{keyName, keyText, digitsWithin, decimal, line, after, upToLineFeed, isDigit, valueAfter, noLeadingZero, readNumber, readLine}
+use Rattle.trace.specs.Ascii.{ascii}
+use Rattle.trace.specs.Line.{keyName, keyText, digitsWithin, decimal, line, after, upToLineFeed}
+use Rattle.trace.specs.Line.{isDigit, valueAfter, noLeadingZero, readNumber, readLine}
 use Rattle.trace.proofs.Tests.{all?-both, all?-head, all?-tail}
 
 -- an Option made in two steps is some where both are
@@ -35,7 +38,7 @@ module _ {A B P : Type 0} where
   map-some f none {b} h k = absurd (Option·none-ne-some b h)
   map-some f (some a) {b} h k = k a refl (Option·some-injective (f a) b h)
 
--- digits
+-- decimal digits
 
 pub isDigit-i : (b : ℕ) → 48 ≤ b → b ≤ 57 → isDigit b ≡ true
 unfolding isDigit
@@ -45,7 +48,7 @@ pub isDigit-e : (b : ℕ) → isDigit b ≡ true → (48 ≤ b) × (b ≤ 57)
 unfolding isDigit
 isDigit-e b h = (leb-true _ _ (and-l (leb 48 b) (leb b 57) h), leb-true _ _ (and-r (leb 48 b) (leb b 57) h))
 
--- the digits of a number do not depend on the steps allowed for them
+-- a number below 10 is one digit, any other has one more than its tenth part
 digitsWithin-small : (k n : ℕ) → n < 10 → digitsWithin k n ≡ (48 + n) ∷ []
 unfolding digitsWithin
 digitsWithin-small zero n h = refl
@@ -66,6 +69,7 @@ size n = go (ltb n 10) refl
     go true e = small (ltb-true n 10 e)
     go false e = large (ltb-false n 10 e)
 
+-- the digits of a number do not depend on the steps allowed for them
 digitsWithin-same : (j k n : ℕ) → n ≤ j → n ≤ k → digitsWithin j n ≡ digitsWithin k n
 digitsWithin-same zero k n h i =
     let s : n < 10 = omega arith in
@@ -113,7 +117,8 @@ valueAfter-snoc n d [] = refl
 valueAfter-snoc n d (e ∷ ds) = valueAfter-snoc (10 * n + (e - 48)) d ds
 
 -- a further digit leaves no zero in front of digits that are worth something
-noLeadingZero-snoc : (d : ℕ) (ds : List ℕ) → noLeadingZero ds ≡ true → 0 < valueAfter 0 ds → noLeadingZero (ds ++ (d ∷ [])) ≡ true
+noLeadingZero-snoc : (d : ℕ) (ds : List ℕ) → noLeadingZero ds ≡ true → 0 < valueAfter 0 ds
+    → noLeadingZero (ds ++ (d ∷ [])) ≡ true
 unfolding noLeadingZero valueAfter
 noLeadingZero-snoc d [] h p = refl
 noLeadingZero-snoc d (a ∷ []) h p =
@@ -132,7 +137,8 @@ unfolding valueAfter noLeadingZero
 digits-one n h =
     let l : 48 ≤ 48 + n = omega arith in
     let k : 48 + n ≤ 57 = omega arith in
-    record { value = omega arith; digits = all?-both isDigit (48 + n) [] (isDigit-i (48 + n) l k) (all?-nil isDigit); plain = refl }
+    let d : isDigit (48 + n) ≡ true = isDigit-i (48 + n) l k in
+    record { value = omega arith; digits = all?-both isDigit (48 + n) [] d (all?-nil isDigit); plain = refl }
 
 digitsWithin-digits : (k n : ℕ) → n ≤ k → Digits n (digitsWithin k n)
 digitsWithin-digits zero n h =
@@ -170,7 +176,8 @@ pub noLeadingZero-decimal : (n : ℕ) → noLeadingZero (decimal n) ≡ true
 noLeadingZero-decimal n = decimal-digits n .plain
 
 -- digits behind those of a number that is not 0 are the last digits of their value
-decimal-valueAfter : (n : ℕ) (ds : List ℕ) → 0 < n → all? isDigit ds ≡ true → decimal (valueAfter n ds) ≡ decimal n ++ ds
+decimal-valueAfter : (n : ℕ) (ds : List ℕ) → 0 < n → all? isDigit ds ≡ true
+    → decimal (valueAfter n ds) ≡ decimal n ++ ds
 unfolding valueAfter
 decimal-valueAfter n [] h k = sym (append-nil (decimal n))
 decimal-valueAfter n (d ∷ ds) h k =
@@ -309,19 +316,20 @@ readLine-exact k t n rest h =
     (after-exact (keyText k) t body p ∙ ap (λ x. keyText k ++ x) f ∙ sym (line-append k n rest), cc)
 
 -- a line begins with its key; those that end a block do not begin `in=`, and a block does not begin `end=`
-pub after-line : (k : Key) (n : ℕ) (rest : List ℕ) → after (keyText k) (line k n ++ rest) ≡ some (decimal n ++ (10 ∷ rest))
+pub after-line : (k : Key) (n : ℕ) (rest : List ℕ)
+    → after (keyText k) (line k n ++ rest) ≡ some (decimal n ++ (10 ∷ rest))
 after-line k n rest = rw (line-append k n rest) (after-append (keyText k) (decimal n ++ (10 ∷ rest)))
 
 pub after-in-slot : (n : ℕ) (rest : List ℕ) → after (keyText In) (line Slot n ++ rest) ≡ none
-unfolding after keyText keyName line
+unfolding after ascii keyText keyName line
 after-in-slot n rest = refl
 
 pub after-in-end : (n : ℕ) (rest : List ℕ) → after (keyText In) (line End n ++ rest) ≡ none
-unfolding after keyText keyName line
+unfolding after ascii keyText keyName line
 after-in-end n rest = refl
 
 pub after-end-slot : (n : ℕ) (rest : List ℕ) → after (keyText End) (line Slot n ++ rest) ≡ none
-unfolding after keyText keyName line
+unfolding after ascii keyText keyName line
 after-end-slot n rest = refl
 
 -- a line has a byte

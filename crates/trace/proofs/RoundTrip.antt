@@ -1,11 +1,13 @@
 -- The reader accepts exactly what the writer makes:
---     read-text, read-exact     a text is read back; what is accepted is the text of what was read
---     read-unique               contents have one text
---     write-read, read-write    the same of the writer
+--     blocks-text, blocks-exact   the slots of a text and its `end`
+--     header-text, header-exact   its `ports` and `first`
+--     read-text, read-exact       whole texts
+--     read-unique                 contents have one text
+--     write-read, read-write      the writer and the reader undo one another
 use Prim.Native.Nat.{ℕ, zero, suc, _+_, _≤_, _<_}
 use native.Mathlib.Omega.{arith}
-use mathlib.Core.Bool.{Bool, true, false, _&&_}
-use mathlib.Core.List.{List, [], _∷_, _++_, append-assoc, append-nil}
+use mathlib.Core.Bool.{Bool, true, false}
+use mathlib.Core.List.{List, [], _∷_, _++_, append-nil}
 use mathlib.Core.Option.{none}
 use mathlib.Core.Path.{_≡_, refl, sym, ap, _∙_}
 use borrow.Author.Tests.{leb-true, le-leb}
@@ -20,24 +22,26 @@ use Rattle.cell.specs.declared.Refusal.the-variants.{BadSize, BadLine, ShortBuf
 use Rattle.cell.specs.Limits.{fits32, portsInRange, portLimit, clockEnd}
 use Rattle.trace.specs.declared.Key.the-variants.{Ports, First, Slot, In, End}
 use Rattle.trace.specs.Line.{keyText, line, after}
-use Rattle.trace.specs.Contents.{Contents, arrivalsText, slotsText, text, blockFits, hasText, Written, wrote, turnedBack, write}
-use Rattle.trace.specs.Reader.{Cursor, Read, got, badAt, number, Next, slotAhead, finished, faulty, next, Header, opened, refusedAt, header, Outcome, accepted, refused, withSlot, blocks, read}
+use Rattle.trace.specs.Contents.{Contents, arrivalsText, slotsText, text, blockFits, hasText}
+use Rattle.trace.specs.Contents.{wrote, turnedBack, write}
+use Rattle.trace.specs.Reader.{Cursor, Read, got, badAt, number, Next, slotAhead, finished, faulty, next}
+use Rattle.trace.specs.Reader.{Header, opened, refusedAt, header, withSlot, blocks, accepted, refused, read}
 use Rattle.trace.proofs.Tests.{all?-both, all?-head, all?-tail, fits32-i, fits32-e}
 use Rattle.trace.proofs.Line.{after-in-slot, after-in-end, length-line}
-use Rattle.trace.proofs.Blocks.{at, Reads, got-bad, number-line, number-exact, next-slot, next-end, Stands, next-exact}
+use Rattle.trace.proofs.Blocks.{at, got-bad, number-line, number-exact, next-slot, next-end, Stands, next-exact}
 
 -- blocks
 
-blocks-end : (most clock : ℕ) (c : Cursor) → next clock c ≡ finished → blocks (suc most) clock c ≡ got [] c
+pub blocks-end : (most clock : ℕ) (c : Cursor) → next clock c ≡ finished → blocks (suc most) clock c ≡ got [] c
 unfolding blocks
 blocks-end most clock c h = rw (h, blocks)
 
-blocks-slot : (most clock : ℕ) (c : Cursor) {rs : List Arrival} {d : Cursor} → next clock c ≡ slotAhead rs d
+pub blocks-slot : (most clock : ℕ) (c : Cursor) {rs : List Arrival} {d : Cursor} → next clock c ≡ slotAhead rs d
     → blocks (suc most) clock c ≡ withSlot rs (blocks most (clock + 1) d)
 unfolding blocks
 blocks-slot most clock c h = rw (h, blocks)
 
-blocks-fault : (most clock : ℕ) (c : Cursor) {l : ℕ} → next clock c ≡ faulty l → blocks (suc most) clock c ≡ badAt l
+pub blocks-fault : (most clock : ℕ) (c : Cursor) {l : ℕ} → next clock c ≡ faulty l → blocks (suc most) clock c ≡ badAt l
 unfolding blocks
 blocks-fault most clock c h = rw (h, blocks)
 
@@ -69,26 +73,33 @@ blocks-text (rs ∷ slots) (suc most) clock h b f l =
     let i : clock ≤ clockEnd = omega arith in
     let m : length slots < most = omega arith in
     let n : clock + 1 + length slots ≤ clockEnd = omega arith in
-    let (k, p) = next-slot clock rs t (fits32-i clock i) (all?-head blockFits rs slots f) (after-in-slots (clock + 1) slots) l in
+    let g : blockFits rs ≡ true = all?-head blockFits rs slots f in
+    let (k, p) = next-slot clock rs t (fits32-i clock i) g (after-in-slots (clock + 1) slots) l in
     let (d, q) = blocks-text slots most (clock + 1) m n (all?-tail blockFits rs slots f) k in
     (d, blocks-slot most clock (at l (line Slot clock ++ (arrivalsText rs ++ t))) p ∙ ap (withSlot rs) q)
 
-withSlot-exact : {P : Type 0} (rs : List Arrival) (r : Read (List (List Arrival))) {slots : List (List Arrival)} {d : Cursor}
+withSlot-exact : {P : Type 0} (rs : List Arrival) (r : Read (List (List Arrival)))
+    {slots : List (List Arrival)} {d : Cursor}
     → withSlot rs r ≡ got slots d → ((s : List (List Arrival)) (e : Cursor) → r ≡ got s e → rs ∷ s ≡ slots → P) → P
 unfolding withSlot
 withSlot-exact rs (got s e) h k = k s e refl (cc)
 withSlot-exact rs (badAt l) h k = got-bad h
 
-pub blocks-exact : (most clock : ℕ) (c : Cursor) (slots : List (List Arrival)) (d : Cursor) → blocks most clock c ≡ got slots d
-    → (c .text ≡ slotsText clock slots) × (clock + length slots ≤ clockEnd) × (all? blockFits slots ≡ true)
+-- What a reader of the blocks saw where it was content.
+abbrev pub Slots : ℕ → Cursor → List (List Arrival) → Type 0
+Slots clock c slots =
+    (c .text ≡ slotsText clock slots) × (clock + length slots ≤ clockEnd) × (all? blockFits slots ≡ true)
+
+pub blocks-exact : (most clock : ℕ) (c : Cursor) (slots : List (List Arrival)) (d : Cursor)
+    → blocks most clock c ≡ got slots d → Slots clock c slots
 unfolding slotsText blocks
 blocks-exact zero clock c slots d h = got-bad h
 blocks-exact (suc most) clock c slots d h = go (next clock c) refl (next-exact clock c) (blocks-exact most (clock + 1))
   where
     go : (n : Next) → next clock c ≡ n → Stands clock c (next clock c)
-        → ((c : Cursor) (slots : List (List Arrival)) (d : Cursor) → blocks most (clock + 1) c ≡ got slots d
-        → (c .text ≡ slotsText (clock + 1) slots) × (clock + 1 + length slots ≤ clockEnd) × (all? blockFits slots ≡ true))
-        → (c .text ≡ slotsText clock slots) × (clock + length slots ≤ clockEnd) × (all? blockFits slots ≡ true)
+        → ((e : Cursor) (s : List (List Arrival)) (f : Cursor) → blocks most (clock + 1) e ≡ got s f
+        → Slots (clock + 1) e s)
+        → Slots clock c slots
     go (slotAhead rs e) n stands exact =
         withSlot-exact rs (blocks most (clock + 1) e) (sym (blocks-slot most clock c n) ∙ h) λ s f p q.
         let (i, j) = rw n at stands in
@@ -111,21 +122,21 @@ portsInRange-fits32 n h =
     let l : n ≤ clockEnd = omega arith in
     fits32-i n l
 
-header-bad-ports : (t : List ℕ) {l : ℕ} → number Ports (at 1 t) ≡ badAt l → header t ≡ refusedAt BadLine l
+pub header-bad-ports : (t : List ℕ) {l : ℕ} → number Ports (at 1 t) ≡ badAt l → header t ≡ refusedAt BadLine l
 unfolding header
 header-bad-ports t h = rw (h, header)
 
-header-bad-size : (t : List ℕ) {n : ℕ} {c : Cursor} → number Ports (at 1 t) ≡ got n c → portsInRange n ≡ false
+pub header-bad-size : (t : List ℕ) {n : ℕ} {c : Cursor} → number Ports (at 1 t) ≡ got n c → portsInRange n ≡ false
     → header t ≡ refusedAt BadSize 1
 unfolding header
 header-bad-size t h r = rw (h, r, header)
 
-header-bad-first : (t : List ℕ) {n : ℕ} {c : Cursor} {l : ℕ} → number Ports (at 1 t) ≡ got n c → portsInRange n ≡ true
-    → number First c ≡ badAt l → header t ≡ refusedAt BadLine l
+pub header-bad-first : (t : List ℕ) {n : ℕ} {c : Cursor} {l : ℕ} → number Ports (at 1 t) ≡ got n c
+    → portsInRange n ≡ true → number First c ≡ badAt l → header t ≡ refusedAt BadLine l
 unfolding header
 header-bad-first t h r f = rw (h, r, f, header)
 
-header-opened : (t : List ℕ) {n first : ℕ} {c d : Cursor} → number Ports (at 1 t) ≡ got n c → portsInRange n ≡ true
+pub header-opened : (t : List ℕ) {n first : ℕ} {c d : Cursor} → number Ports (at 1 t) ≡ got n c → portsInRange n ≡ true
     → number First c ≡ got first d → header t ≡ opened n first d
 unfolding header
 header-opened t h r f = rw (h, r, f, header)
@@ -139,7 +150,7 @@ header-text n first rest r f =
     (j, header-opened (line Ports n ++ t) p r q)
 
 -- What a reader of the header saw, by its answer.
-abbrev Opens : List ℕ → Header → Type 0
+abbrev pub Opens : List ℕ → Header → Type 0
 Opens t (opened n first d) = (portsInRange n ≡ true) × (t ≡ line Ports n ++ (line First first ++ d .text))
 Opens t (refusedAt r l) = Unit
 
@@ -161,31 +172,34 @@ header-exact t = go (number Ports (at 1 t)) refl
 
 -- whole texts
 
-hasText-i : (c : Contents) → c .first + length (c .slots) ≤ clockEnd → all? blockFits (c .slots) ≡ true → hasText c ≡ true
+pub hasText-i : (c : Contents) → c .first + length (c .slots) ≤ clockEnd → all? blockFits (c .slots) ≡ true
+    → hasText c ≡ true
 unfolding hasText
 hasText-i c h k = and-i _ _ (le-leb _ _ h) k
 
-hasText-e : (c : Contents) → hasText c ≡ true → (c .first + length (c .slots) ≤ clockEnd) × (all? blockFits (c .slots) ≡ true)
+pub hasText-e : (c : Contents) → hasText c ≡ true
+    → (c .first + length (c .slots) ≤ clockEnd) × (all? blockFits (c .slots) ≡ true)
 unfolding hasText
 hasText-e c h =
     let b : Bool = leb (c .first + length (c .slots)) clockEnd in
     (leb-true _ _ (and-l b (all? blockFits (c .slots)) h), and-r b (all? blockFits (c .slots)) h)
 
-read-refused : (t : List ℕ) {r : Refusal} {l : ℕ} → header t ≡ refusedAt r l → read t ≡ refused r l
+pub read-refused : (t : List ℕ) {r : Refusal} {l : ℕ} → header t ≡ refusedAt r l → read t ≡ refused r l
 unfolding read
 read-refused t h = rw (h, read)
 
-read-bad : (t : List ℕ) {n first l : ℕ} {c : Cursor} → header t ≡ opened n first c → blocks (length (c .text)) first c ≡ badAt l
-    → read t ≡ refused BadLine l
+pub read-bad : (t : List ℕ) {n first l : ℕ} {c : Cursor} → header t ≡ opened n first c
+    → blocks (length (c .text)) first c ≡ badAt l → read t ≡ refused BadLine l
 unfolding read
 read-bad t h k = rw (h, k, read)
 
-read-accepted : (t : List ℕ) {n first : ℕ} {c : Cursor} {slots : List (List Arrival)} {d : Cursor}
+pub read-accepted : (t : List ℕ) {n first : ℕ} {c : Cursor} {slots : List (List Arrival)} {d : Cursor}
     → header t ≡ opened n first c → blocks (length (c .text)) first c ≡ got slots d
     → read t ≡ accepted (record { ports = n; first = first; slots = slots })
 unfolding read
 read-accepted t h k = rw (h, k, read)
 
+-- the text of contents is read back
 pub read-text : (c : Contents) → portsInRange (c .ports) ≡ true → hasText c ≡ true → read (text c) ≡ accepted c
 unfolding text
 read-text c r h =
@@ -201,6 +215,7 @@ refused-accepted e =
     let z : _≡_ {A = ℕ} 0 1 = cc in
     absurd (omega arith)
 
+-- a text that is accepted is the text of what was read, and those contents have one
 pub read-exact : (t : List ℕ) (c : Contents) → read t ≡ accepted c
     → (portsInRange (c .ports) ≡ true) × (hasText c ≡ true) × (t ≡ text c)
 unfolding text
@@ -212,15 +227,17 @@ read-exact t c h = go (header t) refl (header-exact t)
     slots n first d p o (badAt l) q = refused-accepted (sym (read-bad t p q) ∙ h)
     slots n first d p o (got s e) q =
         let (i, b, f) = blocks-exact (length (d .text)) first d s e q in
-        let k : accepted (record { ports = n; first = first; slots = s }) ≡ accepted c = sym (read-accepted t p q) ∙ h in
-        let j : record { ports = n; first = first; slots = s } ≡ c = cc in
-        rw (← j) (o .0, hasText-i (record { ports = n; first = first; slots = s }) b f, o .1 ∙ ap (λ x. line Ports n ++ (line First first ++ x)) i)
+        let m : Contents = record { ports = n; first = first; slots = s } in
+        let k : accepted m ≡ accepted c = sym (read-accepted t p q) ∙ h in
+        let j : m ≡ c = cc in
+        rw (← j) (o .0, hasText-i m b f, o .1 ∙ rw i)
 
     go : (k : Header) → header t ≡ k → Opens t (header t)
         → (portsInRange (c .ports) ≡ true) × (hasText c ≡ true) × (t ≡ text c)
     go (opened n first d) k opens = slots n first d k (rw k at opens) (blocks (length (d .text)) first d) refl
     go (refusedAt r l) k opens = refused-accepted (sym (read-refused t k) ∙ h)
 
+-- no two texts have the same contents
 pub read-unique : (t u : List ℕ) (c : Contents) → read t ≡ accepted c → read u ≡ accepted c → t ≡ u
 read-unique t u c h k = read-exact t c h .2 ∙ sym (read-exact u c k .2)
 
@@ -250,22 +267,25 @@ module _ (c : Contents) (room : ℕ) where
   unfolding write
   write-fits r h f = rw (r, h, f, write)
 
-  write-exact : (t : List ℕ) → write c room ≡ wrote t
+  pub write-exact : (t : List ℕ) → write c room ≡ wrote t
       → (portsInRange (c .ports) ≡ true) × (hasText c ≡ true) × (t ≡ text c)
   write-exact t w = go (portsInRange (c .ports)) refl (hasText c) refl (leb (length (text c)) room) refl
     where
-      go : (x : Bool) → portsInRange (c .ports) ≡ x → (y : Bool) → hasText c ≡ y → (z : Bool) → leb (length (text c)) room ≡ z
+      go : (x : Bool) → portsInRange (c .ports) ≡ x → (y : Bool) → hasText c ≡ y
+          → (z : Bool) → leb (length (text c)) room ≡ z
           → (portsInRange (c .ports) ≡ true) × (hasText c ≡ true) × (t ≡ text c)
       go false r y h z f = turnedBack-wrote (sym (write-bad-size r) ∙ w)
       go true r false h z f = turnedBack-wrote (sym (write-bad-line r h) ∙ w)
       go true r true h false f = turnedBack-wrote (sym (write-short r h f) ∙ w)
       go true r true h true f = (r, h, cc (write-fits r h f))
 
+-- what the writer wrote is read back
 pub write-read : (c : Contents) (room : ℕ) (t : List ℕ) → write c room ≡ wrote t → read t ≡ accepted c
 write-read c room t w =
     let (r, h, e) = write-exact c room t w in
     rw e (read-text c r h)
 
+-- and what the reader accepts is written again, byte for byte, into as much room as it took
 pub read-write : (t : List ℕ) (c : Contents) → read t ≡ accepted c → write c (length t) ≡ wrote t
 read-write t c a =
     let (r, h, e) = read-exact t c a in

@@ -8,7 +8,8 @@ use Rattle.laws.specs.Lists.{all?}
 use Rattle.cell.specs.declared.Arrival.{Arrival}
 use Rattle.cell.specs.declared.Refusal.{Refusal}
 use Rattle.cell.specs.declared.Refusal.the-variants.{BadSize, BadLine, ShortBuffer}
-use Rattle.cell.specs.Limits.{portsInRange, fits32, clockEnd}
+use Rattle.cell.specs.Cell.{arrivalFits}
+use Rattle.cell.specs.Limits.{portsInRange, clockEnd}
 use Rattle.trace.specs.declared.Key.the-variants.{Ports, First, Slot, In, Out, Flow, Rank, Tag, End}
 use Rattle.trace.specs.Line.{line}
 
@@ -40,10 +41,6 @@ slotsText clock (rs ∷ slots) = line Slot clock ++ (arrivalsText rs ++ slotsTex
 -- first `ports`, then `first`, then the slots
 unfoldable pub text : Contents → List ℕ
 text c = line Ports (c .ports) ++ (line First (c .first) ++ slotsText (c .first) (c .slots))
-
-unfoldable pub arrivalFits : Arrival → Bool
-arrivalFits a =
-    fits32 (a .input) && fits32 (a .output) && fits32 (a .flow) && fits32 (a .rank) && fits32 (a .tag)
 
 unfoldable pub blockFits : List Arrival → Bool
 blockFits rs = leb (length rs) blockLimit && all? arrivalFits rs

@@ -10,22 +10,22 @@ use mathlib.Core.Option.{Option, none, some, bind, Option·map}
 use lib.Dec.{ltb, leb, eqb}
 use Rattle.laws.specs.Lists.{all?}
 use Rattle.cell.specs.Limits.{fits32}
+use Rattle.trace.specs.Ascii.{ascii}
 use Rattle.trace.specs.declared.Key.{Key}
 use Rattle.trace.specs.declared.Key.the-variants.{Ports, First, Slot, In, Out, Flow, Rank, Tag, End, Refused, Line}
 
--- ports, first, slot, in, out, flow, rank, tag, end, refused, line
 unfoldable pub keyName : Key → List ℕ
-keyName Ports = 112 ∷ 111 ∷ 114 ∷ 116 ∷ 115 ∷ []
-keyName First = 102 ∷ 105 ∷ 114 ∷ 115 ∷ 116 ∷ []
-keyName Slot = 115 ∷ 108 ∷ 111 ∷ 116 ∷ []
-keyName In = 105 ∷ 110 ∷ []
-keyName Out = 111 ∷ 117 ∷ 116 ∷ []
-keyName Flow = 102 ∷ 108 ∷ 111 ∷ 119 ∷ []
-keyName Rank = 114 ∷ 97 ∷ 110 ∷ 107 ∷ []
-keyName Tag = 116 ∷ 97 ∷ 103 ∷ []
-keyName End = 101 ∷ 110 ∷ 100 ∷ []
-keyName Refused = 114 ∷ 101 ∷ 102 ∷ 117 ∷ 115 ∷ 101 ∷ 100 ∷ []
-keyName Line = 108 ∷ 105 ∷ 110 ∷ 101 ∷ []
+keyName Ports = ascii "ports"
+keyName First = ascii "first"
+keyName Slot = ascii "slot"
+keyName In = ascii "in"
+keyName Out = ascii "out"
+keyName Flow = ascii "flow"
+keyName Rank = ascii "rank"
+keyName Tag = ascii "tag"
+keyName End = ascii "end"
+keyName Refused = ascii "refused"
+keyName Line = ascii "line"
 
 -- the key and `=`
 unfoldable pub keyText : Key → List ℕ

@@ -1,0 +1,4 @@
+pub mod Proposed
+pub mod Refusing
+pub mod Rounds
+pub mod Matching
