@@ -1,4 +1,6 @@
 pub mod Ascii
 pub mod Contents
+pub mod Flat
 pub mod Line
+pub mod Piece
 pub mod Reader

@@ -1,4 +1,5 @@
-// The trace: the keys of its lines. What a line, a block and a whole text mean is in specs/.
+// The trace: one grammar, read and written here. What a line, a block and a whole text mean is in specs/.
+use cell::Refusal;
 
 // The key of a line, in a trace or in what the player writes.
 pub enum Key {
@@ -13,4 +14,40 @@ pub enum Key {
     End,
     Refused,
     Line,
+}
+
+// What stands at the start of a text.
+pub enum Opening {
+    // The number of ports, the first slot, and how many bytes the two lines have.
+    Open(u32, u32, usize),
+    // A refusal and its line, counted from 1.
+    Refused(Refusal, u32),
+    // More text is needed.
+    Short,
+}
+
+// What stands after the header or a block.
+pub enum Answer {
+    // A block: how many arrivals, bytes and lines it has.
+    Slot(u32, usize, u32),
+    // The line of `end`, and nothing after it.
+    End,
+    // A bad line, counted from 0 at the start of the piece.
+    Bad(u32),
+    // More text is needed.
+    More,
+}
+
+// An answer with the arrivals of its block: five numbers for each, input, output, flow, rank, tag, then zeros.
+pub struct Block {
+    pub answer: Answer,
+    pub records: [u32; 80],
+}
+
+// What the writer answers.
+pub enum Output {
+    // The length of the text, which stands at the start of the buffer.
+    Text(usize),
+    // A refusal; nothing was written.
+    TurnedBack(Refusal),
 }
