@@ -1,10 +1,10 @@
 -- Laws of the arrivals as bytes: a record and its 20 bytes are each other's, and so are the records of a slot and the
 -- bytes that it is lent.
 use Prim.Native.Nat.{ℕ, zero, suc, _+_, _*_, _/_, _%_, _≤_}
-use mathlib.Core.Bool.{Bool, true, false, _&&_, false≢true}
+use mathlib.Core.Bool.{Bool, true, false, _&&_}
 use mathlib.Core.Path.{_≡_, refl, sym, _∙_, ap, ap₂}
 use mathlib.Core.List.{List, [], _∷_, _++_}
-use mathlib.Core.Option.{Option, none, some, Option·some-injective, Option·some-ne-none}
+use mathlib.Core.Option.{none, some, Option·some-injective, Option·some-ne-none}
 use native.Mathlib.Omega.{arith}
 use borrow.Author.Tests.{eqb-true, eqb-false, eq-eqb, ne-eqb}
 use lib.Dec.{eqb, lit≤}
@@ -14,10 +14,10 @@ use Rattle.laws.specs.Lists.{all?}
 use Rattle.laws.proofs.Tests.{and-i, and-l, and-r}
 use Rattle.cell.specs.declared.Arrival.{Arrival}
 use Rattle.cell.specs.Limits.{fits32}
-use Rattle.table.specs.Number.{bytesOf, numberAt, numberOf, word}
+use Rattle.table.specs.Number.{bytesOf, numberAt, word}
 use Rattle.table.specs.Arrivals.{arrivalSize, arrivalBytes, arrivalOf, arrivalsBytes, arrivalsOf, recordsOf}
 use Rattle.table.proofs.Number.{bytes?, bytes?-append, bytes?-take, bytes?-drop, length-bytesOf, bytesOf-bytes}
-use Rattle.table.proofs.Number.{numberOf-bytesOf, numberAt-below, bytesOf-at, bytesOf-last, fits32-below, below-fits32}
+use Rattle.table.proofs.Number.{numberOf-word, bytesOf-at, bytesOf-last, word-fits}
 
 ------------------------------------------------------------------------
 -- one record
@@ -44,32 +44,36 @@ arrivalOf-arrivalBytes a h =
     let r : fits32 (a .rank) ≡ true = search (and-l, and-r) in
     let t : fits32 (a .tag) ≡ true = search (and-l, and-r) in
     λ k. record {
-      input = numberOf-bytesOf 4 (a .input) (fits32-below (a .input) i) k;
-      output = numberOf-bytesOf 4 (a .output) (fits32-below (a .output) o) k;
-      flow = numberOf-bytesOf 4 (a .flow) (fits32-below (a .flow) f) k;
-      rank = numberOf-bytesOf 4 (a .rank) (fits32-below (a .rank) r) k;
-      tag = numberOf-bytesOf 4 (a .tag) (fits32-below (a .tag) t) k;
+      input = numberOf-word (a .input) i k;
+      output = numberOf-word (a .output) o k;
+      flow = numberOf-word (a .flow) f k;
+      rank = numberOf-word (a .rank) r k;
+      tag = numberOf-word (a .tag) t k;
     }
 
-pub arrivalBytes-arrivalOf : (bs : List ℕ) → bytes? bs ≡ true → length bs ≡ arrivalSize → arrivalBytes (arrivalOf bs) ≡ bs
+pub arrivalOf-first : (a : Arrival) (bs : List ℕ) → arrivalFits a ≡ true
+    → arrivalOf (take arrivalSize (arrivalBytes a ++ bs)) ≡ a
+arrivalOf-first a bs h =
+    ap arrivalOf (take-at (arrivalBytes a) bs arrivalSize (length-arrivalBytes a)) ∙ arrivalOf-arrivalBytes a h
+
+pub arrivalBytes-arrivalOf : (bs : List ℕ) → bytes? bs ≡ true → length bs ≡ arrivalSize
+    → arrivalBytes (arrivalOf bs) ≡ bs
 unfolding arrivalBytes arrivalOf word
 arrivalBytes-arrivalOf bs h size =
-    bytesOf-at 4 0 bs _ h (rw size (lit≤ tt))
-    (bytesOf-at 4 4 bs _ h (rw size (lit≤ tt))
-    (bytesOf-at 4 8 bs _ h (rw size (lit≤ tt))
-    (bytesOf-at 4 12 bs _ h (rw size (lit≤ tt)) (bytesOf-last 4 16 bs h size))))
+    bytesOf-at 4 0 bs h (rw size (lit≤ tt)) _
+    (bytesOf-at 4 4 bs h (rw size (lit≤ tt)) _
+    (bytesOf-at 4 8 bs h (rw size (lit≤ tt)) _
+    (bytesOf-at 4 12 bs h (rw size (lit≤ tt)) _ (bytesOf-last 4 16 bs h size))))
 
 -- a record of bytes fits
 pub arrivalOf-fits : (bs : List ℕ) → bytes? bs ≡ true → length bs ≡ arrivalSize → arrivalFits (arrivalOf bs) ≡ true
-unfolding arrivalFits arrivalOf word
+unfolding arrivalFits arrivalOf
 arrivalOf-fits bs h size =
-    let fit : (at : ℕ) → at + 4 ≤ arrivalSize → fits32 (numberAt 4 at bs) ≡ true =
-    λ at room. below-fits32 (numberAt 4 at bs) (numberAt-below 4 at bs h (rw size room)) in
-    let i : fits32 (numberAt 4 0 bs) ≡ true = fit 0 (lit≤ tt) in
-    let o : fits32 (numberAt 4 4 bs) ≡ true = fit 4 (lit≤ tt) in
-    let f : fits32 (numberAt 4 8 bs) ≡ true = fit 8 (lit≤ tt) in
-    let r : fits32 (numberAt 4 12 bs) ≡ true = fit 12 (lit≤ tt) in
-    let t : fits32 (numberAt 4 16 bs) ≡ true = fit 16 (lit≤ tt) in
+    let i : fits32 (word bs 0) ≡ true = word-fits bs 0 h (rw size (lit≤ tt)) in
+    let o : fits32 (word bs 4) ≡ true = word-fits bs 4 h (rw size (lit≤ tt)) in
+    let f : fits32 (word bs 8) ≡ true = word-fits bs 8 h (rw size (lit≤ tt)) in
+    let r : fits32 (word bs 12) ≡ true = word-fits bs 12 h (rw size (lit≤ tt)) in
+    let t : fits32 (word bs 16) ≡ true = word-fits bs 16 h (rw size (lit≤ tt)) in
     search and-i depth 9
 
 ------------------------------------------------------------------------
@@ -89,15 +93,17 @@ arrivalsBytes-bytes [] = refl
 arrivalsBytes-bytes (a ∷ rs) =
     bytes?-append (arrivalBytes a) (arrivalsBytes rs) (arrivalBytes-bytes a) (arrivalsBytes-bytes rs)
 
-pub arrivalsOf-arrivalsBytes : (rs : List Arrival) → all? arrivalFits rs ≡ true → arrivalsOf (length rs) (arrivalsBytes rs) ≡ rs
+pub arrivalsOf-arrivalsBytes : (rs : List Arrival) → all? arrivalFits rs ≡ true
+    → arrivalsOf (length rs) (arrivalsBytes rs) ≡ rs
 unfolding arrivalsBytes arrivalsOf all?
 arrivalsOf-arrivalsBytes [] h = refl
 arrivalsOf-arrivalsBytes (a ∷ rs) h =
-    let head : arrivalFits a ≡ true = and-l (arrivalFits a) (all? arrivalFits rs) h in
-    let tail : all? arrivalFits rs ≡ true = and-r (arrivalFits a) (all? arrivalFits rs) h in
-    rw
-    (take-at (arrivalBytes a) (arrivalsBytes rs) arrivalSize (length-arrivalBytes a), drop-at (arrivalBytes a) (arrivalsBytes rs) arrivalSize (length-arrivalBytes a))
-    (ap₂ (λ x l. x ∷ l) (arrivalOf-arrivalBytes a head) (arrivalsOf-arrivalsBytes rs tail))
+    let head : arrivalFits a ≡ true = search and-l in
+    let tail : all? arrivalFits rs ≡ true = search and-r in
+    ap₂ _∷_
+    (arrivalOf-first a (arrivalsBytes rs) head)
+    (ap (arrivalsOf (length rs)) (drop-at (arrivalBytes a) (arrivalsBytes rs) arrivalSize (length-arrivalBytes a))
+    ∙ arrivalsOf-arrivalsBytes rs tail)
 
 pub length-arrivalsOf : (n : ℕ) (bs : List ℕ) → length (arrivalsOf n bs) ≡ n
 unfolding arrivalsOf
@@ -118,7 +124,8 @@ arrivalsBytes-arrivalsOf (suc n) bs h size =
     ∙ take-append-drop arrivalSize bs
 
 -- a whole number of records, or none
-pub recordsOf-whole : (bs : List ℕ) → length bs % arrivalSize ≡ 0 → recordsOf bs ≡ some (arrivalsOf (length bs / arrivalSize) bs)
+pub recordsOf-whole : (bs : List ℕ) → length bs % arrivalSize ≡ 0
+    → recordsOf bs ≡ some (arrivalsOf (length bs / arrivalSize) bs)
 unfolding recordsOf
 recordsOf-whole bs h = rw (eq-eqb (length bs % arrivalSize) 0 h, recordsOf)
 
@@ -145,7 +152,8 @@ recordsOf-arrivalsBytes rs h =
     let many : length (arrivalsBytes rs) / arrivalSize ≡ length rs = omega arith in
     recordsOf-whole (arrivalsBytes rs) whole ∙ ap some (rw many (arrivalsOf-arrivalsBytes rs h))
 
-pub recordsOf-exact : (bs : List ℕ) (rs : List Arrival) → bytes? bs ≡ true → recordsOf bs ≡ some rs → arrivalsBytes rs ≡ bs
+pub recordsOf-exact : (bs : List ℕ) (rs : List Arrival) → bytes? bs ≡ true → recordsOf bs ≡ some rs
+    → arrivalsBytes rs ≡ bs
 recordsOf-exact bs rs h e =
     let whole : length bs % arrivalSize ≡ 0 = recordsOf-some bs rs e .0 in
     let size : length bs ≡ arrivalSize * (length bs / arrivalSize) = omega arith in
@@ -163,7 +171,8 @@ arrivalsOf-fits (suc n) bs h size =
     (arrivalOf-fits (take arrivalSize bs) (bytes?-take arrivalSize bs h) (length-take-le arrivalSize bs room))
     (arrivalsOf-fits n (drop arrivalSize bs) (bytes?-drop arrivalSize bs h) rest)
 
-pub recordsOf-fits : (bs : List ℕ) (rs : List Arrival) → bytes? bs ≡ true → recordsOf bs ≡ some rs → all? arrivalFits rs ≡ true
+pub recordsOf-fits : (bs : List ℕ) (rs : List Arrival) → bytes? bs ≡ true → recordsOf bs ≡ some rs
+    → all? arrivalFits rs ≡ true
 recordsOf-fits bs rs h e =
     let whole : length bs % arrivalSize ≡ 0 = recordsOf-some bs rs e .0 in
     let size : length bs ≡ arrivalSize * (length bs / arrivalSize) = omega arith in

@@ -1,3 +1,6 @@
+pub mod Answer
 pub mod Arrivals
+pub mod Host
 pub mod Number
 pub mod Table
+pub mod Tally

@@ -1,0 +1,62 @@
+-- Laws of the tally as bytes: a tally and its 32 bytes are each other's.
+use Prim.Native.Nat.{ℕ, _+_, _≤_}
+use mathlib.Core.Bool.{true}
+use mathlib.Core.Path.{_≡_}
+use mathlib.Core.List.{List}
+use native.Mathlib.Omega.{arith}
+use lib.Dec.{lit≤}
+use lib.ListN.{length, length-append}
+use Rattle.model.specs.Tally.{Tally, countTop}
+use Rattle.table.specs.Number.{bytesOf, numberAt, numberOf}
+use Rattle.table.specs.TallyBytes.{tallyBytes, tallyOf, tallySize}
+use Rattle.table.proofs.Number.{bytes?, bytes?-append, length-bytesOf, bytesOf-bytes, numberOf-bytesOf}
+use Rattle.table.proofs.Number.{numberAt-below, bytesOf-at, bytesOf-last}
+
+-- each count is at most the top
+pub record TallyFits (t : Tally) : Type 0 where
+  pub run : t .run ≤ countTop
+  pub refused : t .refused ≤ countTop
+  pub cellsIn : t .cellsIn ≤ countTop
+  pub cellsOut : t .cellsOut ≤ countTop
+
+pub length-tallyBytes : (t : Tally) → length (tallyBytes t) ≡ tallySize
+unfolding tallyBytes
+length-tallyBytes t = simp (length-append, length-bytesOf)
+
+pub tallyBytes-bytes : (t : Tally) → bytes? (tallyBytes t) ≡ true
+unfolding tallyBytes
+tallyBytes-bytes t = search (bytes?-append, bytesOf-bytes) depth 9
+
+numberOf-count : (n : ℕ) → n ≤ countTop → numberOf (bytesOf 8 n) ≡ n
+numberOf-count n h = numberOf-bytesOf 8 n (omega arith)
+
+pub tallyOf-tallyBytes : (t : Tally) → TallyFits t → tallyOf (tallyBytes t) ≡ t
+unfolding tallyOf tallyBytes numberAt bytesOf
+tallyOf-tallyBytes t h =
+    λ k. record {
+      run = numberOf-count (t .run) (h .run) k;
+      refused = numberOf-count (t .refused) (h .refused) k;
+      cellsIn = numberOf-count (t .cellsIn) (h .cellsIn) k;
+      cellsOut = numberOf-count (t .cellsOut) (h .cellsOut) k;
+    }
+
+pub tallyBytes-tallyOf : (bs : List ℕ) → bytes? bs ≡ true → length bs ≡ tallySize → tallyBytes (tallyOf bs) ≡ bs
+unfolding tallyBytes tallyOf
+tallyBytes-tallyOf bs h size =
+    bytesOf-at 8 0 bs h (rw size (lit≤ tt)) _
+    (bytesOf-at 8 8 bs h (rw size (lit≤ tt)) _
+    (bytesOf-at 8 16 bs h (rw size (lit≤ tt)) _ (bytesOf-last 8 24 bs h size)))
+
+count-fits : (bs : List ℕ) (at : ℕ) → bytes? bs ≡ true → at + 8 ≤ length bs → numberAt 8 at bs ≤ countTop
+count-fits bs at h room = omega (arith, numberAt-below 8 at bs h room)
+
+-- a tally of bytes fits
+pub tallyOf-fits : (bs : List ℕ) → bytes? bs ≡ true → length bs ≡ tallySize → TallyFits (tallyOf bs)
+unfolding tallyOf
+tallyOf-fits bs h size =
+    record {
+      run = count-fits bs 0 h (rw size (lit≤ tt));
+      refused = count-fits bs 8 h (rw size (lit≤ tt));
+      cellsIn = count-fits bs 16 h (rw size (lit≤ tt));
+      cellsOut = count-fits bs 24 h (rw size (lit≤ tt));
+    }
