@@ -2,6 +2,13 @@ pub mod Admitted
 pub mod Bags
 pub mod CellOrder
 pub mod CheckOrder
+pub mod Enter
 pub mod Numbering
 pub mod PifoLaws
+pub mod Related
+pub mod SameDeparture
 pub mod Sections
+pub mod SlackArrival
+pub mod SlackSections
+pub mod SoundLaws
+pub mod SoundOrderly

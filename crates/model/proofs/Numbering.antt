@@ -12,7 +12,7 @@ use mathlib.Core.Bool.{Bool, true, false, not, _&&_, and-true}
 use mathlib.Core.Path.{_≡_, refl, sym, _∙_, ap, ap₂}
 use mathlib.Core.Logic.{_⊎_, inl, inr, _≢_}
 use mathlib.Core.List.{List, [], _∷_, _++_, map, flatten, map-map, List·Memᴰ, List·Memᴰ·head}
-use mathlib.Core.List.{List·Memᴰ·not-nil, List·Memᴰ·cases-cons, Memᴰ·append-right, Memᴰ·append-left}
+use mathlib.Core.List.{List·Memᴰ·not-nil, List·Memᴰ·cases-cons, List·Memᴰ·append-cases, Memᴰ·append-right, Memᴰ·append-left}
 use lib.Dec.{ltb, eqb}
 use lib.ListN.{length, getD, length-append, length-map}
 use borrow.Author.Tests.{ltb-true, eqb-true, lt-ltb, eq-eqb, ne-eqb}
@@ -110,6 +110,27 @@ pub placed-below : (from : ℕ) (es : List Entry) (w : Waiting) → Placed from 
 placed-below from es w p =
     let n = p .number in
     omega (arith, ap length (p .split), length-append (p .pre) (entryOf w ∷ p .post))
+
+-- a larger number stands later
+pub placed-later : (from : ℕ) (es : List Entry) (v w : Waiting) (p : Placed from es v)
+    → List·Memᴰ w (numberFrom from es) → v .at < w .at → List·Memᴰ (entryOf w) (p .post)
+unfolding numberFrom
+placed-later from es v w p m l =
+    front (List·Memᴰ·append-cases (numberFrom from (p .pre))
+    (rw (p .split, numberFrom-append from (p .pre) (entryOf v ∷ p .post)) at m))
+  where
+    at : ℕ
+    at = from + length (p .pre)
+
+    back : (w ≡ numberedAt at (entryOf v)) ⊎ List·Memᴰ w (numberFrom (at + 1) (p .post))
+        → List·Memᴰ (entryOf w) (p .post)
+    back (inl q) = absurd (omega (arith, ap (λ u. u .at) q, p .number))
+    back (inr i) = placed-entry (at + 1) (p .post) w (mem-numberFrom (at + 1) (p .post) i)
+
+    front : List·Memᴰ w (numberFrom from (p .pre)) ⊎ List·Memᴰ w (numberFrom at (entryOf v ∷ p .post))
+        → List·Memᴰ (entryOf w) (p .post)
+    front (inl i) = absurd (omega (arith, placed-below from (p .pre) w (mem-numberFrom from (p .pre) i), p .number))
+    front (inr i) = back (List·Memᴰ·cases-cons i)
 
 -- within a section numbers rise
 pub numberFrom-rises : (from : ℕ) (es : List Entry) → pairwise (λ v w. ltb (v .at) (w .at)) (numberFrom from es) ≡ true
