@@ -199,8 +199,8 @@ class Crossbar:
         return sent
 
 
-def records(rng, waiting, ports, flows, ranks, load, outputs):
-    """Arrivals of one slot. Mostly no rank falls within a flow, so that most slots run."""
+def steady(rng, waiting, k, ports, flows, ranks, load, outputs):
+    """Arrivals of one slot with ranks of any size. Mostly no rank falls within a flow, so that most slots run."""
     out = []
     for i in range(ports):
         if rng.random() < load:
@@ -210,30 +210,48 @@ def records(rng, waiting, ports, flows, ranks, load, outputs):
                 r = max(same) + rng.randrange(3)
             out.append((i, o, f, r, rng.randrange(9)))
     if out and rng.random() < 0.02:
-        k = rng.randrange(len(out))
-        out[k] = rng.choice([(ports, 0, 0, 0, 0), (0, 0, 8, 0, 0), out[0]])
+        at = rng.randrange(len(out))
+        out[at] = rng.choice([(ports, 0, 0, 0, 0), (0, 0, 8, 0, 0), out[0]])
     return out
 
 
-def play(seed, slots, fault=""):
+def falling(rng, waiting, k, ports, flows, ranks, load, outputs):
+    """Arrivals of one slot: at output 0 ranks of any size, elsewhere each slot's below those of the slot before, so
+    that many cells are urgent there."""
+    out = []
+    for i in range(ports):
+        if rng.random() < load:
+            o, f = rng.randrange(outputs), rng.randrange(8)
+            r = rng.randrange(20) if o == 0 else max(0, 300 - 10 * k + rng.randrange(10))
+            here = [c for c in waiting if (c.input, c.output) == (i, o)]
+            if any(c.flow == f and c.rank > r for c in here):
+                free = [g for g in range(8) if all(c.flow != g for c in here)]
+                if free:
+                    f = rng.choice(free)
+                else:
+                    r = max(c.rank for c in here if c.flow == f)
+            out.append((i, o, f, r, 0))
+    return out
+
+
+def play(seed, fault=""):
     """The first slot at which the two part, or None."""
     rng = random.Random(seed)
-    ports = rng.choice([1, 2, 3, 3, 4, 4, 6, 16])
+    traffic, sizes, slots = (steady, [1, 2, 3, 3, 4, 4, 6, 16], 150) if seed % 4 == 0 else (falling, [4, 5, 6, 8], 24)
+    ports = rng.choice(sizes)
     flows, ranks = rng.choice([1, 2, 4, 8]), rng.choice([2, 5, 20, 1000])
-    outputs = rng.choice([1, 1, 2, ports])
-    outputs = min(outputs, ports)
+    outputs = min(rng.choice([1, 2, 2, 3, ports]), ports)
     first = rng.randrange(1000)
     a, b = Crossbar(ports, first, fault), Pifo(ports, first, fault)
     load = rng.choice([0.3, 0.6, 0.9])
     for k in range(slots):
-        if rng.random() < 0.05:
+        if rng.random() < 0.1:
             load = rng.choice([0.0, 0.3, 0.6, 0.9])
-        rs = records(rng, b.cells, ports, flows, ranks, load, outputs)
+        rs = traffic(rng, b.cells, k, ports, flows, ranks, load, outputs)
         x, y = a.slot(rs), b.slot(rs)
         if x != y or a.clock != b.clock:
             return k, x, y
-        same = sorted(c.fields() for c in a.waiting()) == sorted(c.fields() for c in b.cells)
-        if not same:
+        if sorted(c.fields() for c in a.waiting()) != sorted(c.fields() for c in b.cells):
             return k, "cells", "cells"
     return None
 
@@ -253,23 +271,18 @@ FAULTS = [
 
 
 def main():
-    runs = 400
     if "--faults" in sys.argv:
         for fault in FAULTS:
-            found = None
-            for seed in range(runs):
-                r = play(seed, 150, fault)
-                if r:
-                    found = (seed, r)
-                    break
-            print(f"{fault}: " + (f"run {found[0]}, slot {found[1][0]}" if found else "never found out"))
+            found = next(((seed, r[0]) for seed in range(5000) if (r := play(seed, fault))), None)
+            print(f"{fault}: " + (f"run {found[0]}, slot {found[1]}" if found else "never found out"))
         return
+    runs = 1000
     for seed in range(runs):
-        r = play(seed, 150)
+        r = play(seed)
         if r:
             print(f"run {seed}: the two part at slot {r[0]}: {r[1]} and {r[2]}")
             sys.exit(1)
-    print(f"{runs} runs of 150 slots: alike")
+    print(f"{runs} runs: alike")
 
 
 main()

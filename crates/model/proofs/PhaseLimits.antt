@@ -1,0 +1,232 @@
+-- The limits that a phase keeps, and what it leaves as it was.
+--     phase-taken        at most one cell leaves the list of an input
+--     phase-brought      at most one cell enters the buffer of an output
+--     phase-crosspoint   no crosspoint comes to hold two cells
+--     phase-orderly      the cells are orderly afterwards
+use Prim.Native.Nat.{ℕ, _≤_}
+use mathlib.Core.Bool.{Bool, true, not, _&&_}
+use mathlib.Core.Path.{_≡_, sym, _∙_, ap, ap₂}
+use mathlib.Core.Logic.{_⊎_, inl, inr}
+use mathlib.Core.List.{List, List·Memᴰ, Memᴰ·of-map}
+use borrow.Author.Tests.{eqb-true, eqb-false}
+use lib.Dec.{eqb}
+use Rattle.laws.specs.Lists.{count}
+use Rattle.laws.proofs.Tests.{clash, and-i, and-l, and-r, not-e, not-i, by-fail}
+use Rattle.laws.proofs.Pairwise.{pairwise-e, pairwise-mono, pairwise-map, pairwise-le-one}
+use Rattle.cell.specs.Flow.{sameFlow}
+use Rattle.cell.specs.Order.{over}
+use Rattle.model.specs.State.{isListed, isCrossed, isBuffered}
+use Rattle.model.specs.Phase.{Waiting, sameInput, sameOutput, sameCrosspoint, ahead, beats, phase, placeAfter}
+use Rattle.model.specs.Slackness.{Orderly, otherNumber, otherArrival, relocate, relocated, OneCrosspoint, apart}
+use Rattle.model.proofs.WaitingOrder.{input-i, output-i, crosspoint-i, crosspoint-input, crosspoint-output}
+use Rattle.model.proofs.WaitingOrder.{ahead-total, beats-total}
+use Rattle.model.proofs.PhaseFacts.{crosspoints-i, scheduled-empty, scheduled-one, sent-scheduled, sent-free}
+use Rattle.model.proofs.PhaseFacts.{pulled-free, pulled-one}
+use Rattle.model.proofs.PhaseMatching.{straight-matched, sent-all, pulled-all, match-input, match-output}
+use Rattle.model.proofs.PhasePlaces.{listed-forward, crossed-forward, taken-by, brought-by}
+
+-- what it is that two cells do not share a crosspoint
+apart-i : (e f : Waiting)
+    → (isCrossed (e .place) ≡ true → isCrossed (f .place) ≡ true → sameCrosspoint e f ≡ true → ⊥) → apart e f ≡ true
+unfolding apart
+apart-i e f h =
+    not-i (x && (y && c)) (by-fail (x && (y && c)) (λ t.
+    let r : (y && c) ≡ true = and-r x (y && c) t in
+    h (and-l x (y && c) t) (and-l y c r) (and-r y c r)))
+  where
+    x : Bool
+    x = isCrossed (e .place)
+
+    y : Bool
+    y = isCrossed (f .place)
+
+    c : Bool
+    c = sameCrosspoint e f
+
+apart-e : (e f : Waiting) → apart e f ≡ true → isCrossed (e .place) ≡ true → isCrossed (f .place) ≡ true
+    → sameCrosspoint e f ≡ true → ⊥
+unfolding apart
+apart-e e f a h j c =
+    clash (and-i (isCrossed (e .place)) (isCrossed (f .place) && sameCrosspoint e f) h
+    (and-i (isCrossed (f .place)) (sameCrosspoint e f) j c))
+    (not-e (isCrossed (e .place) && (isCrossed (f .place) && sameCrosspoint e f)) a)
+
+crosspoint-sym : (e f : Waiting) → sameCrosspoint e f ≡ true → sameCrosspoint f e ≡ true
+crosspoint-sym e f c = crosspoint-i f e (sym (crosspoint-input e f c)) (sym (crosspoint-output e f c))
+
+module _ (all : List Waiting) (o : Orderly all) where
+  -- members with different numbers are not equal
+  numbers-differ : (e f : Waiting) → otherNumber e f ≡ true → e ≡ f → ⊥
+  unfolding otherNumber
+  numbers-differ e f h p = eqb-false _ _ (not-e (eqb (e .at) (f .at)) h) (ap (λ x. x .at) p)
+
+  -- where any two members that pass are one, at most one passes
+  one-passes : (q : Waiting → Bool)
+      → ((e f : Waiting) → List·Memᴰ e all → List·Memᴰ f all → q e ≡ true → q f ≡ true → e ≡ f) → count q all ≤ 1
+  one-passes q h = pairwise-le-one q all (pairwise-mono otherNumber (λ e f. not (q e && q f)) all go (o .numbers))
+    where
+      go : (e f : Waiting) → List·Memᴰ e all → List·Memᴰ f all → otherNumber e f ≡ true → not (q e && q f) ≡ true
+      go e f m k n =
+          not-i (q e && q f) (by-fail (q e && q f)
+          (λ t. numbers-differ e f n (h e f m k (and-l (q e) (q f) t) (and-r (q e) (q f) t))))
+
+  ------------------------------------------------------------------------
+  -- lists
+
+  -- an input sends one cell
+  sent-same : {e f : Waiting} → List·Memᴰ e (phase all .sent) → List·Memᴰ f (phase all .sent)
+      → e .cell .input ≡ f .cell .input → e ≡ f
+  sent-same {e} {f} m k h = go (ahead-total o (sent-all all m) (sent-all all k) h)
+    where
+      go : (e ≡ f) ⊎ ((ahead e f ≡ true) ⊎ (ahead f e ≡ true)) → e ≡ f
+      go (inl p) = p
+      go (inr (inl a)) = absurd (clash a (scheduled-one all (sent-scheduled all m) (sent-scheduled all k)))
+      go (inr (inr a)) = absurd (clash a (scheduled-one all (sent-scheduled all k) (sent-scheduled all m)))
+
+  taken-same : {e f : Waiting} → e .cell .input ≡ f .cell .input
+      → List·Memᴰ e (phase all .straight) ⊎ List·Memᴰ e (phase all .sent)
+      → List·Memᴰ f (phase all .straight) ⊎ List·Memᴰ f (phase all .sent) → e ≡ f
+  taken-same h (inl m) (inl k) = match-input all o (straight-matched all m) (straight-matched all k) h
+  taken-same {e} {f} h (inl m) (inr k) = absurd (clash (input-i f e (sym h)) (sent-free all k m))
+  taken-same {e} {f} h (inr m) (inl k) = absurd (clash (input-i e f h) (sent-free all m k))
+  taken-same h (inr m) (inr k) = sent-same m k h
+
+  pub phase-taken : (i : ℕ)
+      → count (λ e. eqb (e .cell .input) i && (isListed (e .place) && not (isListed (placeAfter (phase all) e)))) all
+      ≤ 1
+  phase-taken i = one-passes test go
+    where
+      was : Waiting → Bool
+      was e = isListed (e .place)
+
+      is : Waiting → Bool
+      is e = isListed (placeAfter (phase all) e)
+
+      test : Waiting → Bool
+      test e = eqb (e .cell .input) i && (was e && not (is e))
+
+      leaves : (e : Waiting) → List·Memᴰ e all → test e ≡ true
+          → List·Memᴰ e (phase all .straight) ⊎ List·Memᴰ e (phase all .sent)
+      leaves e m t =
+          let r : (was e && not (is e)) ≡ true = and-r (eqb (e .cell .input) i) (was e && not (is e)) t in
+          taken-by all o m (and-l (was e) (not (is e)) r) (not-e (is e) (and-r (was e) (not (is e)) r))
+
+      input : (e : Waiting) → test e ≡ true → e .cell .input ≡ i
+      input e t = eqb-true _ _ (and-l (eqb (e .cell .input) i) (was e && not (is e)) t)
+
+      go : (e f : Waiting) → List·Memᴰ e all → List·Memᴰ f all → test e ≡ true → test f ≡ true → e ≡ f
+      go e f m k t u = taken-same (input e t ∙ sym (input f u)) (leaves e m t) (leaves f k u)
+
+  ------------------------------------------------------------------------
+  -- buffers
+
+  -- an output pulls one cell
+  pulled-same : {e f : Waiting} → List·Memᴰ e (phase all .pulled) → List·Memᴰ f (phase all .pulled)
+      → e .cell .output ≡ f .cell .output → e ≡ f
+  pulled-same {e} {f} m k h = go (beats-total o (pulled-all all m) (pulled-all all k) h)
+    where
+      go : (e ≡ f) ⊎ ((beats e f ≡ true) ⊎ (beats f e ≡ true)) → e ≡ f
+      go (inl p) = p
+      go (inr (inl a)) = absurd (clash a (pulled-one all m k))
+      go (inr (inr a)) = absurd (clash a (pulled-one all k m))
+
+  brought-same : {e f : Waiting} → e .cell .output ≡ f .cell .output
+      → List·Memᴰ e (phase all .straight) ⊎ List·Memᴰ e (phase all .pulled)
+      → List·Memᴰ f (phase all .straight) ⊎ List·Memᴰ f (phase all .pulled) → e ≡ f
+  brought-same h (inl m) (inl k) = match-output all o (straight-matched all m) (straight-matched all k) h
+  brought-same {e} {f} h (inl m) (inr k) = absurd (clash (output-i f e (sym h)) (pulled-free all k m))
+  brought-same {e} {f} h (inr m) (inl k) = absurd (clash (output-i e f h) (pulled-free all m k))
+  brought-same h (inr m) (inr k) = pulled-same m k h
+
+  pub phase-brought : (j : ℕ)
+      → count
+      (λ e. eqb (e .cell .output) j && (not (isBuffered (e .place)) && isBuffered (placeAfter (phase all) e)))
+      all
+      ≤ 1
+  phase-brought j = one-passes test go
+    where
+      was : Waiting → Bool
+      was e = isBuffered (e .place)
+
+      is : Waiting → Bool
+      is e = isBuffered (placeAfter (phase all) e)
+
+      test : Waiting → Bool
+      test e = eqb (e .cell .output) j && (not (was e) && is e)
+
+      enters : (e : Waiting) → List·Memᴰ e all → test e ≡ true
+          → List·Memᴰ e (phase all .straight) ⊎ List·Memᴰ e (phase all .pulled)
+      enters e m t =
+          let r : (not (was e) && is e) ≡ true = and-r (eqb (e .cell .output) j) (not (was e) && is e) t in
+          brought-by all o m (not-e (was e) (and-l (not (was e)) (is e) r)) (and-r (not (was e)) (is e) r)
+
+      output : (e : Waiting) → test e ≡ true → e .cell .output ≡ j
+      output e t = eqb-true _ _ (and-l (eqb (e .cell .output) j) (not (was e) && is e) t)
+
+      go : (e f : Waiting) → List·Memᴰ e all → List·Memᴰ f all → test e ≡ true → test f ≡ true → e ≡ f
+      go e f m k t u = brought-same (output e t ∙ sym (output f u)) (enters e m t) (enters f k u)
+
+  ------------------------------------------------------------------------
+  -- crosspoints
+
+  -- two cells of one crosspoint that were there are one
+  crossed-same : OneCrosspoint all → {e f : Waiting} → List·Memᴰ e all → List·Memᴰ f all
+      → isCrossed (e .place) ≡ true → isCrossed (f .place) ≡ true → sameCrosspoint e f ≡ true → e ≡ f
+  crossed-same one {e} {f} m k h j c = go (pairwise-e apart all one m k)
+    where
+      go : (e ≡ f) ⊎ ((apart e f ≡ true) ⊎ (apart f e ≡ true)) → e ≡ f
+      go (inl p) = p
+      go (inr (inl a)) = absurd (apart-e e f a h j c)
+      go (inr (inr a)) = absurd (apart-e f e a j h (crosspoint-sym e f c))
+
+  -- a sent cell goes to an empty crosspoint
+  filled-same : OneCrosspoint all → {e f : Waiting} → List·Memᴰ e all → List·Memᴰ f all → sameCrosspoint e f ≡ true
+      → (isCrossed (e .place) ≡ true) ⊎ List·Memᴰ e (phase all .sent)
+      → (isCrossed (f .place) ≡ true) ⊎ List·Memᴰ f (phase all .sent) → e ≡ f
+  filled-same one m k c (inl h) (inl j) = crossed-same one m k h j c
+  filled-same one {e} {f} m k c (inl h) (inr j) =
+      absurd (clash (crosspoint-sym e f c) (scheduled-empty all (sent-scheduled all j) (crosspoints-i all m h)))
+  filled-same one {e} {f} m k c (inr h) (inl j) =
+      absurd (clash c (scheduled-empty all (sent-scheduled all h) (crosspoints-i all k j)))
+  filled-same one {e} {f} m k c (inr h) (inr j) = sent-same h j (crosspoint-input e f c)
+
+  pub phase-crosspoint : OneCrosspoint all → OneCrosspoint (relocated (phase all) all)
+  unfolding relocated relocate sameCrosspoint sameInput sameOutput
+  phase-crosspoint one =
+      pairwise-map apart there all ∙ pairwise-mono otherNumber (λ e f. apart (there e) (there f)) all go (o .numbers)
+    where
+      there : Waiting → Waiting
+      there e = relocate (phase all) e
+
+      go : (e f : Waiting) → List·Memᴰ e all → List·Memᴰ f all → otherNumber e f ≡ true
+          → apart (there e) (there f) ≡ true
+      go e f m k n =
+          apart-i (there e) (there f)
+          (λ h j c. numbers-differ e f n
+          (filled-same one m k c (crossed-forward all o m h) (crossed-forward all o k j)))
+
+  ------------------------------------------------------------------------
+  -- order
+
+  pub phase-orderly : Orderly (relocated (phase all) all)
+  unfolding relocated relocate otherNumber otherArrival ahead sameInput
+  phase-orderly = record {
+    numbers = pairwise-map otherNumber there all ∙ o .numbers;
+    arrivals = pairwise-map otherArrival there all ∙ o .arrivals;
+    flows = λ e f m k h j s a. go h j s a (Memᴰ·of-map there all m) (Memᴰ·of-map there all k);
+  }
+    where
+      there : Waiting → Waiting
+      there e = relocate (phase all) e
+
+      go : {e f : Waiting} → isListed (e .place) ≡ true → isListed (f .place) ≡ true
+          → sameFlow (e .cell) (f .cell) ≡ true → ahead e f ≡ true
+          → (x : Waiting) × List·Memᴰ x all × (there x ≡ e) → (y : Waiting) × List·Memᴰ y all × (there y ≡ f)
+          → over (e .cell) (f .cell) ≡ true
+      go h j s a v w =
+          ap₂ (λ x y. over (x .cell) (y .cell)) (sym (v .2)) (sym (w .2))
+          ∙ o .flows (v .0) (w .0) (v .1) (w .1)
+          (listed-forward all o (v .1) (ap (λ x. isListed (x .place)) (v .2) ∙ h))
+          (listed-forward all o (w .1) (ap (λ x. isListed (x .place)) (w .2) ∙ j))
+          (ap₂ (λ x y. sameFlow (x .cell) (y .cell)) (v .2) (w .2) ∙ s)
+          (ap₂ ahead (v .2) (w .2) ∙ a)

@@ -1,0 +1,470 @@
+-- Arrival keeps the table sound, for the clock of the next slot.
+--     Enters, enters             where a new cell enters a section: in front, or behind the last one of its flow
+--     enter-sound                of one section
+--     Arrived, arrive-at         each section gets at most one cell
+--     length-arrive, arrive-count
+--     arrival-follows, arrival-room   what the checks 7 and 8 say of the table
+--     arrival-sound              of the whole table
+use Prim.Native.Nat.{ℕ, suc, _+_, _≤_, _<_}
+use native.Mathlib.Omega.{arith}
+use mathlib.Core.Bool.{Bool, true, false, cond, not, _&&_}
+use mathlib.Core.Path.{_≡_, refl, sym, _∙_, ap, subst}
+use mathlib.Core.Logic.{_⊎_, inl, inr, _≢_}
+use mathlib.Core.List.{List, [], _∷_, _++_, map, flatten, List·Memᴰ, List·Memᴰ·head, List·Memᴰ·tail}
+use mathlib.Core.List.{List·Memᴰ·cases-cons, Memᴰ·append-left, Memᴰ·append-right}
+use mathlib.Core.List.{Memᴰ·map, Memᴰ·of-map}
+use mathlib.Core.Option.{none}
+use lib.Dec.{ltb, eqb}
+use lib.ListN.{length, getD, length-append}
+use lib.Seq.{append-snoc}
+use borrow.Author.Tests.{ltb-true, ltb-false, leb-false, eqb-true, eqb-false, eq-eqb, ne-eqb}
+use Rattle.laws.specs.Lists.{keep, some?, none?, all?, count, pairwise, update}
+use Rattle.laws.proofs.Tests.{clash, by-fail, and-i, and-l, and-r, and-false-r, not-i, or-cases}
+use Rattle.laws.proofs.Lists.{some?-i, none?-not-some?, none?-false, none?-i, all?-e, all?-i, keep-append, keep-pass}
+use Rattle.laws.proofs.Lists.{mem-keep-in, mem-keep-passes, none?-clash}
+use Rattle.laws.proofs.Count.{count-nil, count-cons, count-map, count-all}
+use Rattle.laws.proofs.Pairwise.{pairwise-head, pairwise-tail, pairwise-cons, pairwise-append, pairwise-append-l, pairwise-append-r}
+use Rattle.laws.proofs.Pairwise.{pairwise-split}
+use Rattle.cell.specs.declared.Arrival.{Arrival}
+use Rattle.cell.specs.declared.Cell.{Cell}
+use Rattle.cell.specs.Cell.{accepted, arrivalFits}
+use Rattle.cell.specs.Flow.{sameFlow}
+use Rattle.cell.specs.Limits.{cellLimit, fits32}
+use Rattle.cell.proofs.Flow.{flow-sym}
+use Rattle.cell.proofs.Order.{over-in-flow}
+use Rattle.model.specs.State.{Entry, Switch, cells, isListed, isCrossed}
+use Rattle.model.specs.Checks.{fallingRank, full, firstFault}
+use Rattle.model.specs.Crossbar.{inListOf, newEntry, enter, enterAfter, arrive}
+use Rattle.model.specs.Sound.{together, otherSlot, otherCrosspoint, soundSections, sound}
+use Rattle.model.proofs.Admitted.{Admitted, admitted}
+use Rattle.model.proofs.Bags.{flatten-mem, mem-flatten, length-update, getD-update-same, getD-update-other, count-update}
+use Rattle.model.proofs.Enter.{new-cell, new-listed, in-list, in-flow, isLast, enterAfter-last, enterAfter-next}
+use Rattle.model.proofs.Enter.{enter-after, enter-front, New, enter-mem, count-enter}
+use Rattle.model.proofs.Sections.{count-flatten-at}
+use Rattle.model.proofs.SlackArrival.{Follows, FollowAll}
+use Rattle.model.proofs.SoundLaws.{ofFlow, together-front, together-insert, SoundEntry, SoundSection, sections-e, sections-i}
+use Rattle.model.proofs.SoundLaws.{section-later, SoundTable, sound-e}
+
+------------------------------------------------------------------------
+-- where a new cell enters
+
+pub data Enters (c : Cell) (es : List Entry) : Type 0 where
+  front : none? (inListOf c) es ≡ true → enter c es ≡ newEntry c ∷ es → Enters c es
+  behind : (pre : List Entry) (e : Entry) (post : List Entry) → es ≡ pre ++ e ∷ post → inListOf c e ≡ true
+      → none? (inListOf c) post ≡ true → enter c es ≡ pre ++ e ∷ newEntry c ∷ post → Enters c es
+
+-- the same of enterAfter
+record EntersAfter (c : Cell) (es : List Entry) : Type 0 where
+  pre : List Entry
+  e : Entry
+  post : List Entry
+  split : es ≡ pre ++ e ∷ post
+  flow : inListOf c e ≡ true
+  last : none? (inListOf c) post ≡ true
+  entered : enterAfter c es ≡ pre ++ e ∷ newEntry c ∷ post
+
+enters-after : (c : Cell) (es : List Entry) → some? (inListOf c) es ≡ true → EntersAfter c es
+unfolding some? isLast
+enters-after c [] s = absurd (mathlib.Core.Bool.false≢true s)
+enters-after c (x ∷ es) s = go (some? (inListOf c) es) refl (enters-after c es)
+  where
+    later : some? (inListOf c) es ≡ true → EntersAfter c es → EntersAfter c (x ∷ es)
+    later h w =
+        record {
+          pre = x ∷ w .pre;
+          e = w .e;
+          post = w .post;
+          split = ap (λ r. x ∷ r) (w .split);
+          flow = w .flow;
+          last = w .last;
+          entered = enterAfter-next c x es (and-false-r (inListOf c x) (none? (inListOf c) es) (none?-false (inListOf c) es h)) ∙ ap (λ r. x ∷ r) (w .entered);
+        }
+
+    none-later : some? (inListOf c) es ≡ false → none? (inListOf c) es ≡ true
+    none-later h = none?-not-some? (inListOf c) es ∙ ap not h
+
+    first : some? (inListOf c) es ≡ false → (inListOf c x ≡ true) ⊎ (some? (inListOf c) es ≡ true)
+        → inListOf c x ≡ true
+    first h (inl f) = f
+    first h (inr t) = absurd (clash t h)
+
+    here : some? (inListOf c) es ≡ false → inListOf c x ≡ true → EntersAfter c (x ∷ es)
+    here h f =
+        record {
+          pre = [];
+          e = x;
+          post = es;
+          split = refl;
+          flow = f;
+          last = none-later h;
+          entered = enterAfter-last c x es (and-i (inListOf c x) (none? (inListOf c) es) f (none-later h));
+        }
+
+    go : (b : Bool) → some? (inListOf c) es ≡ b → (some? (inListOf c) es ≡ true → EntersAfter c es)
+        → EntersAfter c (x ∷ es)
+    go true h rec = later h (rec h)
+    go false h rec = here h (first h (or-cases (inListOf c x) (some? (inListOf c) es) s))
+
+pub enters : (c : Cell) (es : List Entry) → Enters c es
+enters c es = go (some? (inListOf c) es) refl
+  where
+    go : (b : Bool) → some? (inListOf c) es ≡ b → Enters c es
+    go true h =
+        let w = enters-after c es h in
+        behind (w .pre) (w .e) (w .post) (w .split) (w .flow) (w .last) (enter-after c es h ∙ w .entered)
+    go false h = front (none?-not-some? (inListOf c) es ∙ ap not h) (enter-front c es h)
+
+-- between which entries it stands then
+pub record Inserted (c : Cell) (es : List Entry) : Type 0 where
+  pub pre : List Entry
+  pub post : List Entry
+  pub split : es ≡ pre ++ post
+  pub entered : enter c es ≡ pre ++ newEntry c ∷ post
+
+pub inserted : (c : Cell) (es : List Entry) → Inserted c es
+inserted c es = go (enters c es)
+  where
+    go : Enters c es → Inserted c es
+    go (front n e) = record { pre = []; post = es; split = refl; entered = e }
+    go (behind pre d post s f n e) =
+        record {
+          pre = pre ++ (d ∷ []);
+          post = post;
+          split = s ∙ sym (append-snoc pre d post);
+          entered = e ∙ sym (append-snoc pre d (newEntry c ∷ post));
+        }
+
+pub length-enter : (c : Cell) (es : List Entry) → length (enter c es) ≡ suc (length es)
+length-enter c es =
+    let w = inserted c es in
+    let a : length es ≡ length (w .pre) + length (w .post) = ap length (w .split) ∙ length-append (w .pre) (w .post) in
+    let b : length (enter c es) ≡ length (w .pre) + suc (length (w .post)) =
+    ap length (w .entered) ∙ length-append (w .pre) (newEntry c ∷ w .post) in
+    omega arith
+
+pairwise-insert : {A : Type 0} (r : A → A → Bool) (pre : List A) (n : A) (post : List A)
+    → pairwise r (pre ++ post) ≡ true → ((x : A) → List·Memᴰ x pre → r x n ≡ true)
+    → ((y : A) → List·Memᴰ y post → r n y ≡ true) → pairwise r (pre ++ n ∷ post) ≡ true
+pairwise-insert {A} r pre n post h a b =
+    pairwise-append r pre (n ∷ post) (pairwise-append-l r pre post h)
+    (pairwise-cons r n post b (pairwise-append-r r pre post h))
+    (λ x y i j. go x y i (List·Memᴰ·cases-cons j))
+  where
+    go : (x y : A) → List·Memᴰ x pre → (y ≡ n) ⊎ List·Memᴰ y post → r x y ≡ true
+    go x y i (inl q) = ap (r x) q ∙ a x i
+    go x y i (inr j) = pairwise-split r i j h
+
+------------------------------------------------------------------------
+-- one section
+
+otherSlot-i : (e f : Entry) → e .cell .slot ≢ f .cell .slot → otherSlot e f ≡ true
+unfolding otherSlot
+otherSlot-i e f h = not-i (eqb (e .cell .slot) (f .cell .slot)) (ne-eqb _ _ h)
+
+new-crosspoint-l : (c : Cell) (e : Entry) → otherCrosspoint (newEntry c) e ≡ true
+unfolding otherCrosspoint newEntry isCrossed
+new-crosspoint-l c e = refl
+
+new-crosspoint-r : (c : Cell) (e : Entry) → otherCrosspoint e (newEntry c) ≡ true
+unfolding otherCrosspoint newEntry isCrossed
+new-crosspoint-r c e = ap not (go (isCrossed (e .place)))
+  where
+    go : (b : Bool) → (b && false) ≡ false
+    go true = refl
+    go false = refl
+
+abbrev listedEntry : Entry → Bool
+listedEntry e = isListed (e .place)
+
+-- in the list the new cell stands together with its flow
+enter-together : (c : Cell) (es : List Entry) → together (keep listedEntry es) ≡ true → Follows es c
+    → together (keep listedEntry (enter c es)) ≡ true
+unfolding newEntry inListOf
+enter-together c es h follows = go (enters c es)
+  where
+    n : Entry
+    n = newEntry c
+
+    -- no listed one of the flow
+    alone : (l : List Entry) → none? (inListOf c) l ≡ true → none? (ofFlow n) (keep listedEntry l) ≡ true
+    alone l z =
+        none?-i (ofFlow n) (keep listedEntry l) (λ g m.
+        by-fail (ofFlow n g) (λ t.
+        none?-clash (inListOf c) z (mem-keep-in listedEntry l m)
+        (and-i (isListed (g .place)) (sameFlow (g .cell) c) (mem-keep-passes listedEntry l m) (flow-sym c (g .cell) t))))
+
+    go : Enters c es → together (keep listedEntry (enter c es)) ≡ true
+    go (front z e) =
+        rw (e, keep-pass listedEntry n es (new-listed c)) (together-front n (keep listedEntry es) (alone es z) h)
+    go (behind pre d post s f z e) =
+        let old : keep listedEntry es ≡ keep listedEntry pre ++ d ∷ keep listedEntry post =
+        ap (keep listedEntry) s
+        ∙ keep-append listedEntry pre (d ∷ post)
+        ∙ ap (λ r. keep listedEntry pre ++ r) (keep-pass listedEntry d post (in-list c d f)) in
+        let now : keep listedEntry (enter c es) ≡ keep listedEntry pre ++ d ∷ n ∷ keep listedEntry post =
+        ap (keep listedEntry) e
+        ∙ keep-append listedEntry pre (d ∷ n ∷ post)
+        ∙ ap (λ r. keep listedEntry pre ++ r)
+        (keep-pass listedEntry d (n ∷ post) (in-list c d f) ∙ ap (λ r. d ∷ r) (keep-pass listedEntry n post (new-listed c))) in
+        rw now
+        (together-insert (keep listedEntry pre) d n (keep listedEntry post) (rw old at h)
+        (in-flow c d f)
+        (follows d (rw s (Memᴰ·append-right pre (List·Memᴰ·head refl))) (in-flow c d f))
+        (alone post z))
+
+-- a new cell, fit for the section, with room for it
+pub enter-sound : (ports clock k : ℕ) (c : Cell) (es : List Entry) → SoundSection ports clock k es
+    → SoundEntry ports (clock + 1) k (newEntry c) → c .slot ≡ clock → length es < cellLimit → Follows es c
+    → SoundSection ports (clock + 1) k (enter c es)
+unfolding newEntry
+enter-sound ports clock k c es s new slot room follows =
+    record {
+      short = omega (arith, length-enter c es);
+      entries = λ e m. each e (enter-mem c es m);
+      flows = enter-together c es (s .flows) follows;
+      slots =
+          rw (w .entered)
+          (pairwise-insert otherSlot (w .pre) (newEntry c) (w .post) (rw (w .split) at (s .slots))
+          (λ x i. otherSlot-i x (newEntry c) (λ q. omega (arith, old x (Memᴰ·append-left (w .post) i))))
+          (λ y j. otherSlot-i (newEntry c) y (λ q. omega (arith, old y (Memᴰ·append-right (w .pre) j)))));
+      crosspoints =
+          rw (w .entered)
+          (pairwise-insert otherCrosspoint (w .pre) (newEntry c) (w .post) (rw (w .split) at (s .crosspoints))
+          (λ x i. new-crosspoint-r c x)
+          (λ y j. new-crosspoint-l c y));
+    }
+  where
+    w : Inserted c es
+    w = inserted c es
+
+    later : SoundSection ports (clock + 1) k es
+    later = section-later ports clock k es s
+
+    old : (e : Entry) → List·Memᴰ e (w .pre ++ w .post) → e .cell .slot < c .slot
+    old e m = omega (arith, s .entries e (rw (w .split) m) .slot)
+
+    each : (e : Entry) → New c es e → SoundEntry ports (clock + 1) k e
+    each e (inl q) = rw q new
+    each e (inr m) = later .entries e m
+
+------------------------------------------------------------------------
+-- all sections
+
+-- what arrival makes of section k: nothing has come, or one cell
+pub data Arrived (cs : List Cell) (sections : List (List Entry)) (k : ℕ) : Type 0 where
+  kept : getD (arrive cs sections) k [] ≡ getD sections k [] → Arrived cs sections k
+  entered : (c : Cell) → List·Memᴰ c cs → c .input ≡ k → getD (arrive cs sections) k [] ≡ enter c (getD sections k [])
+      → Arrived cs sections k
+
+abbrev rises : Cell → Cell → Bool
+rises c d = ltb (c .input) (d .input)
+
+pub arrive-at : (cs : List Cell) (sections : List (List Entry))
+    → ((c : Cell) → List·Memᴰ c cs → c .input < length sections)
+    → pairwise (λ c d. ltb (c .input) (d .input)) cs ≡ true → (k : ℕ) → Arrived cs sections k
+unfolding arrive
+arrive-at [] sections within turns k = kept refl
+arrive-at (c ∷ cs) sections within turns k =
+    go
+    (arrive-at cs after
+    (λ d m. rw (length-update (c .input) (enter c) sections) (within d (List·Memᴰ·tail m)))
+    (pairwise-tail rises c cs turns) k)
+    (eqb k (c .input)) refl
+  where
+    after : List (List Entry)
+    after = update (c .input) (enter c) sections
+
+    own : k ≡ c .input → getD after k [] ≡ enter c (getD sections k [])
+    own q =
+        rw q (getD-update-same (c .input) (enter c) sections [] (within c (List·Memᴰ·head refl)))
+
+    other : k ≢ c .input → getD after k [] ≡ getD sections k []
+    other q = getD-update-other (c .input) k (enter c) sections [] q
+
+    go : Arrived cs after k → (b : Bool) → eqb k (c .input) ≡ b → Arrived (c ∷ cs) sections k
+    go (kept e) true q =
+        entered c (List·Memᴰ·head refl) (sym (eqb-true k (c .input) q)) (e ∙ own (eqb-true k (c .input) q))
+    go (kept e) false q = kept (e ∙ other (eqb-false k (c .input) q))
+    go (entered d m i e) b q =
+        entered d (List·Memᴰ·tail m) i (e ∙ ap (enter d) (other (λ r.
+        omega (arith, ltb-true (c .input) (d .input) (pairwise-head rises turns m)))))
+
+pub length-arrive : (cs : List Cell) (sections : List (List Entry)) → length (arrive cs sections) ≡ length sections
+unfolding arrive
+length-arrive [] sections = refl
+length-arrive (c ∷ cs) sections =
+    length-arrive cs (update (c .input) (enter c) sections) ∙ length-update (c .input) (enter c) sections
+
+-- the cells are those that were there and those that came
+pub arrive-count : (p : Cell → Bool) (cs : List Cell) (sections : List (List Entry))
+    → ((c : Cell) → List·Memᴰ c cs → c .input < length sections)
+    → count p (map (λ e. e .cell) (flatten (arrive cs sections)))
+    ≡ count p cs + count p (map (λ e. e .cell) (flatten sections))
+unfolding arrive
+arrive-count p [] sections within = omega (arith, count-nil p)
+arrive-count p (c ∷ cs) sections within =
+    let rest = arrive-count p cs after
+    (λ d m. rw (length-update (c .input) (enter c) sections) (within d (List·Memᴰ·tail m))) in
+    omega (
+      arith,
+      count-cons p c cs,
+      count-map p (λ e. e .cell) (flatten after),
+      count-map p (λ e. e .cell) (flatten sections),
+      count-update q (c .input) (enter c) sections (within c (List·Memᴰ·head refl)),
+      count-enter q c (getD sections (c .input) []),
+      ap {B = ℕ} (λ d. cond (p d) 1 0) (new-cell c),
+    )
+  where
+    q : Entry → Bool
+    q e = p (e .cell)
+
+    after : List (List Entry)
+    after = update (c .input) (enter c) sections
+
+-- each cell that comes is fit for its section, with room for it, and comes after its flow
+pub arrive-sound : (ports clock : ℕ) (cs : List Cell) (sections : List (List Entry))
+    → soundSections ports clock 0 sections ≡ true
+    → ((c : Cell) → List·Memᴰ c cs → c .input < length sections)
+    → pairwise (λ c d. ltb (c .input) (d .input)) cs ≡ true
+    → ((c : Cell) → List·Memᴰ c cs → SoundEntry ports (clock + 1) (c .input) (newEntry c))
+    → ((c : Cell) → List·Memᴰ c cs → c .slot ≡ clock)
+    → ((c : Cell) → List·Memᴰ c cs → length (getD sections (c .input) []) < cellLimit)
+    → FollowAll (flatten sections) cs
+    → soundSections ports (clock + 1) 0 (arrive cs sections) ≡ true
+arrive-sound ports clock cs sections h within turns fit slots rooms follow =
+    sections-i ports (clock + 1) (arrive cs sections) (λ k. go k (arrive-at cs sections within turns k))
+  where
+    before : (k : ℕ) → SoundSection ports clock k (getD sections k [])
+    before k = sections-e ports clock sections h k
+
+    go : (k : ℕ) → Arrived cs sections k → SoundSection ports (clock + 1) k (getD (arrive cs sections) k [])
+    go k (kept e) = rw e (section-later ports clock k (getD sections k []) (before k))
+    go k (entered c m i e) =
+        rw e
+        (enter-sound ports clock k c (getD sections k []) (before k)
+        (subst (λ j. SoundEntry ports (clock + 1) j (newEntry c)) i (fit c m))
+        (slots c m)
+        (subst (λ j. length (getD sections j []) < cellLimit) i (rooms c m))
+        (λ d j s. follow c m d (flatten-mem sections k j) s))
+
+------------------------------------------------------------------------
+-- the checks of the records
+
+-- 7: where no rank falls, each waiting cell of the flow has at most this rank
+pub rank-rises : (waiting : List Cell) (c d : Cell) → fallingRank waiting c ≡ false → List·Memᴰ d waiting
+    → sameFlow d c ≡ true → d .rank ≤ c .rank
+unfolding fallingRank
+rank-rises waiting c d h m s = go (ltb (c .rank) (d .rank)) refl
+  where
+    go : (b : Bool) → ltb (c .rank) (d .rank) ≡ b → d .rank ≤ c .rank
+    go true e =
+        absurd (clash (some?-i (λ d. sameFlow d c && ltb (c .rank) (d .rank)) m
+        (and-i (sameFlow d c) (ltb (c .rank) (d .rank)) s e)) h)
+    go false e = ltb-false (c .rank) (d .rank) e
+
+-- 8: where the input is not full, it has fewer than 64 cells
+pub room-below : (waiting : List Cell) (c : Cell) → full waiting c ≡ false
+    → count (λ d. eqb (d .input) (c .input)) waiting < cellLimit
+unfolding full
+room-below waiting c h = leb-false cellLimit (count (λ d. eqb (d .input) (c .input)) waiting) h
+
+module _ (ports clock : ℕ) (sections : List (List Entry)) (h : soundSections ports clock 0 sections ≡ true) where
+  -- each waiting cell was accepted before this slot
+  pub sound-slot : (e : Entry) → List·Memᴰ e (flatten sections) → e .cell .slot < clock
+  sound-slot e m = let w = mem-flatten sections m in sections-e ports clock sections h (w .0) .entries e (w .2) .slot
+
+  pub arrival-follows : (c : Cell) → c .slot ≡ clock → fallingRank (map (λ e. e .cell) (flatten sections)) c ≡ false
+      → Follows (flatten sections) c
+  arrival-follows c slot rank e m s =
+      let older : e .cell .slot < c .slot = omega (arith, sound-slot e m) in
+      over-in-flow (e .cell) c
+      (rank-rises (map (λ e. e .cell) (flatten sections)) c (e .cell) rank (Memᴰ·map (λ e. e .cell) m) s)
+      older
+
+  -- the cells of an input are those of its section
+  pub arrival-room : (c : Cell) → full (map (λ e. e .cell) (flatten sections)) c ≡ false
+      → length (getD sections (c .input) []) < cellLimit
+  arrival-room c room =
+      omega (
+        arith,
+        room-below (map (λ e. e .cell) (flatten sections)) c room,
+        count-map (λ d. eqb (d .input) (c .input)) (λ e. e .cell) (flatten sections),
+        count-flatten-at own sections (c .input),
+        count-all own (getD sections (c .input) []) (all?-i own (getD sections (c .input) []) mine),
+      )
+    where
+      own : Entry → Bool
+      own e = eqb (e .cell .input) (c .input)
+
+      mine : (e : Entry) → List·Memᴰ e (getD sections (c .input) []) → own e ≡ true
+      mine e m = eq-eqb _ _ (sections-e ports clock sections h (c .input) .entries e m .input)
+
+fits-rank : (a : Arrival) → arrivalFits a ≡ true → fits32 (a .rank) ≡ true
+unfolding arrivalFits
+fits-rank a h = search (and-l, and-r) depth 9
+
+fits-tag : (a : Arrival) → arrivalFits a ≡ true → fits32 (a .tag) ≡ true
+unfolding arrivalFits
+fits-tag a h = search (and-l, and-r) depth 9
+
+-- the records of a slot, accepted
+module _ (slot : ℕ) (records : List Arrival) where
+  accepted-slot : (c : Cell) → List·Memᴰ c (map (accepted slot) records) → c .slot ≡ slot
+  unfolding accepted
+  accepted-slot c m = let w = Memᴰ·of-map (accepted slot) records m in ap (λ d. d .slot) (sym (w .2))
+
+  accepted-rank : all? arrivalFits records ≡ true → (c : Cell) → List·Memᴰ c (map (accepted slot) records)
+      → fits32 (c .rank) ≡ true
+  unfolding accepted
+  accepted-rank fits c m =
+      let w = Memᴰ·of-map (accepted slot) records m in
+      ap (λ d. fits32 (d .rank)) (sym (w .2)) ∙ fits-rank (w .0) (all?-e arrivalFits fits (w .1))
+
+  accepted-tag : all? arrivalFits records ≡ true → (c : Cell) → List·Memᴰ c (map (accepted slot) records)
+      → fits32 (c .tag) ≡ true
+  unfolding accepted
+  accepted-tag fits c m =
+      let w = Memᴰ·of-map (accepted slot) records m in
+      ap (λ d. fits32 (d .tag)) (sym (w .2)) ∙ fits-tag (w .0) (all?-e arrivalFits fits (w .1))
+
+-- the records of an accepted slot
+module _ (s : Switch) (records : List Arrival) (h : sound s ≡ true)
+    (clear : firstFault (s .ports) (cells s) (map (accepted (s .clock)) records) ≡ none) where
+  table : SoundTable s
+  table = sound-e s h
+
+  pub arrival-admitted : Admitted (s .ports) (cells s) (map (accepted (s .clock)) records)
+  arrival-admitted = admitted (s .ports) (cells s) (map (accepted (s .clock)) records) clear
+
+  pub arrival-inputs : (c : Cell) → List·Memᴰ c (map (accepted (s .clock)) records) → c .input < length (s .sections)
+  arrival-inputs c m = rw (table .inputs) (arrival-admitted .inputs c m)
+
+  pub arrival-turns : pairwise (λ c d. ltb (c .input) (d .input)) (map (accepted (s .clock)) records) ≡ true
+  arrival-turns = arrival-admitted .turns
+
+  pub arrival-follow-all : FollowAll (flatten (s .sections)) (map (accepted (s .clock)) records)
+  unfolding cells
+  arrival-follow-all c m =
+      arrival-follows (s .ports) (s .clock) (s .sections) (table .sections) c
+      (accepted-slot (s .clock) records c m)
+      (arrival-admitted .ranks c m)
+
+  -- the table is sound when the cells have come
+  pub arrival-sound : all? arrivalFits records ≡ true
+      → soundSections (s .ports) (s .clock + 1) 0 (arrive (map (accepted (s .clock)) records) (s .sections)) ≡ true
+  unfolding cells newEntry
+  arrival-sound fits =
+      arrive-sound (s .ports) (s .clock) (map (accepted (s .clock)) records) (s .sections) (table .sections)
+      arrival-inputs arrival-turns
+      (λ c m.
+      record {
+        input = refl;
+        output = arrival-admitted .outputs c m;
+        flow = arrival-admitted .flows c m;
+        rank = accepted-rank (s .clock) records fits c m;
+        tag = accepted-tag (s .clock) records fits c m;
+        slot = omega (arith, accepted-slot (s .clock) records c m);
+      })
+      (accepted-slot (s .clock) records)
+      (λ c m. arrival-room (s .ports) (s .clock) (s .sections) (table .sections) c (arrival-admitted .rooms c m))
+      arrival-follow-all
