@@ -17,6 +17,8 @@ pub mod Sections
 pub mod SlackArrival
 pub mod SlackSections
 pub mod SoundArrival
+pub mod SoundDeparture
 pub mod SoundLaws
 pub mod SoundOrderly
+pub mod SoundPhase
 pub mod WaitingOrder

@@ -14,7 +14,7 @@ use mathlib.Core.Logic.{_⊎_, inl, inr, _≢_}
 use mathlib.Core.List.{List, [], _∷_, _++_, map, flatten, map-map, List·Memᴰ, List·Memᴰ·head}
 use mathlib.Core.List.{List·Memᴰ·not-nil, List·Memᴰ·cases-cons, List·Memᴰ·append-cases, Memᴰ·append-right, Memᴰ·append-left}
 use lib.Dec.{ltb, eqb}
-use lib.ListN.{length, getD, length-append, length-map}
+use lib.ListN.{length, getD, length-append, length-map, List·getD-map}
 use borrow.Author.Tests.{ltb-true, eqb-true, lt-ltb, eq-eqb, ne-eqb}
 use Rattle.laws.specs.Lists.{keep, count, pairwise}
 use Rattle.laws.proofs.Tests.{by-fail, and-i, and-l, and-r, and-false-r, not-i}
@@ -223,6 +223,12 @@ waiting-mem sections k pre e post h =
     flatten-mem (numbered sections) k
     (rw (numbered-at sections k, h) (numberFrom-mem (cellLimit * k) pre e post))
 
+-- the numbered cells of a section are waiting
+pub section-waiting : (sections : List (List Entry)) (k : ℕ) {w : Waiting}
+    → List·Memᴰ w (numberFrom (cellLimit * k) (getD sections k [])) → List·Memᴰ w (waiting sections)
+unfolding waiting
+section-waiting sections k m = flatten-mem (numbered sections) k (rw (numbered-at sections k) m)
+
 pub waiting-cells : (sections : List (List Entry)) → map entryOf (waiting sections) ≡ flatten sections
 unfolding waiting
 waiting-cells sections = sym (flatten-map entryOf (numbered sections)) ∙ ap flatten (numbered-entries sections)
@@ -238,12 +244,38 @@ pub count-waiting-cells : (q : Cell → Bool) (sections : List (List Entry))
 count-waiting-cells q sections =
     count-waiting (λ e. q (e .cell)) sections ∙ sym (count-map q (λ e. e .cell) (flatten sections))
 
+------------------------------------------------------------------------
+-- after a phase, after a departure
+
+-- the entry of a waiting cell after a phase
+abbrev pub entryAfter : Phase → Waiting → Entry
+entryAfter p e = record { cell = e .cell; place = placeAfter p e }
+
 -- a phase relocates the waiting cells and does not reorder them
 pub waiting-moved : (p : Phase) (sections : List (List Entry)) → waiting (moved p sections) ≡ relocated p (waiting sections)
 unfolding waiting moved relocated relocate numbered
 waiting-moved p sections =
-    ap flatten (numberSections-map (λ e. record { cell = e .cell; place = placeAfter p e }) 0 sections)
-    ∙ flatten-map (relocate p) (numberSections 0 sections)
+    ap flatten (numberSections-map (entryAfter p) 0 sections) ∙ flatten-map (relocate p) (numberSections 0 sections)
+
+pub moved-at : (p : Phase) (sections : List (List Entry)) (k : ℕ)
+    → getD (moved p sections) k [] ≡ map (entryAfter p) (numberFrom (cellLimit * k) (getD sections k []))
+unfolding moved
+moved-at p sections k =
+    List·getD-map (map (entryAfter p)) (numbered sections) k [] ∙ ap (map (entryAfter p)) (numbered-at sections k)
+
+pub length-moved : (p : Phase) (sections : List (List Entry)) → length (moved p sections) ≡ length sections
+unfolding moved
+length-moved p sections = length-map (numbered sections) (map (entryAfter p)) ∙ length-numbered sections
+
+-- the cells are the same
+pub moved-cells : (p : Phase) (sections : List (List Entry))
+    → map (λ e. e .cell) (flatten (moved p sections)) ≡ map (λ e. e .cell) (flatten sections)
+unfolding moved waiting
+moved-cells p sections =
+    ap (map (λ e. e .cell)) (flatten-map (entryAfter p) (numbered sections))
+    ∙ map-map (λ e. e .cell) (entryAfter p) (waiting sections)
+    ∙ sym (map-map (λ e. e .cell) entryOf (waiting sections))
+    ∙ ap (map (λ e. e .cell)) (waiting-cells sections)
 
 -- departure keeps the entries whose number is not among those that leave
 pub flatten-without : (out : List Waiting) (sections : List (List Entry))
@@ -256,6 +288,21 @@ flatten-without out sections =
   where
     stays : Waiting → Bool
     stays e = not (among out e)
+
+pub without-at : (out : List Waiting) (sections : List (List Entry)) (k : ℕ)
+    → getD (without out sections) k []
+    ≡ map entryOf (keep (λ e. not (among out e)) (numberFrom (cellLimit * k) (getD sections k [])))
+unfolding without keep
+without-at out sections k =
+    List·getD-map stay (numbered sections) k [] ∙ ap stay (numbered-at sections k)
+  where
+    stay : List Waiting → List Entry
+    stay s = map entryOf (keep (λ e. not (among out e)) s)
+
+pub length-without : (out : List Waiting) (sections : List (List Entry)) → length (without out sections) ≡ length sections
+unfolding without
+length-without out sections =
+    length-map (numbered sections) (λ s. map entryOf (keep (λ e. not (among out e)) s)) ∙ length-numbered sections
 
 ------------------------------------------------------------------------
 -- numbers differ

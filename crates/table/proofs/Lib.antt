@@ -1,5 +1,6 @@
 pub mod Answer
 pub mod Arrivals
+pub mod Halves
 pub mod Host
 pub mod Number
 pub mod Table

@@ -1,1 +1,3 @@
-// Definitions and laws only: the bytes of the table, of the arrivals, of the answer and of the tally, in specs/ and proofs/.
+// The bytes of the table, of the arrivals, of the answer and of the tally: definitions and laws in specs/ and proofs/,
+// and here the code that reads and writes the table's bytes.
+pub mod word;

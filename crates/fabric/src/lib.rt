@@ -1,0 +1,1 @@
+// Definitions only so far: how a slot's steps see the table, in specs/.
