@@ -2,6 +2,8 @@ pub mod Admitted
 pub mod Bags
 pub mod CellOrder
 pub mod CheckOrder
+pub mod CourseLimits
+pub mod Demand3
 pub mod Enter
 pub mod Numbering
 pub mod PhaseFacts
@@ -15,10 +17,13 @@ pub mod Related
 pub mod SameDeparture
 pub mod Sections
 pub mod SlackArrival
+pub mod SlackDeparture
 pub mod SlackSections
+pub mod SlackSlot
 pub mod SoundArrival
 pub mod SoundDeparture
 pub mod SoundLaws
 pub mod SoundOrderly
 pub mod SoundPhase
+pub mod SoundSlot
 pub mod WaitingOrder

@@ -1,33 +1,35 @@
 -- The numbered list of all waiting cells, and the sections that it comes from. Section k is `getD sections k []`.
---     entryOf, numberedAt           from a waiting cell to its entry and back
---     numberFrom-, numberSections-  the clauses, and the numbers of one section
---     mem-waiting, waiting-mem      a waiting cell stands in a section, and its number is its position there
---     waiting-cells, count-waiting  the waiting cells are the entries of the sections
---     waiting-moved, flatten-without   what a phase and a departure make of them
---     numbers-differ                no two waiting cells have one number
---     ahead-prefix                  the listed cells ahead of one are those that stand before it in its section
+--     entryOf, numberedAt              from a waiting cell to its entry and back
+--     numberFrom-, Placed, placed-     one section: where a numbered cell stands in it
+--     numbered-at, numbered-entries    the sections
+--     Stands, mem-waiting, waiting-mem a waiting cell stands in a section, and its number is its position there
+--     waiting-cells, cells-waiting, count-waiting   the waiting cells are the entries of the sections
+--     waiting-moved, moved-            what a phase makes of them
+--     flatten-without, without-        what a departure makes of them
+--     numbers-rise, numbers-differ     no two waiting cells have one number
+--     ahead-prefix                     the listed cells ahead of one are those that stand before it in its section
 use Prim.Native.Nat.{ℕ, zero, suc, _+_, _*_, _≤_, _<_}
 use native.Mathlib.Omega.{arith}
 use mathlib.Core.Bool.{Bool, true, false, not, _&&_, and-true}
 use mathlib.Core.Path.{_≡_, refl, sym, _∙_, ap, ap₂}
 use mathlib.Core.Logic.{_⊎_, inl, inr, _≢_}
-use mathlib.Core.List.{List, [], _∷_, _++_, map, flatten, map-map, List·Memᴰ, List·Memᴰ·head}
-use mathlib.Core.List.{List·Memᴰ·not-nil, List·Memᴰ·cases-cons, List·Memᴰ·append-cases, Memᴰ·append-right, Memᴰ·append-left}
+use mathlib.Core.List.{List, [], _∷_, _++_, map, flatten, map-map, List·Memᴰ, List·Memᴰ·head, List·Memᴰ·not-nil}
+use mathlib.Core.List.{List·Memᴰ·cases-cons, List·Memᴰ·append-cases, Memᴰ·append-right, Memᴰ·append-left}
 use lib.Dec.{ltb, eqb}
 use lib.ListN.{length, getD, length-append, length-map, List·getD-map}
-use borrow.Author.Tests.{ltb-true, eqb-true, lt-ltb, eq-eqb, ne-eqb}
+use borrow.Author.Tests.{ltb-true, lt-ltb, ne-eqb}
 use Rattle.laws.specs.Lists.{keep, count, pairwise}
-use Rattle.laws.proofs.Tests.{by-fail, and-i, and-l, and-r, and-false-r, not-i}
+use Rattle.laws.proofs.Tests.{by-fail, and-false-r, not-i}
 use Rattle.laws.proofs.Lists.{none?-i}
 use Rattle.laws.proofs.Count.{count-append, count-map, count-ext, count-zero}
 use Rattle.laws.proofs.Pairwise.{pairwise-nil, pairwise-cons, pairwise-mono}
-use Rattle.cell.specs.declared.Cell.{Cell}
 use Rattle.cell.specs.Limits.{cellLimit}
 use Rattle.model.specs.State.{Entry, isListed}
-use Rattle.model.specs.Phase.{Waiting, numberFrom, numberSections, numbered, waiting, sameInput, ahead, among}
-use Rattle.model.specs.Phase.{Phase, placeAfter, moved}
+use Rattle.model.specs.Phase.{Waiting, numberFrom, numberSections, numbered, waiting, ahead, among, Phase}
+use Rattle.model.specs.Phase.{placeAfter, moved}
 use Rattle.model.specs.Crossbar.{without}
 use Rattle.model.specs.Slackness.{relocate, relocated, otherNumber}
+use Rattle.model.proofs.WaitingOrder.{ahead-i, ahead-input, ahead-at}
 use Rattle.model.proofs.Bags.{mem-flatten, flatten-mem, keep-flatten}
 use Rattle.model.proofs.Sections.{flatten-map, count-flatten-one, pairwise-flatten}
 
@@ -56,9 +58,6 @@ pub numberFrom-entries : (at : ℕ) (es : List Entry) → map entryOf (numberFro
 unfolding numberFrom
 numberFrom-entries at [] = refl
 numberFrom-entries at (e ∷ es) = ap (λ r. e ∷ r) (numberFrom-entries (at + 1) es)
-
-pub length-numberFrom : (at : ℕ) (es : List Entry) → length (numberFrom at es) ≡ length es
-length-numberFrom at es = sym (length-map (numberFrom at es) entryOf) ∙ ap length (numberFrom-entries at es)
 
 -- entries that are made of the numbered ones get the same numbers
 pub numberFrom-map : (f : Waiting → Entry) (at : ℕ) (es : List Entry)
@@ -238,11 +237,11 @@ pub count-waiting : (q : Entry → Bool) (sections : List (List Entry))
     → count (λ w. q (entryOf w)) (waiting sections) ≡ count q (flatten sections)
 count-waiting q sections = sym (count-map q entryOf (waiting sections)) ∙ ap (count q) (waiting-cells sections)
 
--- and as many cells
-pub count-waiting-cells : (q : Cell → Bool) (sections : List (List Entry))
-    → count (λ w. q (w .cell)) (waiting sections) ≡ count q (map (λ e. e .cell) (flatten sections))
-count-waiting-cells q sections =
-    count-waiting (λ e. q (e .cell)) sections ∙ sym (count-map q (λ e. e .cell) (flatten sections))
+-- and their cells are the same
+pub cells-waiting : (sections : List (List Entry))
+    → map (λ w. w .cell) (waiting sections) ≡ map (λ e. e .cell) (flatten sections)
+cells-waiting sections =
+    sym (map-map (λ e. e .cell) entryOf (waiting sections)) ∙ ap (map (λ e. e .cell)) (waiting-cells sections)
 
 ------------------------------------------------------------------------
 -- after a phase, after a departure
@@ -252,7 +251,8 @@ abbrev pub entryAfter : Phase → Waiting → Entry
 entryAfter p e = record { cell = e .cell; place = placeAfter p e }
 
 -- a phase relocates the waiting cells and does not reorder them
-pub waiting-moved : (p : Phase) (sections : List (List Entry)) → waiting (moved p sections) ≡ relocated p (waiting sections)
+pub waiting-moved : (p : Phase) (sections : List (List Entry))
+    → waiting (moved p sections) ≡ relocated p (waiting sections)
 unfolding waiting moved relocated relocate numbered
 waiting-moved p sections =
     ap flatten (numberSections-map (entryAfter p) 0 sections) ∙ flatten-map (relocate p) (numberSections 0 sections)
@@ -274,8 +274,7 @@ unfolding moved waiting
 moved-cells p sections =
     ap (map (λ e. e .cell)) (flatten-map (entryAfter p) (numbered sections))
     ∙ map-map (λ e. e .cell) (entryAfter p) (waiting sections)
-    ∙ sym (map-map (λ e. e .cell) entryOf (waiting sections))
-    ∙ ap (map (λ e. e .cell)) (waiting-cells sections)
+    ∙ cells-waiting sections
 
 -- departure keeps the entries whose number is not among those that leave
 pub flatten-without : (out : List Waiting) (sections : List (List Entry))
@@ -289,6 +288,13 @@ flatten-without out sections =
     stays : Waiting → Bool
     stays e = not (among out e)
 
+pub without-cells : (out : List Waiting) (sections : List (List Entry))
+    → map (λ e. e .cell) (flatten (without out sections))
+    ≡ map (λ w. w .cell) (keep (λ e. not (among out e)) (waiting sections))
+without-cells out sections =
+    ap (map (λ e. e .cell)) (flatten-without out sections)
+    ∙ map-map (λ e. e .cell) entryOf (keep (λ e. not (among out e)) (waiting sections))
+
 pub without-at : (out : List Waiting) (sections : List (List Entry)) (k : ℕ)
     → getD (without out sections) k []
     ≡ map entryOf (keep (λ e. not (among out e)) (numberFrom (cellLimit * k) (getD sections k [])))
@@ -299,7 +305,8 @@ without-at out sections k =
     stay : List Waiting → List Entry
     stay s = map entryOf (keep (λ e. not (among out e)) s)
 
-pub length-without : (out : List Waiting) (sections : List (List Entry)) → length (without out sections) ≡ length sections
+pub length-without : (out : List Waiting) (sections : List (List Entry))
+    → length (without out sections) ≡ length sections
 unfolding without
 length-without out sections =
     length-map (numbered sections) (λ s. map entryOf (keep (λ e. not (among out e)) s)) ∙ length-numbered sections
@@ -352,20 +359,8 @@ pub stands-input : (sections : List (List Entry)) → Housed sections → (w : W
     → w .cell .input ≡ s .input
 stands-input sections housed w s = housed (s .input) (entryOf w) (stands-entry sections w s)
 
-pub ahead-i : (v w : Waiting) → v .cell .input ≡ w .cell .input → v .at < w .at → ahead v w ≡ true
-unfolding ahead sameInput
-ahead-i v w i n = and-i (eqb (v .cell .input) (w .cell .input)) (ltb (v .at) (w .at)) (eq-eqb _ _ i) (lt-ltb _ _ n)
-
-pub ahead-input : (v w : Waiting) → ahead v w ≡ true → v .cell .input ≡ w .cell .input
-unfolding ahead sameInput
-ahead-input v w h = eqb-true _ _ (and-l (eqb (v .cell .input) (w .cell .input)) (ltb (v .at) (w .at)) h)
-
-pub ahead-number : (v w : Waiting) → ahead v w ≡ true → v .at < w .at
-unfolding ahead sameInput
-ahead-number v w h = ltb-true _ _ (and-r (eqb (v .cell .input) (w .cell .input)) (ltb (v .at) (w .at)) h)
-
-pub ahead-fail : (v w : Waiting) → (v .cell .input ≡ w .cell .input → v .at < w .at → ⊥) → ahead v w ≡ false
-ahead-fail v w h = by-fail (ahead v w) (λ a. h (ahead-input v w a) (ahead-number v w a))
+ahead-fail : (v w : Waiting) → (v .cell .input ≡ w .cell .input → v .at < w .at → ⊥) → ahead v w ≡ false
+ahead-fail v w h = by-fail (ahead v w) (λ a. h (ahead-input v w a) (ahead-at v w a))
 
 -- the listed cells ahead of a cell are those that stand before it in its section
 pub ahead-prefix : (sections : List (List Entry)) → Housed sections
@@ -419,7 +414,9 @@ ahead-prefix sections housed k pre e post split =
             ∙ and-true (isListed (f .place))
 
     back : _≡_ {A = ℕ} (count q (w ∷ numberFrom (from + length pre + 1) post)) 0
-    back = count-zero q (w ∷ numberFrom (from + length pre + 1) post) (none?-i q _ (λ f m. late f (List·Memᴰ·cases-cons m)))
+    back =
+        count-zero q (w ∷ numberFrom (from + length pre + 1) post)
+        (none?-i q (w ∷ numberFrom (from + length pre + 1) post) (λ f m. late f (List·Memᴰ·cases-cons m)))
       where
         fails : (f : Waiting) → from + length pre ≤ f .at → q f ≡ false
         fails f h =

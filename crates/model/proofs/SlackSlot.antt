@@ -1,0 +1,156 @@
+-- Slackness over a slot: none to spare in a fresh switch and between slots, and after the second phase two but one.
+--     fresh-slack        a fresh switch
+--     arrival-slack      arrival costs each cell at most one
+--     moved-slack        each phase gives each cell one
+--     arrived-slack, between-slack, settled-slack, run-slack    the stages of an accepted slot
+--     settled-best       so before departure the buffers hold the best cell of each output
+use Prim.Native.Nat.{ℕ, zero, suc, _+_, _≤_, _<_}
+use native.Mathlib.Omega.{arith}
+use mathlib.Core.Bool.{Bool, true, false}
+use mathlib.Core.Path.{_≡_, refl}
+use mathlib.Core.List.{List, [], _∷_, map, flatten, List·Memᴰ, List·Memᴰ·head, List·Memᴰ·tail, List·Memᴰ·not-nil}
+use mathlib.Core.Option.{none}
+use lib.Dec.{ltb, eqb}
+use lib.ListN.{length, getD, replicate}
+use Rattle.laws.specs.Lists.{all?, count, pairwise, update}
+use Rattle.cell.specs.declared.Arrival.{Arrival}
+use Rattle.cell.specs.declared.Cell.{Cell}
+use Rattle.cell.specs.Cell.{accepted, arrivalFits}
+use Rattle.cell.specs.Limits.{clockEnd}
+use Rattle.model.specs.State.{Entry, Switch, fresh, cells}
+use Rattle.model.specs.Checks.{firstFault}
+use Rattle.model.specs.Phase.{waiting, phase, moved}
+use Rattle.model.specs.Crossbar.{enter, arrive, Course, run}
+use Rattle.model.specs.Slackness.{Slack, Orderly}
+use Rattle.model.specs.Sound.{soundSections, sound}
+use Rattle.model.proofs.Bags.{flatten-mem, length-update, count-update}
+use Rattle.model.proofs.Enter.{count-enter}
+use Rattle.model.proofs.Numbering.{Housed, waiting-moved}
+use Rattle.model.proofs.PhaseSlack.{phase-slack}
+use Rattle.model.proofs.SameDeparture.{Best}
+use Rattle.model.proofs.SlackArrival.{FollowAll, enter-slack}
+use Rattle.model.proofs.SlackDeparture.{departure-slack, best-buffered}
+use Rattle.model.proofs.SlackSections.{behind-nil, threadAt, cushionAt, shields, SlackAt, slack-at, at-slack}
+use Rattle.model.proofs.SoundArrival.{Arrived, kept, entered, arrive-at, arrival-inputs, arrival-turns}
+use Rattle.model.proofs.SoundArrival.{arrival-follow-all}
+use Rattle.model.proofs.SoundLaws.{sound-e}
+use Rattle.model.proofs.SoundOrderly.{sound-housed, sound-orderly}
+use Rattle.model.proofs.SoundSlot.{arrived-sound, between-sound, settled-sound, settled-orderly, run-sound}
+
+------------------------------------------------------------------------
+-- a fresh switch
+
+empty-section : (n k : ℕ) → getD (replicate {A = List Entry} n []) k [] ≡ []
+empty-section zero k = refl
+empty-section (suc n) zero = refl
+empty-section (suc n) (suc k) = empty-section n k
+
+fresh-housed : (ports first : ℕ) → Housed (fresh ports first .sections)
+unfolding fresh
+fresh-housed ports first k e m = absurd (List·Memᴰ·not-nil (rw (empty-section ports k) at m))
+
+fresh-at : (ports first : ℕ) → SlackAt 0 0 (fresh ports first .sections)
+unfolding fresh
+fresh-at ports first k pre e s b = absurd (behind-nil (rw (empty-section ports k) at s))
+
+pub fresh-slack : (ports first : ℕ) → Slack 0 0 (waiting (fresh ports first .sections))
+fresh-slack ports first = at-slack (fresh ports first .sections) (fresh-housed ports first) 0 0 (fresh-at ports first)
+
+------------------------------------------------------------------------
+-- arrival
+
+-- nothing goes
+count-arrive : (p : Entry → Bool) (cs : List Cell) (sections : List (List Entry))
+    → ((c : Cell) → List·Memᴰ c cs → c .input < length sections)
+    → count p (flatten sections) ≤ count p (flatten (arrive cs sections))
+unfolding arrive
+count-arrive p [] sections within = omega arith
+count-arrive p (c ∷ cs) sections within =
+    omega (
+      arith,
+      count-arrive p cs (update (c .input) (enter c) sections)
+          (λ d m. rw (length-update (c .input) (enter c) sections) (within d (List·Memᴰ·tail m))),
+      count-update p (c .input) (enter c) sections (within c (List·Memᴰ·head refl)),
+      count-enter p c (getD sections (c .input) []),
+    )
+
+pub arrival-slack : (cs : List Cell) (sections : List (List Entry))
+    → ((c : Cell) → List·Memᴰ c cs → c .input < length sections)
+    → pairwise (λ c d. ltb (c .input) (d .input)) cs ≡ true → FollowAll (flatten sections) cs
+    → SlackAt 0 0 sections → SlackAt 0 1 (arrive cs sections)
+unfolding cushionAt
+arrival-slack cs sections within turns follow slack k pre e s b = go (arrive-at cs sections within turns k)
+  where
+    more : cushionAt sections e ≤ cushionAt (arrive cs sections) e
+    more = count-arrive (shields (e .cell)) cs sections within
+
+    go : Arrived cs sections k → threadAt pre e + 0 ≤ cushionAt (arrive cs sections) e + 1
+    go (kept q) = omega (arith, slack k pre e (rw q at s) b, more)
+    go (entered c m i q) =
+        omega (
+          arith,
+          enter-slack sections k c (λ d n. follow c m d (flatten-mem sections k n)) slack pre e (rw q at s) b,
+          more,
+        )
+
+------------------------------------------------------------------------
+-- the phases
+
+pub moved-slack : (sections : List (List Entry)) → Orderly (waiting sections) → (a b : ℕ) → Slack a b (waiting sections)
+    → Slack (suc a) b (waiting (moved (phase (waiting sections)) sections))
+moved-slack sections orderly a b slack =
+    rw (waiting-moved (phase (waiting sections)) sections) (phase-slack (waiting sections) orderly a b slack)
+
+------------------------------------------------------------------------
+-- a slot
+
+module _ (s : Switch) (records : List Arrival) (h : sound s ≡ true) (fits : all? arrivalFits records ≡ true)
+    (ticks : eqb (s .clock) clockEnd ≡ false)
+    (clear : firstFault (s .ports) (cells s) (map (accepted (s .clock)) records) ≡ none)
+    (slack : Slack 0 0 (waiting (s .sections))) where
+  abbrev course : Course
+  course = run s (map (accepted (s .clock)) records)
+
+  -- what soundness says of a stage
+  stage-housed : (sections : List (List Entry)) → soundSections (s .ports) (s .clock + 1) 0 sections ≡ true
+      → Housed sections
+  stage-housed = sound-housed (s .ports) (s .clock + 1)
+
+  stage-orderly : (sections : List (List Entry)) → soundSections (s .ports) (s .clock + 1) 0 sections ≡ true
+      → Orderly (waiting sections)
+  stage-orderly = sound-orderly (s .ports) (s .clock + 1)
+
+  pub arrived-slack : Slack 0 1 (waiting (course .arrived))
+  unfolding run
+  arrived-slack =
+      at-slack (course .arrived) (stage-housed (course .arrived) (arrived-sound s records h fits ticks clear)) 0 1
+      (arrival-slack (map (accepted (s .clock)) records) (s .sections) (arrival-inputs s records h clear)
+      (arrival-turns s records h clear) (arrival-follow-all s records h clear)
+      (slack-at (s .sections) (sound-housed (s .ports) (s .clock) (s .sections) (sound-e s h .sections)) 0 0 slack))
+
+  pub between-slack : Slack 1 1 (waiting (course .between))
+  unfolding run
+  between-slack =
+      moved-slack (course .arrived) (stage-orderly (course .arrived) (arrived-sound s records h fits ticks clear)) 0 1
+      arrived-slack
+
+  pub settled-slack : Slack 2 1 (waiting (course .settled))
+  unfolding run
+  settled-slack =
+      moved-slack (course .between) (stage-orderly (course .between) (between-sound s records h fits ticks clear)) 1 1
+      between-slack
+
+  -- every cell outside the buffers is beaten by a buffered one
+  pub settled-best : Best (waiting (course .settled))
+  settled-best = best-buffered (waiting (course .settled)) settled-slack
+
+  pub run-slack : Slack 0 0 (waiting (course .switch .sections))
+  unfolding run
+  run-slack =
+      let o = settled-orderly s records h fits ticks clear in
+      at-slack (course .switch .sections)
+      (stage-housed (course .switch .sections)
+      (sound-e (course .switch) (run-sound s records h fits ticks clear) .sections)) 0 0
+      (departure-slack (course .settled) (o .numbers) (o .arrivals)
+      (slack-at (course .settled) (stage-housed (course .settled) (settled-sound s records h fits ticks clear)) 2 1
+      settled-slack))
