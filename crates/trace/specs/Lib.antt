@@ -4,3 +4,4 @@ pub mod Flat
 pub mod Line
 pub mod Piece
 pub mod Reader
+pub mod Writing

@@ -1,6 +1,8 @@
 // The trace: one grammar, read and written here. What a line, a block and a whole text mean is in specs/.
 use cell::Refusal;
 
+pub mod writer;
+
 // The key of a line, in a trace or in what the player writes.
 pub enum Key {
     Ports,

@@ -1,0 +1,26 @@
+-- `trace::writer::line_length` meets its contract: a line has its key, its digits and a line feed.
+-- Assumes nothing.
+use borrow.Author.Needs.{needs}
+use native.Mathlib.Omega.{arith}
+use Rattle.trace.proofs.Digits.{length-decimal-le, length-keyText-le, length-line}
+use Rattle.trace.proofs.writer.line_length.Statement.{statement}
+use Rattle.trace.proofs.writer.line_length.Tie as tie
+
+key-length-requires : tie.Need-key-length-requires
+key-length-requires c κs = search needs
+
+digits-requires : tie.Need-digits-requires
+digits-requires c κs = search needs
+
+add-result : tie.Need-add-result
+add-result c = omega (arith, length-keyText-le (c .before .before .args .key), length-decimal-le (c .before .before .args .n))
+
+add-result-2 : tie.Need-add-result-2
+add-result-2 c = omega (arith, length-keyText-le (c .before .before .args .key), length-decimal-le (c .before .before .args .n))
+
+returns : tie.Need-returns
+returns c = omega (arith, length-line (c .before .before .args .key) (c .before .before .args .n))
+
+pub line-length-spec : {M : Type 1} → statement M
+line-length-spec =
+    tie.close (tie.spec key-length-requires digits-requires add-result add-result-2 returns)
