@@ -4,7 +4,8 @@
 --     alike        from any two switches so related
 --     demand-3     from fresh ones
 --     reachable-sound        every table reached from a fresh switch is sound
---     broken-only-by-length  refusal 2 never comes where the arrivals are whole records
+-- That refusal 2 never comes where the arrivals are whole records is `slot-not-broken` (CheckOrder); that cells in less
+-- cells out is the number waiting is `balance` (Balance).
 use Prim.Native.Nat.{ℕ}
 use mathlib.Core.Bool.{Bool, true, false}
 use mathlib.Core.List.{List, [], _∷_, map}
@@ -26,6 +27,7 @@ use Rattle.model.specs.Pifo.{Pifo, freshPifo, Sent, runPifo, slotPifo, p
 use Rattle.model.specs.Phase.{waiting}
 use Rattle.model.specs.Sound.{sound}
 use Rattle.model.specs.Slackness.{Slack}
+use Rattle.model.specs.Tally.{switchAfterAll}
 use Rattle.model.specs.Emulation.{lent, AnswersAlike, Within, Alike, Demand3}
 use Rattle.model.proofs.CourseLimits.{within-limits}
 use Rattle.model.proofs.Related.{Related, Settled, SameCall, both-refuse, both-run, arriving, related-fresh}
@@ -102,3 +104,20 @@ demand-3 ports first calls p f h =
       slack = fresh-slack ports first;
     })
     calls h
+
+------------------------------------------------------------------------
+-- corollaries
+
+after-all-sound : (s : Switch) (calls : List (Option (List Arrival))) → sound s ≡ true → all? lent calls ≡ true
+    → sound (switchAfterAll s calls) ≡ true
+unfolding switchAfterAll
+after-all-sound s [] h fits = h
+after-all-sound s (a ∷ calls) h fits =
+    let both = rw (all?-cons lent a calls) at fits in
+    after-all-sound (switchAfter s (slot s a)) calls (after-sound s a h (and-l (lent a) (all? lent calls) both))
+    (and-r (lent a) (all? lent calls) both)
+
+pub reachable-sound : (ports first : ℕ) (calls : List (Option (List Arrival))) → portsInRange ports ≡ true
+    → fits32 first ≡ true → all? lent calls ≡ true → sound (switchAfterAll (fresh ports first) calls) ≡ true
+reachable-sound ports first calls p f fits =
+    after-all-sound (fresh ports first) calls (sound-fresh ports first p f) fits

@@ -1,5 +1,6 @@
 pub mod Admitted
 pub mod Bags
+pub mod Balance
 pub mod CellOrder
 pub mod CheckOrder
 pub mod CourseLimits

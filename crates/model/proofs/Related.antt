@@ -43,7 +43,7 @@ pub record Related (s : Switch) (q : Pifo) : Type 0 where
 ------------------------------------------------------------------------
 -- fresh switches
 
-flatten-empty : {A : Type 0} (n : ℕ) → flatten {A = A} (replicate n []) ≡ []
+pub flatten-empty : {A : Type 0} (n : ℕ) → flatten {A = A} (replicate n []) ≡ []
 unfolding flatten
 flatten-empty zero = refl
 flatten-empty (suc n) = flatten-empty n

@@ -1,19 +1,24 @@
 -- Document 01, "Cells and their order": the tally, changed in place by each slot call.
 use Prim.Native.Nat.{ℕ, _+_, min}
 use mathlib.Core.Bool.{Bool, true, false}
-use mathlib.Core.List.{List}
+use mathlib.Core.List.{List, [], _∷_}
 use mathlib.Core.Option.{Option, none, some}
 use lib.ListN.{length}
 use Rattle.laws.specs.Lists.{count}
+use Rattle.cell.specs.declared.Arrival.{Arrival}
 use Rattle.cell.specs.declared.Cell.{Cell}
 use Rattle.model.specs.Checks.{Outcome, done, refused}
-use Rattle.model.specs.Crossbar.{Course}
+use Rattle.model.specs.Crossbar.{Course, slot, switchAfter}
+use Rattle.model.specs.State.{Switch}
 
 pub record Tally : Type 0 where
   pub run : ℕ
   pub refused : ℕ
   pub cellsIn : ℕ
   pub cellsOut : ℕ
+
+unfoldable pub noTally : Tally
+noTally = record { run = 0; refused = 0; cellsIn = 0; cellsOut = 0 }
 
 -- each count is 64 bits wide; a count at its top stays there
 abbrev pub countTop : ℕ
@@ -37,3 +42,17 @@ tallyAfter arrivals (done c) t =
     }
 tallyAfter arrivals (refused r place) t =
     record { run = t .run; refused = raise 1 (t .refused); cellsIn = t .cellsIn; cellsOut = t .cellsOut }
+
+unfoldable pub arrivalCount : Option (List Arrival) → ℕ
+arrivalCount none = 0
+arrivalCount (some records) = length records
+
+-- The switch and the tally after a list of slot calls, each call getting both as the last one left them.
+unfoldable pub switchAfterAll : Switch → List (Option (List Arrival)) → Switch
+switchAfterAll s [] = s
+switchAfterAll s (a ∷ calls) = switchAfterAll (switchAfter s (slot s a)) calls
+
+unfoldable pub tallyAfterAll : Switch → List (Option (List Arrival)) → Tally → Tally
+tallyAfterAll s [] t = t
+tallyAfterAll s (a ∷ calls) t =
+    tallyAfterAll (switchAfter s (slot s a)) calls (tallyAfter (arrivalCount a) (slot s a) t)

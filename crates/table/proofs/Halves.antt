@@ -1,12 +1,12 @@
 -- A number's bytes in two halves: what is read from the halves, and what stands after both have been written.
 use Prim.Native.Nat.{ℕ, zero, suc, _+_, _*_, _^_, _/_, _%_, _≤_, _<_}
-use mathlib.Core.Path.{_≡_, sym, _∙_, ap, ap₂}
+use mathlib.Core.Path.{_≡_, refl, sym, _∙_, ap, ap₂}
 use mathlib.Core.List.{List, [], _∷_, _++_, append-assoc}
 use native.Mathlib.Nat.{zero-add, one-mul, mul-assoc, pow-zero, pow-succ', add-assoc, suc-add}
 use native.Mathlib.Numerals.{add-one}
 use native.Mathlib.Omega.{arith}
 use lib.ListN.{length, take, drop, set, getD, length-append, length-drop}
-use lib.Seq.{take-at, drop-at, drop-drop, take-add, length-take-le, set-split, drop-cons}
+use lib.Seq.{take-at, drop-at, drop-drop, take-add, length-take-le, set-split}
 use Rattle.table.specs.Number.{bytesOf, numberOf, numberAt}
 use Rattle.table.proofs.Number.{length-bytesOf}
 
@@ -38,11 +38,12 @@ read-halves w at low high bs room first second =
     ap₂ (λ x y. x + 256 ^ w * y) first second ∙ sym (numberAt-halves w w at bs (omega arith))
 
 -- a byte is its number
-pub numberAt-byte : (at : ℕ) (bs : List ℕ) → at + 1 ≤ length bs → numberAt 1 at bs ≡ getD bs at 0
+pub numberAt-byte : (at : ℕ) (bs : List ℕ) → numberAt 1 at bs ≡ getD bs at 0
 unfolding numberAt numberOf
-numberAt-byte at bs room =
-    let here : at < length bs = omega arith in
-    rw (drop-cons bs at 0 here) (omega arith)
+numberAt-byte zero [] = refl
+numberAt-byte zero (b ∷ bs) = omega arith
+numberAt-byte (suc at) [] = refl
+numberAt-byte (suc at) (b ∷ bs) = numberAt-byte at bs
 
 ------------------------------------------------------------------------
 -- write

@@ -13,7 +13,7 @@ use Rattle.cell.specs.Refusal.{number}
 use Rattle.model.specs.State.{Switch}
 use Rattle.model.specs.Checks.{Outcome, done, refused}
 use Rattle.model.specs.Crossbar.{Course, answerOf, slot, start}
-use Rattle.model.specs.Tally.{tallyAfter}
+use Rattle.model.specs.Tally.{tallyAfter, arrivalCount}
 use Rattle.table.specs.Arrivals.{recordsOf}
 use Rattle.table.specs.Answer.{answerBytes, answerSize}
 use Rattle.table.specs.Table.{encode, decode, tableSize}
@@ -66,10 +66,6 @@ tableAfter table (refused r place) = table
 unfoldable pub answerAfter : List ℕ → Outcome Course → List ℕ
 answerAfter answer (done c) = filled (answerBytes (answerOf c)) answer
 answerAfter answer (refused r place) = answer
-
-unfoldable pub arrivalCount : Option (List Arrival) → ℕ
-arrivalCount none = 0
-arrivalCount (some records) = length records
 
 unfoldable pub tallyBytesAfter : List ℕ → List ℕ → Outcome Course → List ℕ
 tallyBytesAfter arrivals tally o =

@@ -36,7 +36,7 @@ returns c =
     let a = c .before .before .args in
     let bs = a .bytes .now in
     read-halves 1 (a .at) (getD bs (a .at) 0) (getD bs (a .at + 1) 0) bs (c .before .before .pre)
-    (sym (numberAt-byte (a .at) bs (omega arith))) (sym (numberAt-byte (a .at + 1) bs (omega arith)))
+    (sym (numberAt-byte (a .at) bs)) (sym (numberAt-byte (a .at + 1) bs))
 
 pub read-u16-spec : {M : Type 1} → statement M
 read-u16-spec =

@@ -1,0 +1,75 @@
+// The fields of the records of a table. The record k = 64 * input + position stands at byte 32 + 16 * k.
+// A caller shows that the bytes have a table's length and that there is such a record; the bytes may be any.
+use cell::Cell;
+ghost use mathlib.Core.Path.{_≡_};
+ghost use Prim.Native.Nat.{_+_, _*_, _<_};
+ghost use lib.ListN.{length};
+ghost use Rattle.table.specs.Table.{tableSize, placeOf};
+ghost use Rattle.table.specs.Entry.{entryAt};
+ghost use Rattle.table.specs.Records.{placeByteAt, recordStart};
+
+// The cell of a record.
+pub fn cell_of(bytes: &[u8], k: usize) -> Cell
+    requires { ⌜ (length (now bytes) ≡ tableSize) × (k < 1024) ⌝ }
+    ensures { λ r. ⌜ r ≡ entryAt (now (bytes .entry)) k .cell ⌝ }
+{
+    Cell {
+        input: (k / 64) as u32,
+        output: output_of(bytes, k) as u32,
+        flow: flow_of(bytes, k) as u32,
+        rank: rank_of(bytes, k),
+        tag: tag_of(bytes, k),
+        slot: slot_of(bytes, k),
+    }
+}
+
+pub fn output_of(bytes: &[u8], k: usize) -> u8
+    requires { ⌜ (length (now bytes) ≡ tableSize) × (k < 1024) ⌝ }
+    ensures { λ r. ⌜ r ≡ entryAt (now (bytes .entry)) k .cell .output ⌝ }
+{
+    bytes[start_of(k)]
+}
+
+pub fn flow_of(bytes: &[u8], k: usize) -> u8
+    requires { ⌜ (length (now bytes) ≡ tableSize) × (k < 1024) ⌝ }
+    ensures { λ r. ⌜ r ≡ entryAt (now (bytes .entry)) k .cell .flow ⌝ }
+{
+    bytes[start_of(k) + 1]
+}
+
+// The byte of the place: 1 in a list, 2 at a crosspoint, 3 in an output buffer.
+pub fn place_of(bytes: &[u8], k: usize) -> u8
+    requires { ⌜ (length (now bytes) ≡ tableSize) × (k < 1024) ⌝ }
+    ensures { λ r. ⌜ (r ≡ placeByteAt (now (bytes .entry)) k) × (placeOf r ≡ entryAt (now (bytes .entry)) k .place) ⌝ }
+{
+    bytes[start_of(k) + 2]
+}
+
+pub fn rank_of(bytes: &[u8], k: usize) -> u32
+    requires { ⌜ (length (now bytes) ≡ tableSize) × (k < 1024) ⌝ }
+    ensures { λ r. ⌜ r ≡ entryAt (now (bytes .entry)) k .cell .rank ⌝ }
+{
+    crate::word::read_u32(bytes, start_of(k) + 4)
+}
+
+pub fn tag_of(bytes: &[u8], k: usize) -> u32
+    requires { ⌜ (length (now bytes) ≡ tableSize) × (k < 1024) ⌝ }
+    ensures { λ r. ⌜ r ≡ entryAt (now (bytes .entry)) k .cell .tag ⌝ }
+{
+    crate::word::read_u32(bytes, start_of(k) + 8)
+}
+
+pub fn slot_of(bytes: &[u8], k: usize) -> u32
+    requires { ⌜ (length (now bytes) ≡ tableSize) × (k < 1024) ⌝ }
+    ensures { λ r. ⌜ r ≡ entryAt (now (bytes .entry)) k .cell .slot ⌝ }
+{
+    crate::word::read_u32(bytes, start_of(k) + 12)
+}
+
+// The first byte of a record.
+pub fn start_of(k: usize) -> usize
+    requires { ⌜ k < 1024 ⌝ }
+    ensures { λ r. ⌜ r ≡ recordStart k ⌝ }
+{
+    32 + 16 * k
+}
