@@ -1,3 +1,4 @@
 pub mod Choices
+pub mod Scan
 pub mod Sections
 pub mod View

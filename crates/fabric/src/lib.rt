@@ -1,1 +1,2 @@
-// Definitions only so far: how a slot's steps see the table, in specs/.
+// The steps of a slot on the table; how they see it is defined in specs/.
+pub mod choosing;

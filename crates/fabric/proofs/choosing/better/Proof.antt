@@ -1,0 +1,51 @@
+-- Each return is decided by one test.
+use mathlib.Core.Path.{sym}
+use Rattle.fabric.proofs.Best.{better-none, better-first, better-over, better-under}
+use borrow.Author.Needs.{needs}
+use Rattle.fabric.proofs.choosing.better.Statement.{statement}
+use Rattle.fabric.proofs.choosing.better.Tie as tie
+
+returns : tie.Need-returns
+returns c = sym (better-none _ _ _ (c .if1 .taken))
+
+returns-2 : tie.Need-returns-2
+returns-2 c = sym (better-first _ _ _ (c .before .if1 .left) (c .if2 .taken))
+
+wide-requires : tie.Need-wide-requires
+wide-requires c κs = search needs
+
+cell-of-requires : tie.Need-cell-of-requires
+cell-of-requires c κs = search needs
+
+wide-requires-2 : tie.Need-wide-requires-2
+wide-requires-2 c κs = search needs
+
+cell-of-requires-2 : tie.Need-cell-of-requires-2
+cell-of-requires-2 c κs = search needs
+
+over-requires : tie.Need-over-requires
+over-requires c κs = search needs
+
+returns-3 : tie.Need-returns-3
+returns-3 c =
+    let tests = c .before .before .before .before .before .before in
+    sym (better-over _ _ _ (tests .before .if1 .left) (tests .if2 .left) (cc))
+
+returns-4 : tie.Need-returns-4
+returns-4 c =
+    let tests = c .before .before .before .before .before .before in
+    sym (better-under _ _ _ (tests .before .if1 .left) (tests .if2 .left) (cc))
+
+pub better-spec : {M : Type 1} → statement M
+better-spec =
+    tie.close
+    (tie.spec
+    returns
+    returns-2
+    wide-requires
+    cell-of-requires
+    wide-requires-2
+    cell-of-requires-2
+    over-requires
+    returns-3
+    returns-4)
