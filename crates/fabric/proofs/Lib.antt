@@ -1,2 +1,3 @@
 pub mod Best
+pub mod Placed
 pub mod Window

@@ -24,7 +24,8 @@ use Rattle.model.specs.Phase.{Waiting, sameOutput, beats, among}
 use Rattle.model.specs.Crossbar.{leaving, departuresOf}
 use Rattle.model.specs.Slackness.{otherNumber, otherArrival}
 use Rattle.model.proofs.Bags.{SameBag, bag-trans, bag-of-path, bag-keep, bag-least, bag-passed, bag-first?, first?-map}
-use Rattle.model.proofs.CellOrder.{goesTo, beatsCell, beats-cell-trans, beats-cell-total, same-cell-refl, same-cell-path}
+use Rattle.model.proofs.WaitingOrder.{beats-trans, differ}
+use Rattle.model.proofs.CellOrder.{goesTo, beatsCell, beats-cell-total, same-cell-refl, same-cell-path}
 
 abbrev pub cellsOf : List Waiting → List Cell
 cellsOf w = map (λ e. e .cell) w
@@ -37,11 +38,6 @@ Best w = (e : Waiting) → List·Memᴰ e w → isBuffered (e .place) ≡ false
 beats-cells : (e f : Waiting) → beats e f ≡ beatsCell (e .cell) (f .cell)
 unfolding beats sameOutput beatsCell
 beats-cells e f = refl
-
-beats-trans : (e f g : Waiting) → beats e f ≡ true → beats f g ≡ true → beats e g ≡ true
-beats-trans e f g h k =
-    beats-cells e g
-    ∙ beats-cell-trans (e .cell) (f .cell) (g .cell) (sym (beats-cells e f) ∙ h) (sym (beats-cells f g) ∙ k)
 
 ------------------------------------------------------------------------
 -- what leaves
@@ -156,24 +152,13 @@ module _ (w : List Waiting) (best : Best w) where
           first?-map (λ e. e .cell) (keep (λ e. eqb (e .cell .output) o) (leaving w))
           ∙ ap first? (sym (keep-map (goesTo o) (λ e. e .cell) (leaving w)) ∙ ap (keep (goesTo o)) (leaving-cells w best))
 
-other-arrival : (e f : Waiting) → otherArrival e f ≡ true
-    → (e .cell .input ≢ f .cell .input) ⊎ (e .cell .slot ≢ f .cell .slot)
-unfolding otherArrival
-other-arrival e f h =
-    go (and-false-cases (eqb (e .cell .input) (f .cell .input)) (eqb (e .cell .slot) (f .cell .slot)) (not-e _ h))
-  where
-    go : (eqb (e .cell .input) (f .cell .input) ≡ false) ⊎ (eqb (e .cell .slot) (f .cell .slot) ≡ false)
-        → (e .cell .input ≢ f .cell .input) ⊎ (e .cell .slot ≢ f .cell .slot)
-    go (inl k) = inl (eqb-false (e .cell .input) (f .cell .input) k)
-    go (inr k) = inr (eqb-false (e .cell .slot) (f .cell .slot) k)
-
 -- where no two cells share input and slot, each output has one first cell
 module _ (w : List Waiting) (arrivals : pairwise otherArrival w ≡ true) where
   -- of two that differ in input or slot, one beats the other
   ordered : (e f : Waiting) → e .cell .output ≡ f .cell .output
       → List·Memᴰ (e .cell) (least beatsCell (cellsOf w)) → List·Memᴰ (f .cell) (least beatsCell (cellsOf w))
       → otherArrival e f ≡ true → ⊥
-  ordered e f h m k a = go (beats-cell-total (e .cell) (f .cell) h (other-arrival e f a))
+  ordered e f h m k a = go (beats-cell-total (e .cell) (f .cell) h (differ e f a))
     where
       go : (beatsCell (e .cell) (f .cell) ≡ true) ⊎ (beatsCell (f .cell) (e .cell) ≡ true) → ⊥
       go (inl b) = clash b (mem-least-first beatsCell (cellsOf w) k (mem-least-in beatsCell (cellsOf w) m))

@@ -29,25 +29,9 @@ use Rattle.model.proofs.Numbering.{entryOf, numberFrom-entries, section
 use Rattle.model.proofs.Numbering.{flatten-without}
 use Rattle.model.proofs.PhasePlaces.{listed-not-buffered}
 use Rattle.model.proofs.SameDeparture.{Best, same-number}
-use Rattle.model.proofs.WaitingOrder.{beats-i}
+use Rattle.model.proofs.WaitingOrder.{beats-i, differ}
 use Rattle.model.proofs.SlackSections.{Behind, here, there, behind-nil, listedIn, listedIn-cons, listedIn-fail}
 use Rattle.model.proofs.SlackSections.{cushionAt, SlackAt, shields, shields-output, thread-grows}
-
--- other arrivals differ in input or slot
-differ : (e f : Waiting) → otherArrival e f ≡ true
-    → (e .cell .input ≢ f .cell .input) ⊎ (e .cell .slot ≢ f .cell .slot)
-unfolding otherArrival
-differ e f h = go (and-false-cases i s (not-e (i && s) h))
-  where
-    i : Bool
-    i = eqb (e .cell .input) (f .cell .input)
-
-    s : Bool
-    s = eqb (e .cell .slot) (f .cell .slot)
-
-    go : (i ≡ false) ⊎ (s ≡ false) → (e .cell .input ≢ f .cell .input) ⊎ (e .cell .slot ≢ f .cell .slot)
-    go (inl a) = inl (eqb-false _ _ a)
-    go (inr a) = inr (eqb-false _ _ a)
 
 ------------------------------------------------------------------------
 -- the cells that leave

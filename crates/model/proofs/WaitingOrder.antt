@@ -117,7 +117,7 @@ among-i {e} m = some?-i (λ f. eqb (f .at) (e .at)) m (eq-eqb (e .at) (e .at) re
 -- in an orderly list
 
 -- other arrivals differ in input or slot
-differ : (e f : Waiting) → otherArrival e f ≡ true
+pub differ : (e f : Waiting) → otherArrival e f ≡ true
     → (e .cell .input ≢ f .cell .input) ⊎ (e .cell .slot ≢ f .cell .slot)
 unfolding otherArrival
 differ e f h = go (and-false-cases i s (not-e (i && s) h))

@@ -1,0 +1,152 @@
+-- The sections of a table whose places stand in a column.
+--     inTable-waiting      the waiting cells of the sections are those of the view
+--     decode-..            what the table of a state says of it
+--     sectionsPlaced-same  where the column has the table's own places, they are the sections of its state
+use Prim.Native.Nat.{ℕ, zero, suc, _+_, _*_, _-_, _/_, _≤_, _<_}
+use native.Mathlib.Omega.{arith}
+use mathlib.Core.Path.{_≡_, refl, sym, _∙_, ap, ap₂, fun-ext}
+use mathlib.Core.List.{List, [], _∷_, _++_, map, flatten}
+use mathlib.Core.Option.{some}
+use lib.ListN.{length, getD}
+use lib.Seq.{getD-drop}
+use Rattle.laws.specs.Lists.{numbersFrom, upTo}
+use Rattle.cell.specs.Limits.{cellLimit, portLimit}
+use Rattle.model.specs.State.{Entry, Switch}
+use Rattle.model.specs.Phase.{numberFrom, numberSections, numbered, waiting}
+use Rattle.model.proofs.SoundLaws.{sections-e}
+use Rattle.table.specs.Number.{bytesOf, word}
+use Rattle.table.specs.Table.{placeOf, countsBytes, sectionsBytes, encode, stateOf, decode}
+use Rattle.table.specs.Entry.{entryAt, portsIn, clockIn, countIn}
+use Rattle.table.specs.Records.{placeByteAt, between, entriesBetween, sectionAt}
+use Rattle.table.proofs.Table.{encode-counts, stateOf-encode, encode-decode, decode-sound, sound-ports, sound-sections}
+use Rattle.table.proofs.Records.{entryAt-place, stateOf-sections}
+use Rattle.fabric.specs.View.{waitingAt, window, inTable, InTable}
+use Rattle.fabric.specs.Sections.{entryPlaced, sectionPlaced, sectionsPlaced}
+
+------------------------------------------------------------------------
+-- a list made from numbers
+
+module _ {A : Type 0} (f : ℕ → A) where
+  pub length-numbers : (k n : ℕ) → length (map f (numbersFrom k n)) ≡ n
+  unfolding numbersFrom
+  length-numbers k zero = refl
+  length-numbers k (suc n) = ap suc (length-numbers (k + 1) n)
+
+  pub getD-numbers : (k n i : ℕ) (d : A) → i < n → getD (map f (numbersFrom k n)) i d ≡ f (k + i)
+  unfolding numbersFrom
+  getD-numbers k zero i d h = absurd (omega arith)
+  getD-numbers k (suc n) zero d h = ap f (omega arith)
+  getD-numbers k (suc n) (suc i) d h = getD-numbers (k + 1) n i d (omega arith) ∙ ap f (omega arith)
+
+pub map-numbers : {A : Type 0} (f g : ℕ → A) (k n : ℕ) → ((i : ℕ) → k ≤ i → i < k + n → f i ≡ g i)
+    → map f (numbersFrom k n) ≡ map g (numbersFrom k n)
+unfolding numbersFrom
+map-numbers f g k zero h = refl
+map-numbers f g k (suc n) h =
+    ap₂ _∷_ (h k (omega arith) (omega arith)) (map-numbers f g (k + 1) n (λ i low high. h i (omega arith) (omega arith)))
+
+------------------------------------------------------------------------
+-- the numbered entries
+
+numberFrom-placed : (table places : List ℕ) (k n : ℕ)
+    → numberFrom k (map (entryPlaced table places) (numbersFrom k n)) ≡ map (waitingAt table places) (numbersFrom k n)
+unfolding numberFrom numbersFrom entryPlaced waitingAt
+numberFrom-placed table places k zero = refl
+numberFrom-placed table places k (suc n) =
+    ap (λ r. waitingAt table places k ∷ r) (numberFrom-placed table places (k + 1) n)
+
+numberSections-map : (f : ℕ → List Entry) (input n : ℕ)
+    → numberSections input (map f (numbersFrom input n))
+    ≡ map (λ i. numberFrom (cellLimit * i) (f i)) (numbersFrom input n)
+unfolding numberSections numbersFrom
+numberSections-map f input zero = refl
+numberSections-map f input (suc n) =
+    ap (λ r. numberFrom (cellLimit * input) (f input) ∷ r) (numberSections-map f (input + 1) n)
+
+-- the waiting cells of the sections are those of the view
+pub inTable-waiting : (table places : List ℕ) → waiting (sectionsPlaced table places) ≡ inTable table places
+unfolding waiting numbered sectionsPlaced sectionPlaced inTable window upTo
+inTable-waiting table places =
+    ap flatten
+    (numberSections-map (sectionPlaced table places) 0 (portsIn table)
+    ∙ ap (λ f. map f (numbersFrom 0 (portsIn table)))
+    (fun-ext (λ i. numberFrom-placed table places (cellLimit * i) (countIn table i))))
+
+------------------------------------------------------------------------
+-- the records of a table
+
+-- the byte of a section's count
+countsBytes-at : (n : ℕ) (sections : List (List Entry)) (bs : List ℕ) (i : ℕ) → i < n
+    → length (getD sections i []) ≤ cellLimit → getD (countsBytes n sections ++ bs) i 0 ≡ length (getD sections i [])
+unfolding countsBytes bytesOf
+countsBytes-at zero sections bs i h few = absurd (omega arith)
+countsBytes-at (suc n) [] bs zero h few = refl
+countsBytes-at (suc n) [] bs (suc i) h few = countsBytes-at n [] bs i (omega arith) few
+countsBytes-at (suc n) (es ∷ sections) bs zero h few = omega arith
+countsBytes-at (suc n) (es ∷ sections) bs (suc i) h few = countsBytes-at n sections bs i (omega arith) few
+
+-- what the table of a state says of it
+module _ (table : List ℕ) (s : Switch) (e : decode table ≡ some s) where
+  state-same : stateOf table ≡ s
+  state-same = ap stateOf (sym (encode-decode table s e)) ∙ stateOf-encode s (decode-sound table s e)
+
+  pub decode-ports : portsIn table ≡ s .ports
+  unfolding portsIn stateOf
+  decode-ports = ap (λ t. t .ports) state-same
+
+  pub decode-clock : clockIn table ≡ s .clock
+  unfolding clockIn stateOf
+  decode-clock = ap (λ t. t .clock) state-same
+
+  pub decode-ports-few : portsIn table ≤ portLimit
+  decode-ports-few = omega (arith, decode-ports, sound-ports s (decode-sound table s e))
+
+  section-short : (i : ℕ) → length (getD (s .sections) i []) ≤ cellLimit
+  section-short i = sections-e (s .ports) (s .clock) (s .sections) (sound-sections s (decode-sound table s e)) i .short
+
+  pub decode-count : (i : ℕ) → i < portLimit → countIn table i ≡ length (getD (s .sections) i [])
+  unfolding countIn
+  decode-count i h =
+      ap (λ bs. getD bs (16 + i) 0) (sym (encode-decode table s e))
+      ∙ sym (getD-drop 16 (encode s) i 0)
+      ∙ ap (λ bs. getD bs i 0) (encode-counts s)
+      ∙ countsBytes-at portLimit (s .sections) (sectionsBytes portLimit (s .sections)) i h (section-short i)
+
+  pub decode-count-few : (i : ℕ) → i < portLimit → countIn table i ≤ cellLimit
+  decode-count-few i h = let few = section-short i in omega (arith, decode-count i h)
+
+  pub decode-sections : s .sections ≡ map (sectionAt table) (upTo (portsIn table))
+  unfolding portsIn
+  decode-sections =
+      let ports : word table 4 ≤ portLimit = decode-ports-few in
+      sym (ap (λ t. t .sections) state-same)
+      ∙ stateOf-sections table (λ i h. decode-count-few i (omega arith))
+
+  -- a number within a section is in the table
+  pub inTable-i : (i k : ℕ) → i < portsIn table → cellLimit * i ≤ k → k < cellLimit * i + countIn table i
+      → InTable table k
+  inTable-i i k h low high =
+      let ports : portsIn table ≤ portLimit = decode-ports-few in
+      let few : countIn table i ≤ 64 = decode-count-few i (omega arith) in
+      let own : k / 64 ≡ i = omega arith in
+      record { input = rw own h; position = rw own high }
+
+  -- where the column has the table's own places, the sections are those of its state
+  pub sectionsPlaced-same : (places : List ℕ) → ((k : ℕ) → InTable table k → getD places k 0 ≡ placeByteAt table k)
+      → sectionsPlaced table places ≡ s .sections
+  unfolding sectionsPlaced sectionPlaced entryPlaced upTo sectionAt entriesBetween between
+  sectionsPlaced-same places same =
+      map-numbers (sectionPlaced table places) (sectionAt table) 0 (portsIn table)
+      (λ i _ h.
+      let size : countIn table i ≡ cellLimit * i + countIn table i - cellLimit * i = omega arith in
+      map-numbers (entryPlaced table places) (entryAt table) (cellLimit * i) (countIn table i)
+      (λ k low high.
+      let place : placeOf (getD places k 0) ≡ entryAt table k .place =
+      ap placeOf (same k (inTable-i i k (omega arith) low high)) ∙ sym (entryAt-place table k) in
+      λ z. record { cell = entryAt table k .cell; place = place z })
+      ∙ ap (λ n. map (entryAt table) (numbersFrom (cellLimit * i) n)) size)
+      ∙ sym decode-sections
+
+  pub inTable-same : (places : List ℕ) → ((k : ℕ) → InTable table k → getD places k 0 ≡ placeByteAt table k)
+      → inTable table places ≡ waiting (s .sections)
+  inTable-same places same = sym (inTable-waiting table places) ∙ ap waiting (sectionsPlaced-same places same)
