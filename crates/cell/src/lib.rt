@@ -25,6 +25,14 @@ pub struct Arrival {
     pub tag: u32,
 }
 
+// What the caller counts: slots run, slots refused, cells in, cells out. A count at its top stays there.
+pub struct Tally {
+    pub run: u64,
+    pub refused: u64,
+    pub arrived: u64,
+    pub departed: u64,
+}
+
 // Why a call is turned back.
 pub enum Refusal {
     // bad size: the number of ports is not 1 to 16

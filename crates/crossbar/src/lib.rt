@@ -1,4 +1,6 @@
 // What the chassis host calls: numbers and byte slices, no call with a condition on what it is lent.
+mod tally;
+
 use cell::Refusal;
 use cell::Switch;
 ghost use mathlib.Core.Path.{_≡_};

@@ -30,7 +30,8 @@ use Rattle.model.specs.Phase.{Waiting, waiting, among, beats, sameOutput
 use Rattle.model.specs.Slackness.{Orderly, otherNumber}
 use Rattle.model.specs.Sound.{sound}
 use Rattle.model.specs.Emulation.{lent}
-use Rattle.model.specs.Tally.{Tally, noTally, countTop, raise, isSent, tallyAfter, arrivalCount, switchAfterAll, tallyAfterAll}
+use Rattle.cell.specs.declared.Tally.{Tally}
+use Rattle.model.specs.Tally.{noTally, countTop, raise, isSent, afterRun, afterRefused, tallyAfter, arrivalCount, switchAfterAll, tallyAfterAll}
 use Rattle.model.proofs.WaitingOrder.{among-i, among-e, beats-total, output-e}
 use Rattle.model.proofs.CheckOrder.{slot-broken}
 use Rattle.model.proofs.Related.{flatten-empty}
@@ -235,27 +236,27 @@ raise-rises by n h = record { up = omega arith; top = omega arith }
 rises-trans : {k m n : ℕ} → Rises k m → Rises m n → Rises k n
 rises-trans a b = record { up = let x = a .up in let y = b .up in omega arith; top = b .top }
 
-tally-in : (n : ℕ) (o : Outcome Course) (t : Tally) → t .cellsIn ≤ countTop → Rises (t .cellsIn) (tallyAfter n o t .cellsIn)
-unfolding tallyAfter
-tally-in n (done c) t h = raise-rises n (t .cellsIn) h
+tally-in : (n : ℕ) (o : Outcome Course) (t : Tally) → t .arrived ≤ countTop → Rises (t .arrived) (tallyAfter n o t .arrived)
+unfolding tallyAfter afterRun afterRefused
+tally-in n (done c) t h = raise-rises n (t .arrived) h
 tally-in n (refused r place) t h = record { up = omega arith; top = h }
 
-tally-out : (n : ℕ) (o : Outcome Course) (t : Tally) → t .cellsOut ≤ countTop
-    → Rises (t .cellsOut) (tallyAfter n o t .cellsOut)
-unfolding tallyAfter
-tally-out n (done c) t h = raise-rises (count isSent (c .departures)) (t .cellsOut) h
+tally-out : (n : ℕ) (o : Outcome Course) (t : Tally) → t .departed ≤ countTop
+    → Rises (t .departed) (tallyAfter n o t .departed)
+unfolding tallyAfter afterRun afterRefused
+tally-out n (done c) t h = raise-rises (count isSent (c .departures)) (t .departed) h
 tally-out n (refused r place) t h = record { up = omega arith; top = h }
 
-all-in : (s : Switch) (calls : List (Option (List Arrival))) (t : Tally) → t .cellsIn ≤ countTop
-    → Rises (t .cellsIn) (tallyAfterAll s calls t .cellsIn)
+all-in : (s : Switch) (calls : List (Option (List Arrival))) (t : Tally) → t .arrived ≤ countTop
+    → Rises (t .arrived) (tallyAfterAll s calls t .arrived)
 unfolding tallyAfterAll
 all-in s [] t h = record { up = omega arith; top = h }
 all-in s (a ∷ calls) t h =
     let r = tally-in (arrivalCount a) (slot s a) t h in
     rises-trans r (all-in (switchAfter s (slot s a)) calls (tallyAfter (arrivalCount a) (slot s a) t) (r .top))
 
-all-out : (s : Switch) (calls : List (Option (List Arrival))) (t : Tally) → t .cellsOut ≤ countTop
-    → Rises (t .cellsOut) (tallyAfterAll s calls t .cellsOut)
+all-out : (s : Switch) (calls : List (Option (List Arrival))) (t : Tally) → t .departed ≤ countTop
+    → Rises (t .departed) (tallyAfterAll s calls t .departed)
 unfolding tallyAfterAll
 all-out s [] t h = record { up = omega arith; top = h }
 all-out s (a ∷ calls) t h =
@@ -264,16 +265,16 @@ all-out s (a ∷ calls) t h =
 
 -- the tally's cells in less its cells out are those that wait
 abbrev Even : Switch → Tally → Type 0
-Even s t = t .cellsIn ≡ t .cellsOut + length (cells s)
+Even s t = t .arrived ≡ t .departed + length (cells s)
 
 -- What a call does to it: where the counts do not reach their tops, it is kept.
 abbrev Keeps : Switch → ℕ → Tally → Outcome Course → Type 0
 Keeps s n t o =
-    tallyAfter n o t .cellsIn < countTop → tallyAfter n o t .cellsOut < countTop → Even (switchAfter s o) (tallyAfter n o t)
+    tallyAfter n o t .arrived < countTop → tallyAfter n o t .departed < countTop → Even (switchAfter s o) (tallyAfter n o t)
 
 slot-even : (s : Switch) (a : Option (List Arrival)) (t : Tally) → sound s ≡ true → lent a ≡ true → Even s t
     → Keeps s (arrivalCount a) t (slot s a)
-unfolding tallyAfter switchAfter arrivalCount raise lent course
+unfolding tallyAfter afterRun afterRefused switchAfter arrivalCount raise lent course
 slot-even s none t h fits even = rw (slot-broken s) (λ i o. even)
 slot-even s (some records) t h fits even = go (called s records)
   where
@@ -282,8 +283,8 @@ slot-even s (some records) t h fits even = go (called s records)
     go (runs ticks clear e) = rw e (λ i o. omega (arith, run-balance s records h fits ticks clear))
 
 balanced : (s : Switch) (calls : List (Option (List Arrival))) (t : Tally) → sound s ≡ true → all? lent calls ≡ true
-    → Even s t → t .cellsIn ≤ countTop → t .cellsOut ≤ countTop
-    → tallyAfterAll s calls t .cellsIn < countTop → tallyAfterAll s calls t .cellsOut < countTop
+    → Even s t → t .arrived ≤ countTop → t .departed ≤ countTop
+    → tallyAfterAll s calls t .arrived < countTop → tallyAfterAll s calls t .departed < countTop
     → Even (switchAfterAll s calls) (tallyAfterAll s calls t)
 unfolding tallyAfterAll switchAfterAll
 balanced s [] t h fits even i o i′ o′ = even
@@ -306,10 +307,10 @@ fresh-cells ports first = ap (λ l. length (map (λ e. e .cell) l)) (flatten-emp
 
 pub balance : (ports first : ℕ) (calls : List (Option (List Arrival))) → portsInRange ports ≡ true → fits32 first ≡ true
     → all? lent calls ≡ true
-    → tallyAfterAll (fresh ports first) calls noTally .cellsIn < countTop
-    → tallyAfterAll (fresh ports first) calls noTally .cellsOut < countTop
-    → tallyAfterAll (fresh ports first) calls noTally .cellsIn
-    ≡ tallyAfterAll (fresh ports first) calls noTally .cellsOut + length (cells (switchAfterAll (fresh ports first) calls))
+    → tallyAfterAll (fresh ports first) calls noTally .arrived < countTop
+    → tallyAfterAll (fresh ports first) calls noTally .departed < countTop
+    → tallyAfterAll (fresh ports first) calls noTally .arrived
+    ≡ tallyAfterAll (fresh ports first) calls noTally .departed + length (cells (switchAfterAll (fresh ports first) calls))
 unfolding noTally
 balance ports first calls p f fits i o =
     balanced (fresh ports first) calls noTally (sound-fresh ports first p f) fits

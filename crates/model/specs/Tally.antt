@@ -7,18 +7,13 @@ use lib.ListN.{length}
 use Rattle.laws.specs.Lists.{count}
 use Rattle.cell.specs.declared.Arrival.{Arrival}
 use Rattle.cell.specs.declared.Cell.{Cell}
+use Rattle.cell.specs.declared.Tally.{Tally}
 use Rattle.model.specs.Checks.{Outcome, done, refused}
 use Rattle.model.specs.Crossbar.{Course, slot, switchAfter}
 use Rattle.model.specs.State.{Switch}
 
-pub record Tally : Type 0 where
-  pub run : ℕ
-  pub refused : ℕ
-  pub cellsIn : ℕ
-  pub cellsOut : ℕ
-
 unfoldable pub noTally : Tally
-noTally = record { run = 0; refused = 0; cellsIn = 0; cellsOut = 0 }
+noTally = record { run = 0; refused = 0; arrived = 0; departed = 0 }
 
 -- each count is 64 bits wide; a count at its top stays there
 abbrev pub countTop : ℕ
@@ -31,17 +26,24 @@ unfoldable pub isSent : Option Cell → Bool
 isSent none = false
 isSent (some c) = true
 
--- an accepted slot counts itself, its arrivals and its departures; a refused one only itself
-unfoldable pub tallyAfter : ℕ → Outcome Course → Tally → Tally
-tallyAfter arrivals (done c) t =
+-- an accepted slot counts itself, its arrivals and its departures
+unfoldable pub afterRun : ℕ → ℕ → Tally → Tally
+afterRun arrivals departures t =
     record {
       run = raise 1 (t .run);
       refused = t .refused;
-      cellsIn = raise arrivals (t .cellsIn);
-      cellsOut = raise (count isSent (c .departures)) (t .cellsOut);
+      arrived = raise arrivals (t .arrived);
+      departed = raise departures (t .departed);
     }
-tallyAfter arrivals (refused r place) t =
-    record { run = t .run; refused = raise 1 (t .refused); cellsIn = t .cellsIn; cellsOut = t .cellsOut }
+
+-- a refused one counts only itself
+unfoldable pub afterRefused : Tally → Tally
+afterRefused t =
+    record { run = t .run; refused = raise 1 (t .refused); arrived = t .arrived; departed = t .departed }
+
+unfoldable pub tallyAfter : ℕ → Outcome Course → Tally → Tally
+tallyAfter arrivals (done c) t = afterRun arrivals (count isSent (c .departures)) t
+tallyAfter arrivals (refused r place) t = afterRefused t
 
 unfoldable pub arrivalCount : Option (List Arrival) → ℕ
 arrivalCount none = 0

@@ -6,7 +6,8 @@ use mathlib.Core.List.{List}
 use native.Mathlib.Omega.{arith}
 use lib.Dec.{lit≤}
 use lib.ListN.{length, length-append}
-use Rattle.model.specs.Tally.{Tally, countTop}
+use Rattle.cell.specs.declared.Tally.{Tally}
+use Rattle.model.specs.Tally.{countTop}
 use Rattle.table.specs.Number.{bytesOf, numberAt, numberOf}
 use Rattle.table.specs.TallyBytes.{tallyBytes, tallyOf, tallySize}
 use Rattle.table.proofs.Number.{bytes?, bytes?-append, length-bytesOf, bytesOf-bytes, numberOf-bytesOf}
@@ -16,8 +17,8 @@ use Rattle.table.proofs.Number.{numberAt-below, bytesOf-at, bytesOf-las
 pub record TallyFits (t : Tally) : Type 0 where
   pub run : t .run ≤ countTop
   pub refused : t .refused ≤ countTop
-  pub cellsIn : t .cellsIn ≤ countTop
-  pub cellsOut : t .cellsOut ≤ countTop
+  pub arrived : t .arrived ≤ countTop
+  pub departed : t .departed ≤ countTop
 
 pub length-tallyBytes : (t : Tally) → length (tallyBytes t) ≡ tallySize
 unfolding tallyBytes
@@ -36,8 +37,8 @@ tallyOf-tallyBytes t h =
     λ k. record {
       run = numberOf-count (t .run) (h .run) k;
       refused = numberOf-count (t .refused) (h .refused) k;
-      cellsIn = numberOf-count (t .cellsIn) (h .cellsIn) k;
-      cellsOut = numberOf-count (t .cellsOut) (h .cellsOut) k;
+      arrived = numberOf-count (t .arrived) (h .arrived) k;
+      departed = numberOf-count (t .departed) (h .departed) k;
     }
 
 pub tallyBytes-tallyOf : (bs : List ℕ) → bytes? bs ≡ true → length bs ≡ tallySize → tallyBytes (tallyOf bs) ≡ bs
@@ -57,6 +58,6 @@ tallyOf-fits bs h size =
     record {
       run = count-fits bs 0 h (rw size (lit≤ tt));
       refused = count-fits bs 8 h (rw size (lit≤ tt));
-      cellsIn = count-fits bs 16 h (rw size (lit≤ tt));
-      cellsOut = count-fits bs 24 h (rw size (lit≤ tt));
+      arrived = count-fits bs 16 h (rw size (lit≤ tt));
+      departed = count-fits bs 24 h (rw size (lit≤ tt));
     }
