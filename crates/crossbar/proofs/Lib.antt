@@ -1,2 +1,3 @@
 pub mod Counts
+pub mod Demand3
 pub mod Fresh

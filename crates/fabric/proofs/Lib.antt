@@ -1,3 +1,12 @@
+pub mod Agreeing
 pub mod Best
+pub mod Bytes
+pub mod Output
 pub mod Placed
+pub mod Pulling
+pub mod Relocated
+pub mod Rounds
+pub mod Rows
+pub mod Rules
 pub mod Window
+pub mod Written

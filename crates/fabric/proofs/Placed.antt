@@ -2,25 +2,30 @@
 --     inTable-waiting      the waiting cells of the sections are those of the view
 --     decode-..            what the table of a state says of it
 --     sectionsPlaced-same  where the column has the table's own places, they are the sections of its state
-use Prim.Native.Nat.{ℕ, zero, suc, _+_, _*_, _-_, _/_, _≤_, _<_}
+use Prim.Native.Nat.{ℕ, zero, suc, _+_, _*_, _-_, _/_, _%_, _≤_, _<_}
 use native.Mathlib.Omega.{arith}
 use mathlib.Core.Path.{_≡_, refl, sym, _∙_, ap, ap₂, fun-ext}
-use mathlib.Core.List.{List, [], _∷_, _++_, map, flatten}
+use mathlib.Core.List.{List, [], _∷_, _++_, map, flatten, List·Memᴰ, Memᴰ·map}
 use mathlib.Core.Option.{some}
+use borrow.Author.Tests.{ltb-true}
 use lib.ListN.{length, getD}
 use lib.Seq.{getD-drop}
 use Rattle.laws.specs.Lists.{numbersFrom, upTo}
 use Rattle.cell.specs.Limits.{cellLimit, portLimit}
-use Rattle.model.specs.State.{Entry, Switch}
+use Rattle.model.specs.State.{Place, listed, crossed, buffered, Entry, Switch}
 use Rattle.model.specs.Phase.{numberFrom, numberSections, numbered, waiting}
-use Rattle.model.proofs.SoundLaws.{sections-e}
-use Rattle.table.specs.Number.{bytesOf, word}
-use Rattle.table.specs.Table.{placeOf, countsBytes, sectionsBytes, encode, stateOf, decode}
+use Rattle.model.proofs.SoundLaws.{SoundEntry, sections-e}
+use Rattle.table.specs.Number.{bytesOf, numberOf, numberAt, word}
+use Rattle.table.specs.Table.{placeByte, placeOf, entryBytes, countsBytes, sectionsBytes, encode, stateOf, decode}
 use Rattle.table.specs.Entry.{entryAt, portsIn, clockIn, countIn}
-use Rattle.table.specs.Records.{placeByteAt, between, entriesBetween, sectionAt}
-use Rattle.table.proofs.Table.{encode-counts, stateOf-encode, encode-decode, decode-sound, sound-ports, sound-sections}
+use Rattle.table.specs.Records.{recordAt, placeByteAt, between, entriesBetween, sectionAt}
+use Rattle.table.proofs.Table.{placeOf-placeByte, decode-length, encode-counts, stateOf-encode, encode-decode}
+use Rattle.table.proofs.Table.{decode-sound, sound-ports, sound-sections}
 use Rattle.table.proofs.Records.{entryAt-place, stateOf-sections}
 use Rattle.fabric.specs.View.{waitingAt, window, inTable, InTable}
+use Rattle.fabric.specs.Scan.{Readable}
+use Rattle.fabric.proofs.Bytes.{recordAt-encode}
+use Rattle.fabric.proofs.Window.{numbersFrom-i}
 use Rattle.fabric.specs.Sections.{entryPlaced, sectionPlaced, sectionsPlaced}
 
 ------------------------------------------------------------------------
@@ -43,7 +48,9 @@ pub map-numbers : {A : Type 0} (f g : ℕ → A) (k n : ℕ) → ((i : ℕ) → 
 unfolding numbersFrom
 map-numbers f g k zero h = refl
 map-numbers f g k (suc n) h =
-    ap₂ _∷_ (h k (omega arith) (omega arith)) (map-numbers f g (k + 1) n (λ i low high. h i (omega arith) (omega arith)))
+    ap₂ _∷_
+    (h k (omega arith) (omega arith))
+    (map-numbers f g (k + 1) n (λ i low high. h i (omega arith) (omega arith)))
 
 ------------------------------------------------------------------------
 -- the numbered entries
@@ -85,6 +92,21 @@ countsBytes-at (suc n) [] bs (suc i) h few = countsBytes-at n [] bs i (omega ari
 countsBytes-at (suc n) (es ∷ sections) bs zero h few = omega arith
 countsBytes-at (suc n) (es ∷ sections) bs (suc i) h few = countsBytes-at n sections bs i (omega arith) few
 
+-- the place among the bytes of an entry
+entryBytes-place : (x : Entry) → numberAt 1 2 (entryBytes x) ≡ placeByte (x .place)
+unfolding entryBytes bytesOf numberAt numberOf placeByte
+entryBytes-place x = go (x .place)
+  where
+    go : (p : Place) → placeByte p % 256 + 0 ≡ placeByte p
+    go listed = refl
+    go crossed = refl
+    go buffered = refl
+
+placeByteAt-entry : (table : List ℕ) (k : ℕ) (x : Entry) → recordAt table k ≡ entryBytes x
+    → placeByteAt table k ≡ placeByte (x .place)
+unfolding placeByteAt
+placeByteAt-entry table k x h = ap (numberAt 1 2) h ∙ entryBytes-place x
+
 -- what the table of a state says of it
 module _ (table : List ℕ) (s : Switch) (e : decode table ≡ some s) where
   state-same : stateOf table ≡ s
@@ -123,13 +145,63 @@ module _ (table : List ℕ) (s : Switch) (e : decode table ≡ some s) where
       ∙ stateOf-sections table (λ i h. decode-count-few i (omega arith))
 
   -- a number within a section is in the table
-  pub inTable-i : (i k : ℕ) → i < portsIn table → cellLimit * i ≤ k → k < cellLimit * i + countIn table i
+  pub inTable-number : (i k : ℕ) → i < portsIn table → cellLimit * i ≤ k → k < cellLimit * i + countIn table i
       → InTable table k
-  inTable-i i k h low high =
+  inTable-number i k h low high =
       let ports : portsIn table ≤ portLimit = decode-ports-few in
       let few : countIn table i ≤ 64 = decode-count-few i (omega arith) in
       let own : k / 64 ≡ i = omega arith in
       record { input = rw own h; position = rw own high }
+
+  -- the entry with a number of the table
+  module _ (k : ℕ) (t : InTable table k) where
+    own-port : k / cellLimit < portLimit
+    own-port = omega (arith, t .input, decode-ports-few)
+
+    own-section : getD (s .sections) (k / cellLimit) [] ≡ sectionAt table (k / cellLimit)
+    unfolding upTo
+    own-section =
+        let at : 0 + k / cellLimit ≡ k / cellLimit = omega arith in
+        ap (λ l. getD l (k / cellLimit) []) decode-sections
+        ∙ getD-numbers (sectionAt table) 0 (portsIn table) (k / cellLimit) [] (t .input)
+        ∙ ap (sectionAt table) at
+
+    -- it is sound
+    pub decode-entry : SoundEntry (s .ports) (s .clock) (k / cellLimit) (entryAt table k)
+    unfolding sectionAt entriesBetween between
+    decode-entry =
+        let first : ℕ = cellLimit * (k / cellLimit) in
+        let count : ℕ = first + countIn table (k / cellLimit) - first in
+        let low : first ≤ k = omega arith in
+        let high : k < first + count = omega (arith, t .position) in
+        let mem : List·Memᴰ (entryAt table k) (getD (s .sections) (k / cellLimit) []) =
+        rw own-section (Memᴰ·map (entryAt table) (numbersFrom-i first count low high)) in
+        sections-e (s .ports) (s .clock) (s .sections) (sound-sections s (decode-sound table s e)) (k / cellLimit)
+        .entries (entryAt table k) mem
+
+    -- and the byte of its place is that of its place
+    pub decode-place : placeByteAt table k ≡ placeByte (entryAt table k .place)
+    decode-place =
+        let i : ℕ = k / cellLimit in
+        let j : ℕ = k - cellLimit * i in
+        let whole : k ≡ cellLimit * i + j = omega arith in
+        let within : j < length (getD (s .sections) i []) = omega (arith, t .position, decode-count i own-port) in
+        let x : Entry = getD (getD (s .sections) i []) j (entryAt table k) in
+        let bytes : recordAt table k ≡ entryBytes x =
+        ap₂ recordAt (sym (encode-decode table s e)) whole
+        ∙ recordAt-encode s i section-short own-port j (entryAt table k) within in
+        let byte : placeByteAt table k ≡ placeByte (x .place) = placeByteAt-entry table k x bytes in
+        byte ∙ ap placeByte (sym (entryAt-place table k ∙ ap placeOf byte ∙ placeOf-placeByte (x .place)))
+
+  pub decode-readable : Readable table
+  decode-readable =
+      record {
+        size = decode-length table s e;
+        ports = decode-ports-few;
+        counts = decode-count-few;
+        outputs = λ k t. rw decode-ports (decode-entry k t .output);
+        flows = λ k t. ltb-true _ _ (decode-entry k t .flow);
+      }
 
   -- where the column has the table's own places, the sections are those of its state
   pub sectionsPlaced-same : (places : List ℕ) → ((k : ℕ) → InTable table k → getD places k 0 ≡ placeByteAt table k)
@@ -142,7 +214,7 @@ module _ (table : List ℕ) (s : Switch) (e : decode table ≡ some s) where
       map-numbers (entryPlaced table places) (entryAt table) (cellLimit * i) (countIn table i)
       (λ k low high.
       let place : placeOf (getD places k 0) ≡ entryAt table k .place =
-      ap placeOf (same k (inTable-i i k (omega arith) low high)) ∙ sym (entryAt-place table k) in
+      ap placeOf (same k (inTable-number i k (omega arith) low high)) ∙ sym (entryAt-place table k) in
       λ z. record { cell = entryAt table k .cell; place = place z })
       ∙ ap (λ n. map (entryAt table) (numbersFrom (cellLimit * i) n)) size)
       ∙ sym decode-sections

@@ -1,4 +1,6 @@
 pub mod Choices
+pub mod Loading
+pub mod Moves
 pub mod Scan
 pub mod Sections
 pub mod View

@@ -1,2 +1,4 @@
 // The steps of a slot on the table; how they see it is defined in specs/.
 pub mod choosing;
+pub mod loading;
+pub mod moving;

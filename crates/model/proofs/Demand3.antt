@@ -95,15 +95,18 @@ alike s q kept (a ∷ calls) h =
     let t = step s q kept a (and-l (lent a) (all? lent calls) both) in
     (t .answers, t .limits, alike _ _ (t .kept) calls (and-r (lent a) (all? lent calls) both))
 
-pub demand-3 : Demand3
-demand-3 ports first calls p f h =
-    alike (fresh ports first) (freshPifo ports first)
-    (record {
+pub kept-fresh : (ports first : ℕ) → portsInRange ports ≡ true → fits32 first ≡ true
+    → Kept (fresh ports first) (freshPifo ports first)
+kept-fresh ports first p f =
+    record {
       related = related-fresh ports first;
       table = sound-fresh ports first p f;
       slack = fresh-slack ports first;
-    })
-    calls h
+    }
+
+pub demand-3 : Demand3
+demand-3 ports first calls p f h =
+    alike (fresh ports first) (freshPifo ports first) (kept-fresh ports first p f) calls h
 
 ------------------------------------------------------------------------
 -- corollaries

@@ -13,6 +13,7 @@ use lib.Seq.{take-at, drop-at, length-take-le}
 use Rattle.laws.specs.Lists.{all?}
 use Rattle.laws.proofs.Tests.{and-i, and-l, and-r}
 use Rattle.cell.specs.declared.Arrival.{Arrival}
+use Rattle.cell.specs.Cell.{arrivalFits}
 use Rattle.cell.specs.Limits.{fits32}
 use Rattle.table.specs.Number.{bytesOf, numberAt, word}
 use Rattle.table.specs.Arrivals.{arrivalSize, arrivalBytes, arrivalOf, arrivalsBytes, arrivalsOf, recordsOf}
@@ -21,11 +22,6 @@ use Rattle.table.proofs.Number.{numberOf-word, bytesOf-at, bytesOf-last
 
 ------------------------------------------------------------------------
 -- one record
-
--- each of its five numbers has 32 bits
-unfoldable pub arrivalFits : Arrival → Bool
-arrivalFits a =
-    fits32 (a .input) && (fits32 (a .output) && (fits32 (a .flow) && (fits32 (a .rank) && fits32 (a .tag))))
 
 pub length-arrivalBytes : (a : Arrival) → length (arrivalBytes a) ≡ arrivalSize
 unfolding arrivalBytes

@@ -4,4 +4,5 @@ pub mod Flat
 pub mod Line
 pub mod Piece
 pub mod Reader
+pub mod Reading
 pub mod Writing

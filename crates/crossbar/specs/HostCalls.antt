@@ -1,0 +1,66 @@
+-- Demand 3 on the bytes: for every list of slot calls of the host, from the table that start gives, the crossbar answers as
+-- the PIFO switch does. The table's bytes are handed from call to call; each call lends any arrivals, any buffer that an
+-- answer fits into, and any tally.
+use Prim.Native.Nat.{ℕ, _≤_}
+use mathlib.Core.Bool.{Bool, true, false, _&&_}
+use mathlib.Core.List.{List, [], _∷_}
+use mathlib.Core.Option.{Option, some}
+use mathlib.Core.Path.{_≡_}
+use lib.Dec.{ltb, leb, eqb}
+use lib.ListN.{length, take}
+use Rattle.laws.specs.Lists.{all?}
+use Rattle.cell.specs.Limits.{portLimit, portsInRange, fits32}
+use Rattle.model.specs.Checks.{Outcome, done, refused}
+use Rattle.model.specs.Crossbar.{Course}
+use Rattle.model.specs.Emulation.{Within, SameWaiting}
+use Rattle.model.specs.Pifo.{Pifo, freshPifo, Sent, slotPifo, pifoAfter}
+use Rattle.model.specs.State.{Switch}
+use Rattle.table.specs.Answer.{departuresBytes, answerSize}
+use Rattle.table.specs.Arrivals.{recordsOf}
+use Rattle.table.specs.Host.{startCall, bufferAfter, slotCall, tableAfter, answerAfter}
+use Rattle.table.specs.Table.{decode, tableSize}
+use Rattle.table.specs.TallyBytes.{tallySize}
+
+-- What a slot call is lent besides the table.
+pub record Call : Type 0 where
+  pub arrivals : List ℕ
+  pub answer : List ℕ
+  pub tally : List ℕ
+
+-- any bytes as arrivals, also no whole number of records; a buffer of sufficient length with any contents; any 32 bytes
+unfoldable pub lendable : Call → Bool
+lendable c =
+    all? (λ b. ltb b 256) (c .arrivals) && (leb answerSize (length (c .answer)) && eqb (length (c .tally)) tallySize)
+
+abbrev pub outcome : List ℕ → Call → Outcome Course
+outcome table c = slotCall table (c .arrivals) (c .answer) (c .tally)
+
+abbrev pub shadow : Pifo → Call → Outcome Sent
+shadow q c = slotPifo q (recordsOf (c .arrivals))
+
+-- the answer's bytes hold for each output the cell that the PIFO switch sends, or none exactly where it sends none; or both
+-- refuse, with the same number and the same place, and the buffer is kept
+abbrev pub AnswersAlike : List ℕ → Outcome Course → Outcome Sent → Type 0
+AnswersAlike answer (done c) (done d) =
+    take 448 (answerAfter answer (done c)) ≡ departuresBytes portLimit (d .departures)
+AnswersAlike answer (done c) (refused r place) = ⊥
+AnswersAlike answer (refused r place) (done d) = ⊥
+AnswersAlike answer (refused r place) (refused r′ place′) =
+    (r ≡ r′) × (place ≡ place′) × (answerAfter answer (refused r place) ≡ answer)
+
+-- after the list the table is that of a state in which the same cells wait as in the PIFO switch
+abbrev pub SameState : List ℕ → Pifo → Type 0
+SameState table q = (s : Switch) × (decode table ≡ some s) × SameWaiting s q
+
+-- call by call both answer alike, all along the limits are kept
+abbrev pub Alike : List ℕ → Pifo → List Call → Type 0
+Alike table q [] = SameState table q
+Alike table q (c ∷ calls) =
+    AnswersAlike (c .answer) (outcome table c) (shadow q c)
+    × Within (outcome table c)
+    × Alike (tableAfter table (outcome table c)) (pifoAfter q (shadow q c)) calls
+
+abbrev pub Demand3 : Type 0
+Demand3 = (ports first : ℕ) (buffer : List ℕ) (calls : List Call)
+    → portsInRange ports ≡ true → fits32 first ≡ true → tableSize ≤ length buffer → all? lendable calls ≡ true
+    → Alike (take tableSize (bufferAfter buffer (startCall ports first buffer))) (freshPifo ports first) calls

@@ -1,0 +1,6 @@
+pub mod Answers
+pub mod Arrivals
+pub mod Lines
+pub mod Marks
+pub mod Numbers
+pub mod Records
