@@ -2,3 +2,8 @@ pub mod Proposed
 pub mod Refusing
 pub mod Rounds
 pub mod Matching
+pub mod Renaming
+pub mod Positions
+pub mod Left
+pub mod Asking
+pub mod Found

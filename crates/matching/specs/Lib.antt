@@ -1,2 +1,5 @@
 pub mod Matching
 pub mod Stable
+pub mod Positions
+pub mod Found
+pub mod Asking
