@@ -1,0 +1,192 @@
+//! Safe calls of the crossbar. The layouts are in docs/LAYOUT.md, every promise in include/crossbar.h.
+
+pub const PORTS: usize = 16;
+pub const TABLE_BYTES: usize = 16416;
+pub const ARRIVAL_BYTES: usize = 20;
+pub const DEPARTURE_BYTES: usize = 28;
+pub const ANSWER_BYTES: usize = 456;
+pub const TALLY_BYTES: usize = 32;
+
+mod raw {
+    extern "C" {
+        pub fn start(ports: u32, first: u32, table: *mut u8, table_bytes: usize) -> u32;
+        pub fn check(table: *const u8, table_bytes: usize) -> u32;
+        pub fn slot(
+            table: *mut u8,
+            table_bytes: usize,
+            arrivals: *const u8,
+            arrivals_bytes: usize,
+            answer: *mut u8,
+            answer_bytes: usize,
+            tally: *mut u8,
+            tally_bytes: usize,
+        ) -> u64;
+    }
+}
+
+/// The three calls on byte slices, as the host has them.
+pub fn start_bytes(ports: u32, first: u32, table: &mut [u8]) -> u32 {
+    unsafe { raw::start(ports, first, table.as_mut_ptr(), table.len()) }
+}
+
+pub fn check_bytes(table: &[u8]) -> u32 {
+    unsafe { raw::check(table.as_ptr(), table.len()) }
+}
+
+pub fn slot_bytes(table: &mut [u8], arrivals: &[u8], answer: &mut [u8], tally: &mut [u8]) -> u64 {
+    unsafe {
+        raw::slot(
+            table.as_mut_ptr(),
+            table.len(),
+            arrivals.as_ptr(),
+            arrivals.len(),
+            answer.as_mut_ptr(),
+            answer.len(),
+            tally.as_mut_ptr(),
+            tally.len(),
+        )
+    }
+}
+
+/// Why a call was turned back.
+#[derive(Clone, Copy, Debug, PartialEq, Eq)]
+pub enum Refusal {
+    BadSize,
+    BrokenTable,
+    ClockEnd,
+    NoSuchPort,
+    NoSuchFlow,
+    InputOrder,
+    RankOrder,
+    Full,
+    BadLine,
+    ShortBuffer,
+}
+
+impl Refusal {
+    pub fn number(self) -> u32 {
+        self as u32 + 1
+    }
+
+    fn from_number(n: u32) -> Refusal {
+        use Refusal::*;
+        [BadSize, BrokenTable, ClockEnd, NoSuchPort, NoSuchFlow, InputOrder, RankOrder, Full, BadLine, ShortBuffer]
+            [n as usize - 1]
+    }
+}
+
+/// A refused slot: why, and the record's place, from 1; 0 where no record is named.
+#[derive(Clone, Copy, Debug, PartialEq, Eq)]
+pub struct Refused {
+    pub refusal: Refusal,
+    pub place: u32,
+}
+
+#[derive(Clone, Copy, Debug, PartialEq, Eq)]
+pub struct Arrival {
+    pub input: u32,
+    pub output: u32,
+    pub flow: u32,
+    pub rank: u32,
+    pub tag: u32,
+}
+
+impl Arrival {
+    pub fn bytes(&self) -> [u8; ARRIVAL_BYTES] {
+        let mut out = [0; ARRIVAL_BYTES];
+        for (at, n) in [self.input, self.output, self.flow, self.rank, self.tag].iter().enumerate() {
+            out[4 * at..4 * at + 4].copy_from_slice(&n.to_le_bytes());
+        }
+        out
+    }
+}
+
+#[derive(Clone, Copy, Debug, PartialEq, Eq)]
+pub struct Cell {
+    pub input: u32,
+    pub output: u32,
+    pub flow: u32,
+    pub rank: u32,
+    pub tag: u32,
+    pub slot: u32,
+}
+
+/// For each output the cell that it sends, and the proposals of both phases.
+#[derive(Clone, Debug, PartialEq, Eq)]
+pub struct Answer {
+    pub departures: Vec<Option<Cell>>,
+    pub proposals: [u32; 2],
+}
+
+#[derive(Clone, Copy, Debug, Default, PartialEq, Eq)]
+pub struct Tally {
+    pub slots_run: u64,
+    pub slots_refused: u64,
+    pub cells_in: u64,
+    pub cells_out: u64,
+}
+
+/// A switch: its table, and the tally of its calls.
+pub struct Switch {
+    table: Vec<u8>,
+    tally: [u8; TALLY_BYTES],
+}
+
+impl Switch {
+    /// A fresh switch of 1 to 16 ports.
+    pub fn start(ports: u32, first: u32) -> Result<Switch, Refusal> {
+        let mut table = vec![0; TABLE_BYTES];
+        match start_bytes(ports, first, &mut table) {
+            0 => Ok(Switch { table, tally: [0; TALLY_BYTES] }),
+            n => Err(Refusal::from_number(n)),
+        }
+    }
+
+    /// The switch of a table that was kept, if it is sound.
+    pub fn from_table(table: Vec<u8>) -> Result<Switch, Refusal> {
+        match check_bytes(&table) {
+            0 => Ok(Switch { table, tally: [0; TALLY_BYTES] }),
+            n => Err(Refusal::from_number(n)),
+        }
+    }
+
+    pub fn table(&self) -> &[u8] {
+        &self.table
+    }
+
+    pub fn ports(&self) -> usize {
+        word(&self.table, 4) as usize
+    }
+
+    pub fn clock(&self) -> u32 {
+        word(&self.table, 8)
+    }
+
+    pub fn tally(&self) -> Tally {
+        let count = |at: usize| u64::from_le_bytes(self.tally[at..at + 8].try_into().unwrap());
+        Tally { slots_run: count(0), slots_refused: count(8), cells_in: count(16), cells_out: count(24) }
+    }
+
+    /// Runs one slot. A refused one changes only the tally.
+    pub fn slot(&mut self, arrivals: &[Arrival]) -> Result<Answer, Refused> {
+        let lent: Vec<u8> = arrivals.iter().flat_map(|a| a.bytes()).collect();
+        let mut answer = [0; ANSWER_BYTES];
+        match slot_bytes(&mut self.table, &lent, &mut answer, &mut self.tally) {
+            0 => Ok(read_answer(&answer, self.ports())),
+            r => Err(Refused { refusal: Refusal::from_number((r % 256) as u32), place: (r / 256) as u32 }),
+        }
+    }
+}
+
+fn word(bytes: &[u8], at: usize) -> u32 {
+    u32::from_le_bytes(bytes[at..at + 4].try_into().unwrap())
+}
+
+/// The answer of a switch of so many ports, from its bytes.
+pub fn read_answer(bytes: &[u8], ports: usize) -> Answer {
+    let departure = |output: usize| {
+        let at = |field: usize| word(bytes, DEPARTURE_BYTES * output + 4 * field);
+        (at(0) != 0).then(|| Cell { input: at(1), output: at(2), flow: at(3), rank: at(4), tag: at(5), slot: at(6) })
+    };
+    Answer { departures: (0..ports).map(departure).collect(), proposals: [word(bytes, 448), word(bytes, 452)] }
+}

@@ -1,0 +1,336 @@
+//! Long random lists of slot calls on the proved switch, every byte of table, answer and tally compared with the reference
+//! after every call, and the PIFO switch beside them where the list began with a fresh switch.
+//!
+//! SLOTS=n and SEED=n in the environment run longer or another list.
+
+mod reference;
+
+use crossbar_host::{check_bytes, slot_bytes, start_bytes, ANSWER_BYTES, TABLE_BYTES, TALLY_BYTES};
+use reference::{Answer, Cell, Crossbar, Entry, Pifo, Place, Record, CLOCK_END};
+
+struct Random(u64);
+
+impl Random {
+    fn next(&mut self) -> u64 {
+        self.0 ^= self.0 << 13;
+        self.0 ^= self.0 >> 7;
+        self.0 ^= self.0 << 17;
+        self.0
+    }
+
+    fn below(&mut self, n: u64) -> u64 {
+        (self.next() >> 11) % n
+    }
+
+    fn one_in(&mut self, n: u64) -> bool {
+        self.below(n) == 0
+    }
+
+    fn pick<T: Copy>(&mut self, from: &[T]) -> T {
+        from[self.below(from.len() as u64) as usize]
+    }
+
+    fn fill(&mut self, bytes: &mut [u8]) {
+        for b in bytes {
+            *b = self.next() as u8;
+        }
+    }
+}
+
+fn setting(name: &str, default: u64) -> u64 {
+    std::env::var(name).ok().map_or(default, |v| v.parse().expect("a number"))
+}
+
+fn bytes_of(records: &[Record]) -> Vec<u8> {
+    records.iter().flatten().flat_map(|n| n.to_le_bytes()).collect()
+}
+
+/// The answer's bytes, by docs/LAYOUT.md.
+fn answer_bytes(a: &Answer) -> Vec<u8> {
+    let mut out = vec![0; ANSWER_BYTES];
+    for (o, d) in a.departures.iter().enumerate() {
+        if let Some(c) = d {
+            for (k, n) in [1, c.input, c.output, c.flow, c.rank, c.tag, c.slot].iter().enumerate() {
+                out[28 * o + 4 * k..][..4].copy_from_slice(&n.to_le_bytes());
+            }
+        }
+    }
+    out[448..452].copy_from_slice(&a.proposals[0].to_le_bytes());
+    out[452..456].copy_from_slice(&a.proposals[1].to_le_bytes());
+    out
+}
+
+fn raised(tally: &mut [u8], counts: [u64; 4]) {
+    for (k, by) in counts.iter().enumerate() {
+        let at = &mut tally[8 * k..8 * k + 8];
+        let n = u64::from_le_bytes(at.try_into().unwrap());
+        at.copy_from_slice(&n.saturating_add(*by).to_le_bytes());
+    }
+}
+
+/// How a list of arrivals is drawn.
+struct Traffic {
+    outputs: u64,
+    flows: u64,
+    ranks: u64,
+    load: u64,
+    falling: bool,
+    faults: u64,
+}
+
+impl Traffic {
+    fn new(r: &mut Random, ports: u32) -> Traffic {
+        Traffic {
+            outputs: r.pick(&[1, 1, 2, 3, ports as u64]).min(ports as u64),
+            flows: r.pick(&[1, 2, 4, 8]),
+            ranks: r.pick(&[1, 2, 5, 20, 1000, 1 << 32]),
+            load: r.pick(&[5, 30, 60, 95]),
+            falling: r.one_in(2),
+            faults: r.pick(&[3, 30, 1000]),
+        }
+    }
+
+    fn records(&mut self, r: &mut Random, s: &Crossbar, cells: &[Cell]) -> Vec<Record> {
+        if r.one_in(12) {
+            self.load = r.pick(&[0, 5, 30, 60, 95, 100]);
+        }
+        let mut out = Vec::new();
+        for input in 0..s.ports as u64 {
+            if r.below(100) >= self.load {
+                continue;
+            }
+            let (output, mut flow) = (r.below(self.outputs), r.below(self.flows));
+            let mut rank = r.below(self.ranks);
+            if self.falling && output != 0 {
+                rank = (1u64 << 20).saturating_sub(10 * (s.clock as u64 & 0xffff)) + r.below(10);
+            }
+            let highest = |flow: u64| {
+                let same = |c: &&Cell| (c.input as u64, c.output as u64, c.flow as u64) == (input, output, flow);
+                cells.iter().filter(same).map(|c| c.rank as u64).max()
+            };
+            if highest(flow).is_some_and(|h| h > rank) {
+                match (0..8).find(|&f| highest(f).map_or(true, |h| h <= rank)) {
+                    Some(f) => flow = f,
+                    None => rank = highest(flow).unwrap(),
+                }
+            }
+            out.push([input as u32, output as u32, flow as u32, rank.min(u32::MAX as u64) as u32, r.next() as u32]);
+        }
+        if r.one_in(self.faults) {
+            self.spoil(r, &mut out, s.ports);
+        }
+        out
+    }
+
+    fn spoil(&self, r: &mut Random, out: &mut Vec<Record>, ports: u32) {
+        if out.is_empty() {
+            out.push([r.below(20) as u32, r.below(20) as u32, r.below(10) as u32, 0, 0]);
+        }
+        let at = r.below(out.len() as u64) as usize;
+        match r.below(7) {
+            0 => out[at][0] = r.pick(&[ports, 16, u32::MAX]),
+            1 => out[at][1] = r.pick(&[ports, 16, u32::MAX]),
+            2 => out[at][2] = r.pick(&[8, 255, 256, u32::MAX]),
+            3 => out.insert(at, out[at]),
+            4 => out.reverse(),
+            5 => out[at][3] = 0,
+            _ => {
+                let more = r.below(40);
+                for _ in 0..more {
+                    out.push([r.below(ports as u64 + 1) as u32, 0, 0, 0, 0]);
+                }
+            }
+        }
+    }
+}
+
+/// A sound state with so many cells an input at most, not only those that a fresh switch can reach.
+fn any_state(r: &mut Random, ports: u32, most: u64) -> Crossbar {
+    let clock = r.pick(&[5000, 1 << 20, CLOCK_END, CLOCK_END - 1]);
+    let mut s = Crossbar::fresh(ports, clock);
+    let outputs = r.pick(&[1, 2, ports as u64]).min(ports as u64);
+    let ranks = r.pick(&[2, 10, 1 << 32]);
+    for input in 0..ports {
+        let size = r.below(most + 1) as usize;
+        let mut slot = r.below(100) as u32;
+        let mut crossed = [false; 16];
+        let mut used = [[false; 8]; 16];
+        let mut tries = 0;
+        while s.sections[input as usize].len() < size && tries < 500 {
+            tries += 1;
+            let (output, flow) = (r.below(outputs) as u32, r.below(8) as u32);
+            let mut rank = r.below(ranks) as u32;
+            let place = r.pick(&[Place::List, Place::List, Place::Crosspoint, Place::Buffer]);
+            let mut run = 1;
+            match place {
+                Place::Crosspoint if crossed[output as usize] => continue,
+                Place::Crosspoint => crossed[output as usize] = true,
+                Place::List if used[output as usize][flow as usize] => continue,
+                Place::List => {
+                    used[output as usize][flow as usize] = true;
+                    run = 1 + r.below(3);
+                }
+                Place::Buffer => (),
+            }
+            for _ in 0..run {
+                if s.sections[input as usize].len() == size {
+                    break;
+                }
+                slot += 1 + r.below(40) as u32;
+                let cell = Cell { input, output, flow, rank, tag: r.next() as u32, slot };
+                s.sections[input as usize].push(Entry { cell, place });
+                rank = rank.saturating_add(r.below(2) as u32);
+            }
+        }
+        // Entries that are in no list may stand anywhere between.
+        for _ in 0..3 {
+            let section = &mut s.sections[input as usize];
+            if section.is_empty() {
+                continue;
+            }
+            let at = r.below(section.len() as u64) as usize;
+            if section[at].place != Place::List {
+                let e = section.remove(at);
+                let to = r.below(section.len() as u64 + 1) as usize;
+                section.insert(to, e);
+            }
+        }
+    }
+    s
+}
+
+/// One call on the proved switch and on the reference: results and every byte lent.
+fn call(r: &mut Random, table: &mut Vec<u8>, s: &mut Crossbar, records: &[Record], what: &str) -> Result<Answer, (u32, u32)> {
+    let mut arrivals = bytes_of(records);
+    let broken = r.one_in(97);
+    if broken {
+        let extra = 1 + r.below(19) as usize;
+        arrivals.extend(std::iter::repeat(7).take(extra));
+    }
+    let short = r.one_in(97);
+    let room = if short { r.below(ANSWER_BYTES as u64) as usize } else { ANSWER_BYTES + r.below(9) as usize };
+    let odd_tally = r.one_in(197);
+    let tally_size = if odd_tally { r.pick(&[0, 8, 31, 33, 64]) } else { TALLY_BYTES };
+    let mut answer = vec![0; room];
+    let mut tally = vec![0; tally_size];
+    r.fill(&mut answer);
+    r.fill(&mut tally);
+    if r.one_in(50) {
+        tally.iter_mut().for_each(|b| *b = 255);
+    }
+    let (mut want_answer, mut want_tally) = (answer.clone(), tally.clone());
+    let expected = if broken || odd_tally {
+        Err((2, 0))
+    } else if short {
+        Err((10, 0))
+    } else {
+        s.slot(records)
+    };
+    let want = match &expected {
+        Ok(a) => {
+            want_answer[..ANSWER_BYTES].copy_from_slice(&answer_bytes(a));
+            raised(&mut want_tally, [1, 0, records.len() as u64, a.departures.iter().flatten().count() as u64]);
+            0
+        }
+        Err((n, place)) => {
+            if !odd_tally {
+                raised(&mut want_tally, [0, 1, 0, 0]);
+            }
+            *n as u64 + 256 * *place as u64
+        }
+    };
+    let got = slot_bytes(table, &arrivals, &mut answer, &mut tally);
+    assert_eq!(got, want, "{what}: result for {records:?}");
+    assert!(*table == s.table(), "{what}: table after {records:?}");
+    assert!(answer == want_answer, "{what}: answer to {records:?}");
+    assert!(tally == want_tally, "{what}: tally after {records:?}");
+    expected
+}
+
+/// A damaged table is refused with 2 and kept.
+fn damaged(r: &mut Random, table: &[u8]) {
+    let mut t = table.to_vec();
+    match r.below(3) {
+        0 => t.truncate(r.below(TABLE_BYTES as u64) as usize),
+        1 => t.push(0),
+        _ => {
+            t[r.pick(&[0usize, 1, 4, 5, 12, 13, 31, 35])] ^= 1 << r.below(8);
+        }
+    }
+    let sound = check_bytes(&t) == 0;
+    let old = t.clone();
+    let (mut answer, mut tally) = ([9; ANSWER_BYTES], [0; TALLY_BYTES]);
+    let got = slot_bytes(&mut t, &[], &mut answer, &mut tally);
+    if !sound {
+        assert_eq!(got, 2);
+        assert!(t == old && answer == [9; ANSWER_BYTES] && tally[8] == 1);
+    }
+}
+
+#[test]
+fn from_a_fresh_switch() {
+    let slots = setting("SLOTS", 500_000);
+    let mut r = Random(setting("SEED", 1) * 2 + 88172645463325252);
+    let (mut done, mut proposals, mut refused) = (0, 0u64, [0u64; 11]);
+    while done < slots {
+        let ports = 1 + r.below(16) as u32;
+        let first = r.pick(&[0, 1, 77, 4_000_000_000, CLOCK_END - 40, CLOCK_END]);
+        let mut table = vec![0; TABLE_BYTES];
+        assert_eq!(start_bytes(ports, first, &mut table), 0);
+        let mut s = Crossbar::fresh(ports, first);
+        let mut pifo = Pifo::fresh(ports, first);
+        assert!(table == s.table());
+        let mut traffic = Traffic::new(&mut r, ports);
+        let length = r.pick(&[10, 100, 400]);
+        for _ in 0..length {
+            let cells = s.cells();
+            let records = traffic.records(&mut r, &s, &cells);
+            let clock = s.clock;
+            let got = call(&mut r, &mut table, &mut s, &records, "fresh");
+            done += 1;
+            match &got {
+                Ok(a) => {
+                    proposals += (a.proposals[0] + a.proposals[1]) as u64;
+                    assert_eq!(Ok(a.departures.clone()), pifo.slot(&records), "the PIFO switch parts");
+                }
+                Err((n, place)) => {
+                    refused[*n as usize] += 1;
+                    assert_eq!(s.clock, clock);
+                    if *n != 2 && *n != 10 {
+                        assert_eq!(Err((*n, *place)), pifo.slot(&records), "the PIFO switch parts");
+                    }
+                }
+            }
+            if r.one_in(200) {
+                damaged(&mut r, &table);
+            }
+        }
+    }
+    println!("fresh: {done} slots, {proposals} proposals, refused {refused:?}");
+    assert!(proposals > 0 && (2..=10).filter(|&n| n != 9).all(|n| refused[n] > 0), "some refusal never came: {refused:?}");
+}
+
+#[test]
+fn from_any_sound_table() {
+    let slots = setting("SLOTS", 500_000);
+    let mut r = Random(setting("SEED", 1) * 2 + 1442695040888963407);
+    let (mut done, mut proposals) = (0, 0u64);
+    while done < slots {
+        let ports = 1 + r.below(16) as u32;
+        let most = r.pick(&[3, 10, 30, 64]);
+        let mut s = any_state(&mut r, ports, most);
+        let mut table = s.table();
+        assert_eq!(check_bytes(&table), 0, "a table made here is not sound");
+        let mut traffic = Traffic::new(&mut r, ports);
+        for _ in 0..12 {
+            let cells = s.cells();
+            let records = traffic.records(&mut r, &s, &cells);
+            if let Ok(a) = call(&mut r, &mut table, &mut s, &records, "any") {
+                proposals += (a.proposals[0] + a.proposals[1]) as u64;
+            }
+            done += 1;
+        }
+    }
+    println!("any sound table: {done} slots, {proposals} proposals");
+    assert!(proposals > 0);
+}
