@@ -17,6 +17,7 @@ pub mod PifoLaws
 pub mod Related
 pub mod SameDeparture
 pub mod Sections
+pub mod Shapes
 pub mod SlackArrival
 pub mod SlackDeparture
 pub mod SlackSections
