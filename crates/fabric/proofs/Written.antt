@@ -2,10 +2,11 @@
 --     hit f n k         one of f 0, .. f (n - 1) is k
 --     written-hit       there the byte that was written stands
 --     written-miss      elsewhere nothing has changed
+--     written-is        both in one
 --     written-ext       only the numbers below n count
 use Prim.Native.Nat.{ℕ, zero, suc, _<_}
 use native.Mathlib.Omega.{arith}
-use mathlib.Core.Bool.{Bool, true, false, _||_, false≢true}
+use mathlib.Core.Bool.{Bool, true, false, cond, _||_, false≢true}
 use mathlib.Core.Path.{_≡_, refl, sym, _∙_, ap, ap₂}
 use mathlib.Core.Logic.{_⊎_, inl, inr}
 use mathlib.Core.List.{List}
@@ -13,7 +14,7 @@ use borrow.Author.Tests.{eqb-true, eqb-false, eq-eqb}
 use lib.Dec.{eqb}
 use lib.ListN.{length, getD, set, length-set}
 use lib.Seq.{getD-set-same, getD-set-other}
-use Rattle.laws.proofs.Tests.{either, clash, by-fail, or-l, or-r, or-cases, or-false-l, or-false-r}
+use Rattle.laws.proofs.Tests.{either, clash, by-fail, or-l, or-r, or-cases, or-false-l, or-false-r, cond-pass, cond-fail}
 use Rattle.fabric.specs.Moves.{written}
 
 ------------------------------------------------------------------------
@@ -81,6 +82,14 @@ module _ {A : Type 0} (f : ℕ → ℕ) (v : A) where
   written-miss (suc n) l k d t =
       getD-set-other (written f v n l) (f n) k v d (λ p. eqb-false (f n) k (or-false-r (hit f n k) (eqb (f n) k) t) (sym p))
       ∙ written-miss n l k d (or-false-l (hit f n k) (eqb (f n) k) t)
+
+pub written-is : {A : Type 0} (f : ℕ → ℕ) (v : A) (n : ℕ) (l : List A) (k : ℕ) (d : A) → k < length l
+    → getD (written f v n l) k d ≡ cond (hit f n k) v (getD l k d)
+written-is f v n l k d h = go (either (hit f n k))
+  where
+    go : (hit f n k ≡ true) ⊎ (hit f n k ≡ false) → getD (written f v n l) k d ≡ cond (hit f n k) v (getD l k d)
+    go (inl t) = written-hit f v n l k d h t ∙ sym (cond-pass (hit f n k) v (getD l k d) t)
+    go (inr t) = written-miss f v n l k d t ∙ sym (cond-fail (hit f n k) v (getD l k d) t)
 
 pub written-ext : {A : Type 0} (f g : ℕ → ℕ) (v : A) (n : ℕ) (l : List A) → ((i : ℕ) → i < n → f i ≡ g i) → written f v n l ≡ written g v n l
 unfolding written

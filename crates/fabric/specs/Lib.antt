@@ -1,5 +1,8 @@
+pub mod Arrival
 pub mod Choices
+pub mod Fault
 pub mod Loading
+pub mod Moved
 pub mod Moves
 pub mod Scan
 pub mod Sections

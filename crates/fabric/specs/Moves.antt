@@ -11,12 +11,12 @@ use mathlib.Core.List.{List, []}
 use mathlib.Core.Path.{_≡_}
 use lib.Dec.{ltb, leb, eqb}
 use lib.ListN.{length, getD, set, replicate}
-use Rattle.laws.specs.Lists.{keep}
+use Rattle.laws.specs.Lists.{keep, first?}
 use Rattle.cell.specs.Limits.{cellLimit, portLimit}
 use Rattle.model.specs.State.{isCrossed}
-use Rattle.model.specs.Phase.{Waiting}
+use Rattle.model.specs.Phase.{Waiting, Phase}
 use Rattle.table.specs.Entry.{entryAt}
-use Rattle.fabric.specs.Choices.{nowhere, bestOf}
+use Rattle.fabric.specs.Choices.{nowhere, numberOf, ofInput, toOutput, bestOf}
 use Rattle.fabric.specs.View.{inTable}
 
 ------------------------------------------------------------------------
@@ -42,7 +42,22 @@ pub record Square (cross : List (List ℕ)) : Type 0 where
   pub columns : (input : ℕ) → input < 16 → length (getD cross input []) ≡ 16
 
 ------------------------------------------------------------------------
--- what moves
+-- what moves, by the definitions
+
+-- the cell that goes straight to an output
+unfoldable pub straightOf : Phase → ℕ → ℕ
+straightOf p output = numberOf (first? (toOutput output (p .straight)))
+
+-- the cell that an input sends
+unfoldable pub sentOf : Phase → ℕ → ℕ
+sentOf p input = numberOf (first? (ofInput input (p .sent)))
+
+-- the cell that an output takes
+unfoldable pub pulledOf : Phase → ℕ → ℕ
+pulledOf p output = numberOf (first? (toOutput output (p .pulled)))
+
+------------------------------------------------------------------------
+-- what moves, as the code finds it
 
 -- the match of the input that an output holds
 unfoldable pub matchAt : List ℕ → List ℕ → ℕ → ℕ

@@ -1,4 +1,5 @@
 // The steps of a slot on the table; how they see it is defined in specs/.
+pub mod arrival;
 pub mod choosing;
 pub mod loading;
 pub mod moving;

@@ -15,12 +15,35 @@ ghost use Rattle.table.specs.Table.{tableSize};
 ghost use Rattle.fabric.specs.Choices.{nowhere};
 ghost use Rattle.fabric.specs.Scan.{Readable, Holds};
 ghost use Rattle.fabric.specs.View.{Agrees};
+ghost use Rattle.fabric.specs.Moved.{Steady, Settled, Moved};
 ghost use Rattle.fabric.specs.Moves.{put, straightTo, markOf, sendOf, takeOf, Square, Matches, crossedIn, Straightened, Sent, Pulled};
 
 // The ports of the straight cells: the inputs that they left, and the outputs that they went to.
 pub struct Straight {
     pub inputs: [bool; 16],
     pub outputs: [bool; 16],
+}
+
+// Rules 5 and 6: the straight cells go, then the inputs send, then the outputs take.
+pub fn move_cells(
+    table: &[u8],
+    places: &mut [u8],
+    cross: &mut [[u16; 16]; 16],
+    ports: usize,
+    scheduled: &[u16; 16],
+    numbers: &[u16],
+    held: &[u8; 16],
+    refused: &[u8; 16],
+)
+    requires { ⌜ Steady (now table) (now places) (now cross) × (ports ≡ portsIn (now table)) ⌝ }
+    requires { ⌜ Settled (now table) (now places) (now scheduled) (now numbers) (now held) (now refused) ⌝ }
+    ensures { λ _. ⌜ Moved (now (table .entry)) (now (places .entry)) (now (places .exit)) (now (cross .exit)) ⌝ }
+{
+    let straight = go_straight(places, scheduled, numbers, held, refused);
+    let inputs = straight.inputs;
+    let outputs = straight.outputs;
+    send_scheduled(table, places, cross, scheduled, &inputs);
+    pull_best(table, places, cross, ports, &outputs);
 }
 
 // Rule 5: every matched urgent cell goes straight to its output buffer.

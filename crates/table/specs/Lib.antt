@@ -1,5 +1,6 @@
 pub mod Answer
 pub mod Arrivals
+pub mod Check
 pub mod Entry
 pub mod Host
 pub mod Number

@@ -6,15 +6,15 @@ use Prim.Native.Nat.{ℕ, zero, suc, _+_, _*_, _-_, _/_, _%_, _≤_, _<_}
 use native.Mathlib.Omega.{arith}
 use mathlib.Core.Bool.{Bool, true, false}
 use mathlib.Core.List.{List, [], _∷_, _++_}
-use mathlib.Core.Path.{_≡_, sym, ap, _∙_}
+use mathlib.Core.Path.{_≡_, ap, _∙_}
 use lib.Dec.{ltb}
 use lib.ListN.{length, length-append}
-use Rattle.trace.specs.Ascii.{ascii}
 use Rattle.trace.specs.declared.Key.{Key}
-use Rattle.trace.specs.declared.Key.the-variants.{Ports, First, Slot, In, Out, Flow, Rank, Tag, End, Refused, Line}
-use Rattle.trace.specs.Line.{keyName, keyText, digitsWithin, decimal, line}
+use Rattle.trace.specs.Line.{digitsWithin, decimal, line}
+use Rattle.trace.specs.Keys.{keyLength}
 use Rattle.trace.specs.Writing.{lastPlace, Poured}
 use Rattle.trace.proofs.Line.{isDigit-i, decimal-small, decimal-large}
+use Rattle.trace.proofs.Keys.{length-keyText}
 use Rattle.trace.proofs.Pour.{poured-then}
 
 pub decimal-tens : (n : ℕ) → 10 ≤ n → decimal n ≡ decimal (n / 10) ++ ((48 + n % 10) ∷ [])
@@ -50,23 +50,9 @@ pub length-decimal-le : (n : ℕ) → length (decimal n) ≤ suc n
 unfolding decimal
 length-decimal-le n = length-digitsWithin n n
 
-pub length-keyText-le : (k : Key) → length (keyText k) ≤ 8
-unfolding keyText keyName ascii
-length-keyText-le Ports = omega arith
-length-keyText-le First = omega arith
-length-keyText-le Slot = omega arith
-length-keyText-le In = omega arith
-length-keyText-le Out = omega arith
-length-keyText-le Flow = omega arith
-length-keyText-le Rank = omega arith
-length-keyText-le Tag = omega arith
-length-keyText-le End = omega arith
-length-keyText-le Refused = omega arith
-length-keyText-le Line = omega arith
-
-pub length-line : (k : Key) (n : ℕ) → length (line k n) ≡ length (keyText k) + length (decimal n) + 1
+pub length-line-parts : (k : Key) (n : ℕ) → length (line k n) ≡ keyLength k + length (decimal n) + 1
 unfolding line
-length-line k n = simp length-append (omega arith)
+length-line-parts k n = simp length-append (omega (arith, length-keyText k))
 
 -- how they are written
 

@@ -4,3 +4,6 @@ pub mod Blocks
 pub mod RoundTrip
 pub mod Pour
 pub mod Digits
+pub mod Keys
+pub mod Flat
+pub mod Writing

@@ -2,8 +2,8 @@
 --     sets-append, sets-out   stores of two texts, and past the end
 --     poured-then, ends-then  one text after another
 --     rest-                   what is left to pour in a loop, and the whole
---     put-                    a text that was measured
-use Prim.Native.Nat.{ℕ, suc, _+_, _≤_, _<_, min}
+--     put-, poured-whole      a text that was measured
+use Prim.Native.Nat.{ℕ, suc, _+_, _≤_, _<_}
 use native.Mathlib.Omega.{arith}
 use native.Mathlib.Nat.{add-zero, add-suc, suc-add}
 use native.Mathlib.Numerals.{add-one}
@@ -52,7 +52,8 @@ length-poured {b} {i} {t} p = ap length (p .bytes) ∙ length-sets b i t
 pub ends-then : {i j k : ℕ} {s t : List ℕ} → Ends i s j → Ends j t k → Ends i (s ++ t) k
 ends-then {s} {t} p q = record { place = omega (arith, length-append s t) }
 
-pub poured-then : {b c d : List ℕ} {i j k : ℕ} {s t : List ℕ} → length b ≤ lastPlace → Poured b i s c j → Poured c j t d k
+pub poured-then : {b c d : List ℕ} {i j k : ℕ} {s t : List ℕ} → length b ≤ lastPlace → Poured b i s c j
+    → Poured c j t d k
     → Poured b i (s ++ t) d k
 poured-then {b} {c} {d} {i} {j} {k} {s} {t} h p q =
     let l : length (sets b i s) ≤ lastPlace = omega (arith, length-sets b i s) in
@@ -65,6 +66,9 @@ poured-then {b} {c} {d} {i} {j} {k} {s} {t} h p q =
           ∙ sym (sets-append b i s t);
       ends = ends-then (p .ends) (q .ends);
     }
+
+pub poured-refl : (b : List ℕ) (at : ℕ) (t : List ℕ) → Poured b at t (sets b at t) (placeAfter at (length t))
+poured-refl b at t = record { bytes = refl; ends = record { place = refl } }
 
 -- a loop: what is left to pour, and the whole
 
@@ -84,9 +88,7 @@ module _ {b₀ : List ℕ} {at₀ : ℕ} {whole : List ℕ} where
         → Rest b₀ at₀ whole c next t
     rest-step {s} {t} {c} {next} h r p =
         let l : length b ≤ lastPlace = omega (arith, r .same) in
-        let q : Poured c next t (sets c next t) (placeAfter next (length t)) =
-        record { bytes = refl; ends = record { place = refl } } in
-        let e = poured-then l p q in
+        let e = poured-then l p (poured-refl c next t) in
         record {
           bytes = e .bytes ∙ r .bytes;
           place = e .ends .place ∙ r .place;
@@ -114,23 +116,53 @@ module _ {b₀ : List ℕ} {at₀ : ℕ} {whole : List ℕ} where
 
 -- a text that was measured
 
-module _ {b : List ℕ} {at : ℕ} {t : List ℕ} {end : ℕ} (e : Ends at t end) where
+withText-fits : (b : List ℕ) (at : ℕ) (t : List ℕ) → at + length t ≤ length b → sets b at t ≡ withText b at t
+unfolding withText
+withText-fits b at t h =
+    rw (le-leb _ _ h, withText) (sets-eq t b at h ∙ append-assoc (take at b) t (drop (at + length t) b))
+
+withText-short : (b : List ℕ) (at : ℕ) (t : List ℕ) → length b < at + length t → withText b at t ≡ b
+unfolding withText
+withText-short b at t h = rw (lt-leb _ _ h, withText)
+
+module _ {b : List ℕ} {at : ℕ} {t : List ℕ} where
   -- it does not fit, and nothing is written
-  pub put-short : length b < end → Put b at t b end
-  unfolding withText
-  put-short h =
+  pub put-short : {end : ℕ} → Ends at t end → length b < end → Put b at t b end
+  put-short e h =
       let k : length b < at + length t = omega arith in
-      record { bytes = rw (lt-leb _ _ k, withText); ends = e }
+      record { bytes = sym (withText-short b at t k); ends = e }
 
   -- it fits, and stands there once it is poured
-  pub put-poured : {c : List ℕ} {next : ℕ} → end ≤ length b → length b < lastPlace → Poured b at t c next
+  pub put-poured : {end : ℕ} {c : List ℕ} {next : ℕ} → Ends at t end → end ≤ length b → length b < lastPlace
+      → Poured b at t c next
       → Put b at t c next
-  unfolding withText
-  put-poured h l p =
+  put-poured e h l p =
       let k : at + length t ≤ length b = omega arith in
-      record {
-        bytes =
-            p .bytes
-            ∙ rw (le-leb _ _ k, withText) (sets-eq t b at k ∙ append-assoc (take at b) t (drop (at + length t) b));
-        ends = p .ends;
-      }
+      record { bytes = p .bytes ∙ withText-fits b at t k; ends = p .ends }
+
+  pub poured-put : {c : List ℕ} {next : ℕ} → at + length t ≤ length b → Put b at t c next → Poured b at t c next
+  poured-put h p = record { bytes = p .bytes ∙ sym (withText-fits b at t h); ends = p .ends }
+
+-- two texts that are put one after the other, where there is room for both
+pub put-then : {b c d : List ℕ} {i j k : ℕ} {s t : List ℕ} → i + length (s ++ t) ≤ length b → length b < lastPlace
+    → Put b i s c j
+    → Put c j t d k
+    → Put b i (s ++ t) d k
+put-then {b} {c} {d} {i} {j} {k} {s} {t} h l p q =
+    let m : i + length s ≤ length b = omega (arith, length-append s t) in
+    let u : Poured b i s c j = poured-put m p in
+    let n : j + length t ≤ length c = omega (arith, length-append s t, length-poured u, u .ends .place) in
+    let o : length b ≤ lastPlace = omega arith in
+    let v : Poured b i (s ++ t) d k = poured-then o u (poured-put n q) in
+    put-poured (v .ends) (omega (arith, v .ends .place)) l v
+
+-- a text at the start of a buffer in which it fits
+pub poured-whole : {b t c : List ℕ} {next : ℕ} → length t ≤ length b → Poured b 0 t c next → c ≡ t ++ drop (length t) b
+poured-whole {b} {t} h p =
+    let k : 0 + length t ≤ length b = omega arith in
+    let z : 0 + length t ≡ length t = omega arith in
+    p .bytes ∙ sets-eq t b 0 k ∙ ap (λ n. t ++ drop n b) z
+
+-- one that is poured into no bytes leaves none
+pub poured-none : {t c : List ℕ} {at next : ℕ} → Poured [] at t c next → c ≡ []
+poured-none {t} {at} p = p .bytes ∙ sets-out [] at t (omega arith)

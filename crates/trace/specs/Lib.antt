@@ -6,3 +6,4 @@ pub mod Piece
 pub mod Reader
 pub mod Reading
 pub mod Writing
+pub mod Keys

@@ -1,14 +1,19 @@
--- Putting a text into a buffer, from a place on.
+-- Putting a text into a buffer, from a place on, and the writer's test of what it is lent.
 --     placeAfter at size     the place after so many bytes
 --     withText buffer at t   the buffer with the text there, if it fits
 --     Ends, Put, Poured      what a function that measures the text or writes it does
+--     flatHasText            whether lists are the contents of some text
 use Prim.Native.Nat.{ℕ, _+_, min}
-use mathlib.Core.Bool.{true, false}
+use mathlib.Core.Bool.{Bool, true, false, _&&_}
 use mathlib.Core.List.{List, _++_}
 use mathlib.Core.Path.{_≡_}
 use lib.Dec.{leb}
 use lib.ListN.{length, take, drop}
 use lib.Seq.{sets}
+use Rattle.laws.specs.Lists.{all?}
+use Rattle.cell.specs.Limits.{clockEnd}
+use Rattle.trace.specs.Contents.{blockLimit}
+use Rattle.trace.specs.Flat.{fitTogether}
 
 -- the largest place, which is past the end of every buffer
 abbrev pub lastPlace : ℕ
@@ -35,8 +40,16 @@ pub record Put (buffer : List ℕ) (at : ℕ) (t : List ℕ) (after : List ℕ) 
   pub bytes : after ≡ withText buffer at t
   pub ends : Ends at t next
 
--- What a function of the writer's own leaves and answers. The text's bytes stand one by one from the place on, as many as fit, and the next place is after them all. So one text
--- after another is the two as one, and a text that is poured into no bytes is measured.
+-- What a private function leaves and answers: the bytes of the text that fit, one by one, and the place after them all.
+-- So one text after another is the two as one.
 pub record Poured (buffer : List ℕ) (at : ℕ) (t : List ℕ) (after : List ℕ) (next : ℕ) : Type 0 where
   pub bytes : after ≡ sets buffer at t
   pub ends : Ends at t next
+
+-- no more arrivals than a block may have
+abbrev pub few : ℕ → Bool
+few n = leb n blockLimit
+
+-- they fit together, no slot has too many arrivals, and none is past the clock's end
+unfoldable pub flatHasText : ℕ → List ℕ → List ℕ → Bool
+flatHasText first counts ns = fitTogether counts ns && (all? few counts && leb (first + length counts) clockEnd)

@@ -1,5 +1,5 @@
--- The proof of the cycle of calls {pour_number}: the last digit stands behind those of the tenth part. The measure is the
--- number.
+-- The proof of the cycle of calls {pour_number}: the last digit stands behind those of the tenth part. The measure is
+-- the number.
 -- Assumes nothing.
 use Prim.Native.Nat.{ℕ, _<_}
 use native.Mathlib.Omega.{arith}
@@ -103,7 +103,9 @@ pour-number-same-length-2 : (t : ℕ) → pour-number-lts.Need-same-length-2 (
   pour-number-below t,
   pour-number.Post,
 ) (pour-number-at t) pour-number.Post
-pour-number-same-length-2 t c = c .before .before .pour-byte2 .kept .0 ∙ c .before .before .before .before .before .before .pour-number .kept .0
+pour-number-same-length-2 t c =
+    c .before .before .pour-byte2 .kept .0
+    ∙ c .before .before .before .before .before .before .pour-number .kept .0
 
 pour-number-returns-2 : (t : ℕ) → pour-number-lts.Need-returns-2 (
   pour-byte-reads.Asked,
@@ -111,7 +113,10 @@ pour-number-returns-2 : (t : ℕ) → pour-number-lts.Need-returns-2 (
   pour-number-below t,
   pour-number.Post,
 ) (pour-number-at t) pour-number.Post
-pour-number-returns-2 t c = poured-tens (omega arith) (omega arith) (c .before .before .before .before .before .before .pour-number .ensures) (c .before .before .pour-byte2 .ensures)
+pour-number-returns-2 t c =
+    let d = c .before .before in
+    poured-tens (omega arith) (omega arith)
+    (d .before .before .before .before .pour-number .ensures) (d .pour-byte2 .ensures)
 
 pub +pour-number-spec : {M : Type 1} → statement M
 +pour-number-spec = close μ-pour-number λ t. pour-number-lts.spec (

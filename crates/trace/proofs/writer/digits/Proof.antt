@@ -1,5 +1,5 @@
--- `trace::writer::digits` meets its contract. The loop's invariant: the digits counted and those left are one more than those
--- of the number. The measure is what is left of it.
+-- `trace::writer::digits` meets its contract. The loop's invariant: the digits counted and those left are one more than
+-- those of the number. The measure is what is left of it.
 -- Assumes nothing.
 use Prim.Native.Nat.{_+_}
 use native.Mathlib.Omega.{arith}

@@ -2,7 +2,8 @@
 -- Assumes nothing.
 use borrow.Author.Needs.{needs}
 use native.Mathlib.Omega.{arith}
-use Rattle.trace.proofs.Digits.{length-decimal-le, length-keyText-le, length-line}
+use Rattle.trace.proofs.Digits.{length-decimal-le, length-line-parts}
+use Rattle.trace.proofs.Keys.{keyLength-le}
 use Rattle.trace.proofs.writer.line_length.Statement.{statement}
 use Rattle.trace.proofs.writer.line_length.Tie as tie
 
@@ -13,13 +14,17 @@ digits-requires : tie.Need-digits-requires
 digits-requires c κs = search needs
 
 add-result : tie.Need-add-result
-add-result c = omega (arith, length-keyText-le (c .before .before .args .key), length-decimal-le (c .before .before .args .n))
+add-result c =
+    let s = c .before .before .args in
+    omega (arith, keyLength-le (s .key), length-decimal-le (s .n))
 
 add-result-2 : tie.Need-add-result-2
-add-result-2 c = omega (arith, length-keyText-le (c .before .before .args .key), length-decimal-le (c .before .before .args .n))
+add-result-2 c =
+    let s = c .before .before .args in
+    omega (arith, keyLength-le (s .key), length-decimal-le (s .n))
 
 returns : tie.Need-returns
-returns c = omega (arith, length-line (c .before .before .args .key) (c .before .before .args .n))
+returns c = omega (arith, length-line-parts (c .before .before .args .key) (c .before .before .args .n))
 
 pub line-length-spec : {M : Type 1} → statement M
 line-length-spec =

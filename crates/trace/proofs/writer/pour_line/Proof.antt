@@ -25,7 +25,8 @@ returns c =
     let d = c .before .before in
     let n = d .before .before .before .before in
     let k = n .before .before .before .before in
-    poured-then (omega arith) (k .pour-key .ensures) (poured-then (omega arith) (n .pour-number .ensures) (d .pour-byte .ensures))
+    poured-then (omega arith) (k .pour-key .ensures)
+    (poured-then (omega arith) (n .pour-number .ensures) (d .pour-byte .ensures))
 
 pub pour-line-spec : {M : Type 1} → statement M
 pour-line-spec =

@@ -1,5 +1,5 @@
--- `trace::writer::pour_text` meets its contract. The loop's invariant: pouring what is left of the text gives what pouring
--- all of it gives. The measure is how many bytes are left.
+-- `trace::writer::pour_text` meets its contract. The loop's invariant: pouring what is left of the text gives what
+-- pouring all of it gives. The measure is how many bytes are left.
 -- Assumes nothing.
 use Prim.Native.Nat.{_≤_, _-_}
 use native.Mathlib.Omega.{arith}
@@ -33,7 +33,8 @@ loop-less c = omega arith
 loop-again : tie.Need-loop-again Inv-loop μ-loop
 loop-again c =
     let l = c .before .before .before .before .before .before in
-    (omega arith, rest-byte _ (l .loop .i) (omega arith) (omega arith) (l .loop .inv .1) (c .before .before .pour-byte .ensures))
+    let p = c .before .before in
+    (omega arith, rest-byte _ (l .loop .i) (omega arith) (omega arith) (l .loop .inv .1) (p .pour-byte .ensures))
 
 same-length : tie.Need-same-length Inv-loop μ-loop
 same-length c = c .before .loop .inv .1 .same

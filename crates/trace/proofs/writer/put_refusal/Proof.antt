@@ -27,7 +27,8 @@ returns-2 : tie.Need-returns-2
 returns-2 c =
     let w = c .before .before in
     let e = w .before .before .before in
-    rw (← e .before .number .ensures) (put-poured (e .pair-end .ensures) (omega arith) (omega arith) (w .pour-pair .ensures))
+    let p = put-poured (e .pair-end .ensures) (omega arith) (omega arith) (w .pour-pair .ensures) in
+    rw (e .before .number .ensures) at p
 
 pub put-refusal-spec : {M : Type 1} → statement M
 put-refusal-spec =

@@ -1,0 +1,66 @@
+-- Two numbers of 64 bits are a record.
+use borrow.Author.Needs.{needs}
+use Rattle.table.proofs.Number.{bytes?-i}
+use Rattle.fabric.proofs.Arriving.{copied-up}
+use Rattle.fabric.proofs.arrival.copy_up.Statement.{statement}
+use Rattle.fabric.proofs.arrival.copy_up.Tie as tie
+
+start-of-requires : tie.Need-start-of-requires
+start-of-requires c κs = search needs
+
+add-start-of : tie.Need-add-start-of
+add-start-of c = search needs
+
+start-of-requires-2 : tie.Need-start-of-requires-2
+start-of-requires-2 c κs = search needs
+
+read-u64-requires : tie.Need-read-u64-requires
+read-u64-requires c κs = search needs
+
+add-read-u64 : tie.Need-add-read-u64
+add-read-u64 c = search needs
+
+read-u64-requires-2 : tie.Need-read-u64-requires-2
+read-u64-requires-2 c κs = search needs
+
+write-u64-requires : tie.Need-write-u64-requires
+write-u64-requires c κs = search needs
+
+add-write-u64 : tie.Need-add-write-u64
+add-write-u64 c = search needs
+
+write-u64-requires-2 : tie.Need-write-u64-requires-2
+write-u64-requires-2 c κs = search needs
+
+same-length : tie.Need-same-length
+same-length c = search needs
+
+returns : tie.Need-returns
+returns c =
+    let start = c .before .before .before .before .before .before .before .before .before .before .before .before .before .before .before in
+    let from = c .before .before .before .before .before .before .before .before .before .before .before .before .before .start-of in
+    let to = c .before .before .before .before .before .before .before .before .before .before .before .before .start-of2 in
+    let low = c .before .before .before .before .before .before .before .before .before .before .read-u64 in
+    let high = c .before .before .before .before .before .before .before .before .read-u642 in
+    let first = c .before .before .before .before .before .before .write-u64 in
+    let second = c .before .before .write-u642 in
+    let bytes = bytes?-i _ (λ i. c .before .before .before .before .before .before .before .before .before .before .before .before .before .before .slice-known .given i .fits) in
+    copied-up (start .args .k) (from .result) (to .result) (low .result) (high .result) (start .args .table .now)
+    (first .last .0) (second .last .0) bytes (start .pre .0) (start .pre .1) (from .ensures) (to .ensures)
+    (low .ensures) (high .ensures) (first .ensures) (second .ensures)
+
+pub copy-up-spec : {M : Type 1} → statement M
+copy-up-spec =
+    tie.close
+    (tie.spec
+    start-of-requires
+    add-start-of
+    start-of-requires-2
+    read-u64-requires
+    add-read-u64
+    read-u64-requires-2
+    write-u64-requires
+    add-write-u64
+    write-u64-requires-2
+    same-length
+    returns)

@@ -1,0 +1,71 @@
+-- The entries from k on have been moved.
+use Prim.Native.Nat.{_+_, _-_, _≤_}
+use mathlib.Core.Path.{_≡_, refl, _∙_, ap}
+use native.Mathlib.Omega.{arith}
+use lib.ListN.{length}
+use Rattle.table.specs.Records.{recordStart, recordAt}
+use Rattle.table.specs.Table.{entrySize}
+use Rattle.fabric.specs.Arrival.{movedUp}
+use Rattle.fabric.proofs.Insert.{movedUp-none, movedUp-more}
+use Rattle.fabric.proofs.arrival.move_up.Statement.{statement}
+use Rattle.fabric.proofs.arrival.move_up.Tie as tie
+
+abbrev Inv-loop : tie.InvT-loop
+Inv-loop table₀ at end k₀ table k =
+    (at ≤ k) × (k ≤ end) × (length table ≡ length table₀) × (table ≡ movedUp (recordStart k) (recordStart end) entrySize table₀)
+
+abbrev μ-loop : tie.MeasureT-loop
+μ-loop table₀ at end k₀ table k = k
+
+loop-holds : tie.Need-loop-holds Inv-loop μ-loop
+loop-holds c = (omega arith, omega arith, refl, movedUp-none _ entrySize _)
+
+sub-k : tie.Need-sub-k Inv-loop μ-loop
+sub-k c = omega arith
+
+copy-up-requires : tie.Need-copy-up-requires Inv-loop μ-loop
+copy-up-requires c κs = (omega arith, omega arith)
+
+loop-less : tie.Need-loop-less Inv-loop μ-loop
+loop-less c = omega arith
+
+loop-again : tie.Need-loop-again Inv-loop μ-loop
+unfolding recordAt
+loop-again c =
+    let start = c .before .before .before .before .before .before .before in
+    let at = c .before .before .before .before .before .loop in
+    let copy = c .before .before .copy-up in
+    let back : at .k ≡ at .k - 1 + 1 = omega arith in
+    let cur : at .table ≡ movedUp (recordStart (at .k - 1 + 1)) (recordStart (start .args .end)) entrySize (start .args .table .now) =
+    at .inv .3 ∙ ap (λ n. movedUp (recordStart n) (recordStart (start .args .end)) entrySize (start .args .table .now)) back in (
+      omega arith,
+      omega arith,
+      omega (arith, copy .kept .0),
+      copy .ensures
+          ∙ movedUp-more (recordStart (at .k - 1)) (recordStart (at .k - 1 + 1)) (recordStart (start .args .end)) entrySize
+          (start .args .table .now) (at .table) (omega arith) (omega arith) (omega arith) cur,
+    )
+
+same-length : tie.Need-same-length Inv-loop μ-loop
+same-length c = c .before .loop .inv .2
+
+returns : tie.Need-returns Inv-loop μ-loop
+returns c =
+    let start = c .before .before .before in
+    let at = c .before .loop in
+    let end : at .k ≡ start .args .at = omega arith in
+    at .inv .3 ∙ ap (λ n. movedUp (recordStart n) (recordStart (start .args .end)) entrySize (start .args .table .now)) end
+
+pub move-up-spec : {M : Type 1} → statement M
+move-up-spec =
+    tie.close
+    (tie.spec
+    Inv-loop
+    μ-loop
+    loop-holds
+    sub-k
+    copy-up-requires
+    loop-less
+    loop-again
+    same-length
+    returns)

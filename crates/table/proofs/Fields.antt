@@ -1,0 +1,229 @@
+-- When a record is an entry of a table, and when it is not used, field by field.
+use Prim.Native.Nat.{ℕ, _+_, _/_, _≤_, _<_}
+use mathlib.Core.Bool.{Bool, true, false}
+use mathlib.Core.Path.{_≡_, refl, sym, _∙_, ap, ap₂}
+use mathlib.Core.List.{List, _++_}
+use native.Mathlib.Nat.{add-zero}
+use native.Mathlib.Omega.{arith}
+use borrow.Author.Tests.{ltb-true, lt-ltb, eq-eqb, eqb-true, eqb-false}
+use lib.Dec.{ltb, eqb, lit≤}
+use lib.ListN.{length, drop, getD, replicate}
+use mir.Syntax.{w8}
+use mir.Val.{Fits}
+use Rattle.laws.specs.Lists.{all?}
+use Rattle.laws.proofs.Tests.{and-i, and-l, and-r}
+use Rattle.laws.proofs.Lists.{all?-mono}
+use Rattle.cell.specs.Limits.{portLimit, flowLimit, cellLimit, fits32}
+use Rattle.model.specs.State.{Entry, listed, crossed, buffered, isListed, isCrossed}
+use Rattle.model.specs.Sound.{soundEntry}
+use Rattle.table.specs.Number.{bytesOf, numberOf, numberAt, word, sameBytes}
+use Rattle.table.specs.Table.{tableSize, entrySize, placeByte, placeOf, entryBytes, entryOf}
+use Rattle.table.specs.Entry.{entryAt}
+use Rattle.table.specs.Records.{recordStart, recordAt, placeByteAt, between, entriesBetween}
+use Rattle.table.specs.Check.{isEntry, isUnused, inRange}
+use Rattle.table.proofs.Number.{bytes?, bytes?-i, bytes?-take, bytes?-drop, bytesOf-at, bytesOf-last}
+use Rattle.table.proofs.Number.{sameBytes-refl, sameBytes-exact, word-fits}
+use Rattle.table.proofs.Records.{entryAt-input, entryAt-rank, entryAt-tag, recordAt-number, recordAt-byte}
+use Rattle.table.proofs.Records.{all?-entriesBetween}
+use Rattle.table.proofs.Parts.{length-recordAt}
+
+------------------------------------------------------------------------
+-- the byte of a place
+
+place-i : (b : ℕ) → 1 ≤ b → b ≤ 3 → placeByte (placeOf b) ≡ b
+unfolding placeByte placeOf
+place-i b low high = go (eqb b 1) refl (eqb b 2) refl
+  where
+    go : (one : Bool) → eqb b 1 ≡ one → (two : Bool) → eqb b 2 ≡ two
+        → placeByte (elim one [ true ↦ listed | false ↦ elim two [ true ↦ crossed | false ↦ buffered ] ]) ≡ b
+    go true e two f = sym (eqb-true b 1 e)
+    go false e true f = sym (eqb-true b 2 f)
+    go false e false f = omega (arith, eqb-false)
+
+-- which place it is
+pub placeOf-listed : (b : ℕ) → isListed (placeOf b) ≡ eqb b 1
+unfolding placeOf isListed
+placeOf-listed b = go (eqb b 1) (eqb b 2)
+  where
+    go : (one two : Bool) → isListed (elim one [ true ↦ listed | false ↦ elim two [ true ↦ crossed | false ↦ buffered ] ]) ≡ one
+    go true two = refl
+    go false true = refl
+    go false false = refl
+
+pub placeOf-crossed : (b : ℕ) → isCrossed (placeOf b) ≡ eqb b 2
+unfolding placeOf isCrossed
+placeOf-crossed b = go (eqb b 1) refl (eqb b 2) refl
+  where
+    go : (one : Bool) → eqb b 1 ≡ one → (two : Bool) → eqb b 2 ≡ two
+        → isCrossed (elim one [ true ↦ listed | false ↦ elim two [ true ↦ crossed | false ↦ buffered ] ]) ≡ two
+    go true e two f = ap (λ n. eqb n 2) (sym (eqb-true b 1 e)) ∙ f
+    go false e true f = refl
+    go false e false f = refl
+
+place-e : (p : Rattle.model.specs.State.Place) → (1 ≤ placeByte p) × (placeByte p ≤ 3)
+unfolding placeByte
+place-e listed = (lit≤ tt, lit≤ tt)
+place-e crossed = (lit≤ tt, lit≤ tt)
+place-e buffered = (lit≤ tt, lit≤ tt)
+
+------------------------------------------------------------------------
+-- the bytes of an entry
+
+-- a number written again before what follows it
+pub number-again : (w at n : ℕ) (bs rest : List ℕ) → bytes? bs ≡ true → at + w ≤ length bs → n ≡ numberAt w at bs
+    → rest ≡ drop (at + w) bs → bytesOf w n ++ rest ≡ drop at bs
+number-again w at n bs rest h room e follows = ap (λ n. bytesOf w n ++ rest) e ∙ bytesOf-at w at bs h room rest follows
+
+-- sixteen bytes are those of the entry that they would stand for if the place is one and the zero is
+entryBytes-i : (input : ℕ) (r : List ℕ) → bytes? r ≡ true → length r ≡ entrySize
+    → placeByte (placeOf (numberAt 1 2 r)) ≡ numberAt 1 2 r → _≡_ {A = ℕ} (numberAt 1 3 r) 0
+    → entryBytes (entryOf input r) ≡ r
+unfolding entryBytes entryOf word
+entryBytes-i input r h size place zero =
+    number-again 1 0 _ r _ h (omega arith) refl
+    (number-again 1 1 _ r _ h (omega arith) refl
+    (number-again 1 2 _ r _ h (omega arith) place
+    (number-again 1 3 0 r _ h (omega arith) (sym zero)
+    (number-again 4 4 _ r _ h (omega arith) refl
+    (number-again 4 8 _ r _ h (omega arith) refl (bytesOf-last 4 12 r h size))))))
+
+entryBytes-place : (e : Entry) → numberAt 1 2 (entryBytes e) ≡ placeByte (e .place)
+unfolding entryBytes numberAt numberOf bytesOf
+entryBytes-place e = let b = place-e (e .place) in omega arith
+
+entryBytes-zero : (e : Entry) → _≡_ {A = ℕ} (numberAt 1 3 (entryBytes e)) 0
+unfolding entryBytes numberAt numberOf bytesOf
+entryBytes-zero e = refl
+
+------------------------------------------------------------------------
+-- a record
+
+module _ (bs : List ℕ) (h : bytes? bs ≡ true) (size : length bs ≡ tableSize) (k : ℕ) (within : k < 1024) where
+  recordAt-bytes : bytes? (recordAt bs k) ≡ true
+  unfolding recordAt
+  recordAt-bytes = bytes?-take entrySize (drop (recordStart k) bs) (bytes?-drop (recordStart k) bs h)
+
+  length-record : length (recordAt bs k) ≡ entrySize
+  length-record = length-recordAt bs k (omega arith)
+
+  -- its bytes are those of its entry exactly if the place is one and the zero is
+  exact-i : 1 ≤ placeByteAt bs k → placeByteAt bs k ≤ 3 → _≡_ {A = ℕ} (getD bs (recordStart k + 3) 0) 0
+      → entryBytes (entryAt bs k) ≡ recordAt bs k
+  unfolding entryAt recordAt placeByteAt
+  exact-i low high zero =
+      entryBytes-i (k / cellLimit) (recordAt bs k) recordAt-bytes length-record
+      (place-i (placeByteAt bs k) low high) (recordAt-byte bs k 3 (lit≤ tt) ∙ zero)
+
+  exact-place : entryBytes (entryAt bs k) ≡ recordAt bs k → placeByteAt bs k ≡ placeByte (entryAt bs k .place)
+  unfolding placeByteAt
+  exact-place e = ap (numberAt 1 2) (sym e) ∙ entryBytes-place (entryAt bs k)
+
+  exact-zero : entryBytes (entryAt bs k) ≡ recordAt bs k → _≡_ {A = ℕ} (getD bs (recordStart k + 3) 0) 0
+  exact-zero e = sym (recordAt-byte bs k 3 (lit≤ tt)) ∙ ap (numberAt 1 3) (sym e) ∙ entryBytes-zero (entryAt bs k)
+
+  rank-fits : fits32 (entryAt bs k .cell .rank) ≡ true
+  rank-fits = ap fits32 (entryAt-rank bs k) ∙ word-fits bs (recordStart k + 4) h (omega arith)
+
+  tag-fits : fits32 (entryAt bs k .cell .tag) ≡ true
+  tag-fits = ap fits32 (entryAt-tag bs k) ∙ word-fits bs (recordStart k + 8) h (omega arith)
+
+-- what the fields of an entry of a table are
+pub record Fields (ports clock : ℕ) (bs : List ℕ) (k : ℕ) : Type 0 where
+  pub output : entryAt bs k .cell .output < ports
+  pub flow : entryAt bs k .cell .flow < flowLimit
+  pub low : 1 ≤ placeByteAt bs k
+  pub high : placeByteAt bs k ≤ 3
+  pub zero : _≡_ {A = ℕ} (getD bs (recordStart k + 3) 0) 0
+  pub slot : entryAt bs k .cell .slot < clock
+
+module _ (ports clock : ℕ) (bs : List ℕ) (h : bytes? bs ≡ true) (size : length bs ≡ tableSize) (k : ℕ) (within : k < 1024)
+  where
+    pub isEntry-i : Fields ports clock bs k → isEntry ports clock bs k ≡ true
+    unfolding isEntry soundEntry
+    isEntry-i f =
+        let e = entryAt bs k in
+        let exact = exact-i bs h size k within (f .low) (f .high) (f .zero) in
+        and-i _ _ (ap (sameBytes (entryBytes e)) (sym exact) ∙ sameBytes-refl (entryBytes e))
+        (and-i _ _ (eq-eqb (e .cell .input) (k / cellLimit) (entryAt-input bs k))
+        (and-i _ _ (lt-ltb (e .cell .output) ports (f .output))
+        (and-i _ _ (lt-ltb (e .cell .flow) flowLimit (f .flow))
+        (and-i _ _ (rank-fits bs h size k within)
+        (and-i _ _ (tag-fits bs h size k within) (lt-ltb (e .cell .slot) clock (f .slot)))))))
+
+    pub isEntry-e : isEntry ports clock bs k ≡ true → Fields ports clock bs k
+    unfolding isEntry soundEntry
+    isEntry-e t =
+        let e = entryAt bs k in
+        let bytes : sameBytes (entryBytes e) (recordAt bs k) ≡ true = and-l (sameBytes (entryBytes e) (recordAt bs k)) (soundEntry ports clock (k / cellLimit) e) t in
+        let good : soundEntry ports clock (k / cellLimit) e ≡ true = and-r (sameBytes (entryBytes e) (recordAt bs k)) _ t in
+        let exact : entryBytes e ≡ recordAt bs k = sameBytes-exact (entryBytes e) (recordAt bs k) bytes in
+        let output : ltb (e .cell .output) ports ≡ true = search (and-l, and-r) in
+        let flow : ltb (e .cell .flow) flowLimit ≡ true = search (and-l, and-r) in
+        let slot : ltb (e .cell .slot) clock ≡ true = search (and-l, and-r) depth 7 in
+        let place = exact-place bs h size k within exact in
+        let bounds = place-e (e .place) in
+        record {
+          output = ltb-true _ _ output;
+          flow = ltb-true _ _ flow;
+          low = omega arith;
+          high = omega arith;
+          zero = exact-zero bs h size k within exact;
+          slot = ltb-true _ _ slot;
+        }
+
+-- it is in range of any switch
+pub isEntry-inRange : (ports clock : ℕ) (bs : List ℕ) (k : ℕ) → ports ≤ portLimit → isEntry ports clock bs k ≡ true
+    → inRange (entryAt bs k) ≡ true
+unfolding isEntry soundEntry inRange
+isEntry-inRange ports clock bs k few t =
+    let e = entryAt bs k in
+    let good : soundEntry ports clock (k / cellLimit) e ≡ true = and-r (sameBytes (entryBytes e) (recordAt bs k)) _ t in
+    let output : ltb (e .cell .output) ports ≡ true = search (and-l, and-r) in
+    let flow : ltb (e .cell .flow) flowLimit ≡ true = search (and-l, and-r) in
+    and-i _ _ (lt-ltb (e .cell .output) portLimit (omega (arith, ltb-true))) flow
+
+pub entries-inRange : (ports clock : ℕ) (bs : List ℕ) (from to : ℕ) → ports ≤ portLimit
+    → all? (isEntry ports clock bs) (between from to) ≡ true → all? inRange (entriesBetween bs from to) ≡ true
+entries-inRange ports clock bs from to few h =
+    all?-entriesBetween inRange bs from to
+    ∙ all?-mono (isEntry ports clock bs) (λ k. inRange (entryAt bs k)) (between from to)
+    (λ k m t. isEntry-inRange ports clock bs k few t) h
+
+------------------------------------------------------------------------
+-- an unused record
+
+module _ (bs : List ℕ) (h : bytes? bs ≡ true) (size : length bs ≡ tableSize) (k : ℕ) (within : k < 1024) where
+  recordAt-halves : recordAt bs k ≡ bytesOf 8 (numberAt 8 (recordStart k) bs) ++ bytesOf 8 (numberAt 8 (recordStart k + 8) bs)
+  recordAt-halves =
+      let r = recordAt bs k in
+      let bytes = recordAt-bytes bs h size k within in
+      let room = length-record bs h size k within in
+      let low : numberAt 8 (recordStart k) bs ≡ numberAt 8 0 r =
+      ap (λ n. numberAt 8 n bs) (sym (add-zero (recordStart k))) ∙ sym (recordAt-number bs k 8 0 (lit≤ tt)) in
+      let high : numberAt 8 (recordStart k + 8) bs ≡ numberAt 8 8 r = sym (recordAt-number bs k 8 8 (lit≤ tt)) in
+      sym (number-again 8 0 _ r _ bytes (omega arith) low (ap (bytesOf 8) high ∙ bytesOf-last 8 8 r bytes room))
+
+  pub isUnused-i : _≡_ {A = ℕ} (numberAt 8 (recordStart k) bs) 0 → _≡_ {A = ℕ} (numberAt 8 (recordStart k + 8) bs) 0
+      → isUnused bs k ≡ true
+  unfolding isUnused bytesOf
+  isUnused-i low high =
+      ap (sameBytes (replicate entrySize 0)) (recordAt-halves ∙ ap₂ (λ m n. bytesOf 8 m ++ bytesOf 8 n) low high)
+      ∙ sameBytes-refl (replicate entrySize 0)
+
+  unused-number : isUnused bs k ≡ true → (at : ℕ) → at + 8 ≤ entrySize → numberAt 8 (recordStart k + at) bs ≡ numberAt 8 at (replicate entrySize 0)
+  unfolding isUnused
+  unused-number e at room = sym (recordAt-number bs k 8 at room) ∙ ap (numberAt 8 at) (sym (sameBytes-exact _ _ e))
+
+  pub isUnused-low : isUnused bs k ≡ true → _≡_ {A = ℕ} (numberAt 8 (recordStart k) bs) 0
+  unfolding numberAt numberOf
+  isUnused-low e = ap (λ n. numberAt 8 n bs) (sym (add-zero (recordStart k))) ∙ unused-number e 0 (lit≤ tt)
+
+  pub isUnused-high : isUnused bs k ≡ true → _≡_ {A = ℕ} (numberAt 8 (recordStart k + 8) bs) 0
+  unfolding numberAt numberOf
+  isUnused-high e = unused-number e 8 (lit≤ tt)
+
+------------------------------------------------------------------------
+-- the bytes of a slice are bytes
+
+pub known-bytes : (bs : List ℕ) → ((i : ℕ) → Fits w8 (getD bs i 0)) → bytes? bs ≡ true
+known-bytes bs known = bytes?-i bs (λ i. known i .fits)

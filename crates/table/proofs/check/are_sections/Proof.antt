@@ -1,0 +1,64 @@
+-- What is left to be looked at has the answer of the whole.
+use Prim.Native.Nat.{_-_}
+use mathlib.Core.Path.{_≡_, refl, sym, _∙_}
+use native.Mathlib.Omega.{arith}
+use borrow.Author.Needs.{needs}
+use Rattle.laws.specs.Lists.{all?}
+use Rattle.laws.proofs.Tests.{not-e, not-false-e}
+use Rattle.table.specs.Records.{between}
+use Rattle.table.specs.Check.{isSection}
+use Rattle.table.proofs.Walks.{each-stop, each-next, each-end}
+use Rattle.table.proofs.check.are_sections.Statement.{statement}
+use Rattle.table.proofs.check.are_sections.Tie as tie
+
+abbrev Inv-loop : tie.InvT-loop
+Inv-loop bytes ports clock i₀ i = all? (isSection ports clock bytes) (between 0 16) ≡ all? (isSection ports clock bytes) (between i 16)
+
+abbrev μ-loop : tie.MeasureT-loop
+μ-loop bytes ports clock i₀ i = 16 - i
+
+loop-holds : tie.Need-loop-holds Inv-loop μ-loop
+loop-holds c = refl
+
+is-section-requires : tie.Need-is-section-requires Inv-loop μ-loop
+is-section-requires c κs = search needs
+
+returns : tie.Need-returns Inv-loop μ-loop
+returns c =
+    let a = c .before .before .before .before .before .args in
+    let l = c .before .before .before .loop in
+    each-stop (isSection (a .ports) (a .clock) (a .bytes .now)) (l .i) 16 _ (l .inv) (c .before .before .loop-test .taken)
+    (sym (c .before .is-section .ensures) ∙ not-e (c .before .is-section .result) (c .if1 .taken))
+
+add-i : tie.Need-add-i Inv-loop μ-loop
+add-i c = omega arith
+
+loop-less : tie.Need-loop-less Inv-loop μ-loop
+loop-less c = omega arith
+
+loop-again : tie.Need-loop-again Inv-loop μ-loop
+loop-again c =
+    let a = c .before .before .before .before .before .args in
+    let l = c .before .before .before .loop in
+    each-next (isSection (a .ports) (a .clock) (a .bytes .now)) (l .i) 16 _ (l .inv) (c .before .before .loop-test .taken)
+    (sym (c .before .is-section .ensures) ∙ not-false-e (c .before .is-section .result) (c .if1 .left))
+
+returns-2 : tie.Need-returns-2 Inv-loop μ-loop
+returns-2 c =
+    let a = c .before .before .before .args in
+    let l = c .before .loop in
+    each-end (isSection (a .ports) (a .clock) (a .bytes .now)) (l .i) 16 _ (l .inv) (c .loop-test .left)
+
+pub are-sections-spec : {M : Type 1} → statement M
+are-sections-spec =
+    tie.close
+    (tie.spec
+    Inv-loop
+    μ-loop
+    loop-holds
+    is-section-requires
+    returns
+    add-i
+    loop-less
+    loop-again
+    returns-2)

@@ -1,0 +1,114 @@
+-- The entries passed are at crosspoints of their own, whose outputs are marked (proofs/Seen).
+use Prim.Native.Nat.{_-_, _<_}
+use mathlib.Core.Bool.{true}
+use mathlib.Core.Path.{_≡_, sym, _∙_, ap}
+use native.Mathlib.Omega.{arith}
+use borrow.Author.Needs.{needs}
+use borrow.Author.Tests.{eq-eqb, ne-eqb}
+use Rattle.model.specs.State.{isCrossed}
+use Rattle.table.specs.Entry.{entryAt}
+use Rattle.table.specs.Check.{inRange}
+use Rattle.table.proofs.Fields.{placeOf-crossed}
+use Rattle.table.proofs.Records.{entriesBetween-each}
+use Rattle.table.proofs.Walks.{inRange-e}
+use Rattle.table.proofs.Seen.{Crossed, crossed-start, crossed-pass, crossed-mark, crossed-stop, crossed-end}
+use Rattle.table.proofs.check.crosspoints_differ.Statement.{statement}
+use Rattle.table.proofs.check.crosspoints_differ.Tie as tie
+
+abbrev Inv-loop : tie.InvT-loop
+Inv-loop bytes from to seen₀ k₀ seen k = Crossed bytes from to k seen
+
+abbrev μ-loop : tie.MeasureT-loop
+μ-loop bytes from to seen₀ k₀ seen k = k
+
+-- the entry at hand is at a crosspoint
+crossed : (c : tie.Else1 Inv-loop μ-loop)
+    → isCrossed (entryAt (c .before .before .before .before .before .args .bytes .now) (c .before .before .before .loop .k - 1) .place) ≡ true
+crossed c =
+    ap isCrossed (sym (c .before .place-of .ensures .1))
+    ∙ placeOf-crossed (c .before .place-of .result)
+    ∙ eq-eqb (c .before .place-of .result) 2 (c .if1 .left)
+
+-- and goes to an output that there can be
+port : (c : tie.After-output-of Inv-loop μ-loop) → c .output-of .result < 16
+port c =
+    let start = c .before .before .before .before .before .before in
+    let l = c .before .before .before .before .loop in
+    let here = entriesBetween-each inRange (start .args .bytes .now) (start .args .from) (start .args .to) (l .k - 1) (start .pre .1) (omega (arith, l .inv .low)) (omega (arith, l .inv .high)) in
+    omega (arith, inRange-e (entryAt (start .args .bytes .now) (l .k - 1)) here .0, c .output-of .ensures)
+
+loop-holds : tie.Need-loop-holds Inv-loop μ-loop
+loop-holds c = crossed-start (c .before .args .bytes .now) (c .before .args .from) (c .before .args .to) (c .before .pre .0 .1)
+
+sub-k : tie.Need-sub-k Inv-loop μ-loop
+sub-k c = omega arith
+
+place-of-requires : tie.Need-place-of-requires Inv-loop μ-loop
+place-of-requires c κs = search needs
+
+loop-less : tie.Need-loop-less Inv-loop μ-loop
+loop-less c = omega arith
+
+loop-again : tie.Need-loop-again Inv-loop μ-loop
+loop-again c =
+    let a = c .before .before .before .before .before .args in
+    let l = c .before .before .before .loop in
+    crossed-pass (a .bytes .now) (a .from) (a .to) (l .k) (l .seen) (l .inv) (c .before .before .loop-test .taken)
+    (ap isCrossed (sym (c .before .place-of .ensures .1))
+    ∙ placeOf-crossed (c .before .place-of .result)
+    ∙ ne-eqb (c .before .place-of .result) 2 (c .if1 .taken))
+
+output-of-requires : tie.Need-output-of-requires Inv-loop μ-loop
+output-of-requires c κs = search needs
+
+cast-output : tie.Need-cast-output Inv-loop μ-loop
+cast-output c = search needs
+
+array-read-if2 : tie.Need-array-read-if2 Inv-loop μ-loop
+array-read-if2 c = port c
+
+returns : tie.Need-returns Inv-loop μ-loop
+returns c =
+    let a = c .before .before .before .before .before .before .before .args in
+    let l = c .before .before .before .before .before .loop in
+    crossed-stop (a .bytes .now) (a .from) (a .to) (l .k) (l .seen) (l .inv) (c .before .before .before .before .loop-test .taken)
+    (crossed (c .before .before)) (c .before .output-of .result) (c .before .output-of .ensures) (port (c .before)) (c .if2 .taken)
+
+array-write-seen : tie.Need-array-write-seen Inv-loop μ-loop
+array-write-seen c = port (c .before)
+
+loop-less-2 : tie.Need-loop-less-2 Inv-loop μ-loop
+loop-less-2 c = omega arith
+
+loop-again-2 : tie.Need-loop-again-2 Inv-loop μ-loop
+loop-again-2 c =
+    let a = c .before .before .before .before .before .before .before .args in
+    let l = c .before .before .before .before .before .loop in
+    crossed-mark (a .bytes .now) (a .from) (a .to) (l .k) (l .seen) (l .inv) (c .before .before .before .before .loop-test .taken)
+    (crossed (c .before .before)) (c .before .output-of .result) (c .before .output-of .ensures) (port (c .before)) (c .if2 .left)
+
+returns-2 : tie.Need-returns-2 Inv-loop μ-loop
+returns-2 c =
+    let a = c .before .before .before .args in
+    let l = c .before .loop in
+    crossed-end (a .bytes .now) (a .from) (a .to) (l .k) (l .seen) (l .inv) (c .loop-test .left)
+
+pub crosspoints-differ-spec : {M : Type 1} → statement M
+crosspoints-differ-spec =
+    tie.close
+    (tie.spec
+    Inv-loop
+    μ-loop
+    loop-holds
+    sub-k
+    place-of-requires
+    loop-less
+    loop-again
+    output-of-requires
+    cast-output
+    array-read-if2
+    returns
+    array-write-seen
+    loop-less-2
+    loop-again-2
+    returns-2)

@@ -1,0 +1,85 @@
+-- Each rule in turn: one that is broken, or none.
+use mathlib.Core.Bool.{false}
+use mathlib.Core.Path.{_≡_, sym, _∙_, ap, ap₂}
+use borrow.Author.Needs.{needs}
+use Rattle.laws.specs.Lists.{all?}
+use Rattle.laws.proofs.Tests.{clash, by-fail, same, not-e, not-false-e}
+use Rattle.cell.specs.Limits.{portsInRange}
+use Rattle.table.specs.Records.{between}
+use Rattle.table.specs.Check.{isTable, isSection}
+use Rattle.table.proofs.Fields.{known-bytes}
+use Rattle.table.proofs.Accepted.{Table, isTable-i, isTable-e, portsInRange-e}
+use Rattle.table.proofs.check.is_table.Statement.{statement}
+use Rattle.table.proofs.check.is_table.Tie as tie
+
+fails : (c : tie.Start) → (Table (c .args .bytes .now) → ⊥) → false ≡ isTable (c .args .bytes .now)
+fails c broken = sym (by-fail _ (λ t. broken (isTable-e (c .args .bytes .now) t)))
+
+returns : tie.Need-returns
+returns c = fails (c .before .before) (λ t. c .if1 .taken (t .size))
+
+read-u32-requires : tie.Need-read-u32-requires
+read-u32-requires c κs = search needs
+
+returns-2 : tie.Need-returns-2
+returns-2 c = fails (c .before .before .before .before) (λ t. c .if2 .taken (c .before .read-u32 .ensures ∙ t .layout))
+
+read-u32-requires-2 : tie.Need-read-u32-requires-2
+read-u32-requires-2 c κs = search needs
+
+ports-in-range-requires : tie.Need-ports-in-range-requires
+ports-in-range-requires c κs = search needs
+
+returns-3 : tie.Need-returns-3
+returns-3 c =
+    fails (c .before .before .before .before .before .before .before)
+    (λ t.
+    clash (ap portsInRange (c .before .before .read-u322 .ensures) ∙ t .ports)
+    (sym (c .before .ports-in-range .ensures) ∙ not-e (c .before .ports-in-range .result) (c .if3 .taken)))
+
+read-u32-requires-3 : tie.Need-read-u32-requires-3
+read-u32-requires-3 c κs = search needs
+
+returns-4 : tie.Need-returns-4
+returns-4 c = fails (c .before .before .before .before .before .before .before .before .before) (λ t. c .if4 .taken (c .before .read-u323 .ensures ∙ t .zeros))
+
+read-u32-requires-4 : tie.Need-read-u32-requires-4
+read-u32-requires-4 c κs = search needs
+
+are-sections-requires : tie.Need-are-sections-requires
+are-sections-requires c κs =
+    let good = sym (c .before .before .before .before .ports-in-range .ensures) ∙ not-false-e (c .before .before .before .before .ports-in-range .result) (c .before .before .before .if3 .left) in
+    (c .before .before .before .before .before .before .before .before .if1 .left, portsInRange-e (c .before .before .before .before .before .read-u322 .result) good)
+
+returns-5 : tie.Need-returns-5
+returns-5 c =
+    let bs = c .before .before .before .before .before .before .before .before .before .before .before .args .bytes .now in
+    let r = c .are-sections .result in
+    let whole = c .are-sections .ensures ∙ ap₂ (λ ports clock. all? (isSection ports clock bs) (between 0 16)) (c .before .before .before .before .before .before .read-u322 .ensures) (c .before .read-u324 .ensures) in
+    same r (isTable bs)
+    (λ t.
+    isTable-i bs (known-bytes bs (c .before .before .before .before .before .before .before .before .before .before .shared-slice-known .given))
+    (record {
+      size = c .before .before .before .before .before .before .before .before .before .if1 .left;
+      layout = sym (c .before .before .before .before .before .before .before .before .read-u32 .ensures) ∙ c .before .before .before .before .before .before .before .if2 .left;
+      ports = ap portsInRange (sym (c .before .before .before .before .before .before .read-u322 .ensures)) ∙ sym (c .before .before .before .before .before .ports-in-range .ensures) ∙ not-false-e (c .before .before .before .before .before .ports-in-range .result) (c .before .before .before .before .if3 .left);
+      zeros = sym (c .before .before .before .read-u323 .ensures) ∙ c .before .before .if4 .left;
+      sections = sym whole ∙ t;
+    }))
+    (λ t. whole ∙ isTable-e bs t .sections)
+
+pub is-table-spec : {M : Type 1} → statement M
+is-table-spec =
+    tie.close
+    (tie.spec
+    returns
+    read-u32-requires
+    returns-2
+    read-u32-requires-2
+    ports-in-range-requires
+    returns-3
+    read-u32-requires-3
+    returns-4
+    read-u32-requires-4
+    are-sections-requires
+    returns-5)

@@ -1,0 +1,58 @@
+-- Whether bytes are a table, and the parts of that question in the order in which the code asks them.
+use Prim.Native.Nat.{ℕ, _+_, _*_, _/_}
+use mathlib.Core.Bool.{Bool, true, false, cond, not, _&&_}
+use mathlib.Core.List.{List}
+use mathlib.Core.Option.{none, some}
+use lib.Dec.{ltb, leb}
+use lib.ListN.{replicate}
+use Rattle.laws.specs.Lists.{keep, all?, pairwise}
+use Rattle.cell.specs.Flow.{sameFlow}
+use Rattle.cell.specs.Order.{over}
+use Rattle.cell.specs.Limits.{portLimit, flowLimit, cellLimit, flowInRange}
+use Rattle.model.specs.State.{Entry, isListed}
+use Rattle.model.specs.Sound.{soundEntry, together, otherSlot, otherCrosspoint}
+use Rattle.table.specs.Number.{sameBytes}
+use Rattle.table.specs.Table.{entrySize, entryBytes, decode}
+use Rattle.table.specs.Entry.{entryAt, countIn}
+use Rattle.table.specs.Records.{recordAt, between, entriesBetween, firstRecord}
+
+-- the bytes are those of a sound state
+unfoldable pub isTable : List ℕ → Bool
+isTable bs = elim (decode bs) [ some s ↦ true | none ↦ false ]
+
+-- a record is the bytes of its entry, and the entry is sound
+unfoldable pub isEntry : ℕ → ℕ → List ℕ → ℕ → Bool
+isEntry ports clock bs k =
+    sameBytes (entryBytes (entryAt bs k)) (recordAt bs k) && soundEntry ports clock (k / cellLimit) (entryAt bs k)
+
+-- a record is not used
+unfoldable pub isUnused : List ℕ → ℕ → Bool
+isUnused bs k = sameBytes (replicate entrySize 0) (recordAt bs k)
+
+-- an entry goes to an output and is of a flow that there can be
+unfoldable pub inRange : Entry → Bool
+inRange e = ltb (e .cell .output) portLimit && flowInRange (e .cell .flow)
+
+-- the flows of an input by number
+unfoldable pub flowNumber : Entry → ℕ
+flowNumber e = flowLimit * e .cell .output + e .cell .flow
+
+-- a listed entry stands apart: a later one is of its flow, and the next one f is not, or should stand before it
+unfoldable pub standsApart : Bool → Entry → Entry → Bool
+standsApart later e f = later && not (sameFlow (e .cell) (f .cell) && over (e .cell) (f .cell))
+
+-- how many entries an input may have: none where the switch does not have it
+unfoldable pub roomOf : ℕ → ℕ → ℕ
+roomOf ports input = cond (ltb input ports) cellLimit 0
+
+-- the section of an input: its count, its entries, its unused records, and what is asked of its entries together
+unfoldable pub isSection : ℕ → ℕ → List ℕ → ℕ → Bool
+isSection ports clock bs input =
+    let first = firstRecord input in
+    let end = first + countIn bs input in
+    leb (countIn bs input) (roomOf ports input)
+    && (all? (isEntry ports clock bs) (between first end)
+    && (all? (isUnused bs) (between end (first + cellLimit))
+    && (together (keep (λ e. isListed (e .place)) (entriesBetween bs first end))
+    && (pairwise otherSlot (entriesBetween bs first end)
+    && pairwise otherCrosspoint (entriesBetween bs first end)))))

@@ -1,0 +1,247 @@
+// Whether bytes are a table: those of one sound state (document 01, "A sound table"). The header first, then input by
+// input the count, the entries, the unused records, and what is asked of the entries together.
+use crate::entry;
+use crate::word;
+use cell::Switch;
+ghost use mathlib.Core.Bool.{true};
+ghost use mathlib.Core.Path.{_≡_};
+ghost use Prim.Native.Nat.{_+_, _%_, _<_, _≤_};
+ghost use lib.ListN.{length};
+ghost use Rattle.laws.specs.Lists.{keep, all?, pairwise, upTo};
+ghost use Rattle.model.specs.State.{isListed};
+ghost use Rattle.model.specs.Sound.{together, otherSlot, otherCrosspoint};
+ghost use Rattle.table.specs.Table.{tableSize};
+ghost use Rattle.table.specs.Entry.{entryAt};
+ghost use Rattle.table.specs.Records.{between, entriesBetween};
+ghost use Rattle.table.specs.Check.{isTable, isSection, isEntry, isUnused, roomOf, inRange, flowNumber};
+ghost use Rattle.table.specs.Check.{standsApart};
+
+// Whether the bytes are a table.
+pub fn is_table(bytes: &[u8]) -> bool
+    ensures { λ r. ⌜ r ≡ isTable (now (bytes .entry)) ⌝ }
+{
+    if bytes.len() != 16416 {
+        return false;
+    }
+    if word::read_u32(bytes, 0) != 1 {
+        return false;
+    }
+    let ports = word::read_u32(bytes, 4);
+    if !Switch::ports_in_range(ports) {
+        return false;
+    }
+    if word::read_u32(bytes, 12) != 0 {
+        return false;
+    }
+    are_sections(bytes, ports, word::read_u32(bytes, 8))
+}
+
+fn are_sections(bytes: &[u8], ports: u32, clock: u32) -> bool
+    requires { ⌜ (length (now bytes) ≡ tableSize) × (ports ≤ 16) ⌝ }
+    ensures { λ r. ⌜ r ≡ all? (isSection ports clock (now (bytes .entry))) (between 0 16) ⌝ }
+{
+    let mut i = 0;
+    while i < 16 {
+        if !is_section(bytes, ports, clock, i) {
+            return false;
+        }
+        i += 1;
+    }
+    true
+}
+
+fn is_section(bytes: &[u8], ports: u32, clock: u32, input: usize) -> bool
+    requires { ⌜ (length (now bytes) ≡ tableSize) × (ports ≤ 16) × (input < 16) ⌝ }
+    ensures { λ r. ⌜ r ≡ isSection ports clock (now (bytes .entry)) input ⌝ }
+{
+    let count = bytes[16 + input] as usize;
+    if room(ports, input) < count {
+        return false;
+    }
+    let first = 64 * input;
+    let end = first + count;
+    if !are_entries(bytes, ports, clock, first, end) {
+        return false;
+    }
+    if !are_unused(bytes, end, first + 64) {
+        return false;
+    }
+    if !flows_together(bytes, first, end) {
+        return false;
+    }
+    if !slots_differ(bytes, first, end) {
+        return false;
+    }
+    crosspoints_differ(bytes, first, end)
+}
+
+// How many entries an input may have.
+fn room(ports: u32, input: usize) -> usize
+    ensures { λ r. ⌜ r ≡ roomOf ports input ⌝ }
+{
+    if input < ports as usize { 64 } else { 0 }
+}
+
+fn are_entries(bytes: &[u8], ports: u32, clock: u32, from: usize, to: usize) -> bool
+    requires { ⌜ (length (now bytes) ≡ tableSize) × (to ≤ 1024) ⌝ }
+    ensures { λ r. ⌜ r ≡ all? (isEntry ports clock (now (bytes .entry))) (between from to) ⌝ }
+{
+    let mut k = from;
+    while k < to {
+        if !is_entry(bytes, ports, clock, k) {
+            return false;
+        }
+        k += 1;
+    }
+    true
+}
+
+fn is_entry(bytes: &[u8], ports: u32, clock: u32, k: usize) -> bool
+    requires { ⌜ (length (now bytes) ≡ tableSize) × (k < 1024) ⌝ }
+    ensures { λ r. ⌜ r ≡ isEntry ports clock (now (bytes .entry)) k ⌝ }
+{
+    if ports <= entry::output_of(bytes, k) as u32 {
+        return false;
+    }
+    if 8 <= entry::flow_of(bytes, k) {
+        return false;
+    }
+    let place = entry::place_of(bytes, k);
+    if place < 1 {
+        return false;
+    }
+    if 3 < place {
+        return false;
+    }
+    if bytes[entry::start_of(k) + 3] != 0 {
+        return false;
+    }
+    entry::slot_of(bytes, k) < clock
+}
+
+fn are_unused(bytes: &[u8], from: usize, to: usize) -> bool
+    requires { ⌜ (length (now bytes) ≡ tableSize) × (to ≤ 1024) ⌝ }
+    ensures { λ r. ⌜ r ≡ all? (isUnused (now (bytes .entry))) (between from to) ⌝ }
+{
+    let mut k = from;
+    while k < to {
+        if !is_unused(bytes, k) {
+            return false;
+        }
+        k += 1;
+    }
+    true
+}
+
+fn is_unused(bytes: &[u8], k: usize) -> bool
+    requires { ⌜ (length (now bytes) ≡ tableSize) × (k < 1024) ⌝ }
+    ensures { λ r. ⌜ r ≡ isUnused (now (bytes .entry)) k ⌝ }
+{
+    if word::read_u64(bytes, entry::start_of(k)) != 0 {
+        return false;
+    }
+    word::read_u64(bytes, entry::start_of(k) + 8) == 0
+}
+
+// Whether the cells of each flow stand together in output priority. From the last entry to the first; `seen` has the
+// flows of the listed entries passed, of which `next` is the first.
+fn flows_together(bytes: &[u8], from: usize, to: usize) -> bool
+    requires { ⌜ (length (now bytes) ≡ tableSize) × (from ≤ to) × (to ≤ 1024) ⌝ }
+    requires { ⌜ (from % 64 ≡ 0) × (to ≤ from + 64) ⌝ }
+    requires { ⌜ all? inRange (entriesBetween (now bytes) from to) ≡ true ⌝ }
+    ensures { λ r. ⌜ r ≡ together (keep (λ e. isListed (e .place)) (entriesBetween (now (bytes .entry)) from to)) ⌝ }
+{
+    let mut seen = [false; 128];
+    let mut next = 0;
+    let mut k = to;
+    while from < k {
+        k -= 1;
+        if entry::place_of(bytes, k) != 1 {
+            continue;
+        }
+        let flow = flow_number(bytes, k);
+        if stands_apart(bytes, seen[flow], k, next) {
+            return false;
+        }
+        seen[flow] = true;
+        next = k;
+    }
+    true
+}
+
+fn flow_number(bytes: &[u8], k: usize) -> usize
+    requires { ⌜ (length (now bytes) ≡ tableSize) × (k < 1024) × (inRange (entryAt (now bytes) k) ≡ true) ⌝ }
+    ensures { λ r. ⌜ (r ≡ flowNumber (entryAt (now (bytes .entry)) k)) × (r < 128) ⌝ }
+{
+    8 * entry::output_of(bytes, k) as usize + entry::flow_of(bytes, k) as usize
+}
+
+// Whether an entry stands apart from those of its flow behind it, if there are such; `next` is the one right behind it.
+fn stands_apart(bytes: &[u8], seen: bool, k: usize, next: usize) -> bool
+    requires { ⌜ (length (now bytes) ≡ tableSize) × (k < 1024) × (next < 1024) ⌝ }
+    ensures { λ r. ⌜ r ≡ standsApart seen (entryAt (now (bytes .entry)) k) (entryAt (now (bytes .entry)) next) ⌝ }
+{
+    if !seen {
+        return false;
+    }
+    let this = entry::cell_of(bytes, k);
+    let that = entry::cell_of(bytes, next);
+    if !cell::same_flow(this, that) {
+        return true;
+    }
+    !cell::over(this, that)
+}
+
+// Whether no two entries have one slot.
+fn slots_differ(bytes: &[u8], from: usize, to: usize) -> bool
+    requires { ⌜ (length (now bytes) ≡ tableSize) × (to ≤ 1024) ⌝ }
+    ensures { λ r. ⌜ r ≡ pairwise otherSlot (entriesBetween (now (bytes .entry)) from to) ⌝ }
+{
+    let mut k = from;
+    while k < to {
+        if !slot_differs(bytes, k, k + 1, to) {
+            return false;
+        }
+        k += 1;
+    }
+    true
+}
+
+// Whether an entry has another slot than each of these.
+fn slot_differs(bytes: &[u8], k: usize, from: usize, to: usize) -> bool
+    requires { ⌜ (length (now bytes) ≡ tableSize) × (k < 1024) × (to ≤ 1024) ⌝ }
+    ensures { λ r. ⌜ r ≡ all? (λ j. otherSlot (entryAt (now (bytes .entry)) k) (entryAt (now (bytes .entry)) j)) (between from to) ⌝ }
+{
+    let slot = entry::slot_of(bytes, k);
+    let mut j = from;
+    while j < to {
+        if entry::slot_of(bytes, j) == slot {
+            return false;
+        }
+        j += 1;
+    }
+    true
+}
+
+// Whether no crosspoint holds two cells. From the last entry to the first; `seen` has the outputs of the crossed ones
+// passed.
+fn crosspoints_differ(bytes: &[u8], from: usize, to: usize) -> bool
+    requires { ⌜ (length (now bytes) ≡ tableSize) × (from ≤ to) × (to ≤ 1024) ⌝ }
+    requires { ⌜ all? inRange (entriesBetween (now bytes) from to) ≡ true ⌝ }
+    ensures { λ r. ⌜ r ≡ pairwise otherCrosspoint (entriesBetween (now (bytes .entry)) from to) ⌝ }
+{
+    let mut seen = [false; 16];
+    let mut k = to;
+    while from < k {
+        k -= 1;
+        if entry::place_of(bytes, k) != 2 {
+            continue;
+        }
+        let output = entry::output_of(bytes, k) as usize;
+        if seen[output] {
+            return false;
+        }
+        seen[output] = true;
+    }
+    true
+}
