@@ -2,30 +2,30 @@
 --     better-   which of two numbers is the better
 --     Best      what is known of the best of the first inputs' crosspoints; best-none, best-more
 --     best-of   over all inputs it is the definition's choice
-use Prim.Native.Nat.{ℕ, zero, suc, _+_, _*_, _/_, _<_, _≤_}
+use Prim.Native.Nat.{ℕ, _+_, _/_, _<_, _≤_}
 use native.Mathlib.Omega.{arith}
-use native.Mathlib.Numerals.{add-one}
-use mathlib.Core.Bool.{Bool, true, false, cond}
+use mathlib.Core.Bool.{Bool, true, false}
 use mathlib.Core.Path.{_≡_, refl, sym, _∙_, ap, ap₂, subst}
 use mathlib.Core.Logic.{_⊎_, inl, inr}
 use mathlib.Core.List.{List, [], _∷_, List·Memᴰ, List·Memᴰ·head, List·Memᴰ·not-nil}
 use borrow.Author.Tests.{le-leb, lt-leb, leb-true, leb-false, eqb-true, eq-eqb}
-use lib.Dec.{leb, ltb, eqb}
+use lib.Dec.{leb, eqb}
 use Rattle.laws.specs.Lists.{none?, least, first?}
 use Rattle.laws.proofs.Tests.{clash, by-fail}
 use Rattle.laws.proofs.Lists.{none?-i, keep-mem, mem-keep-in, mem-keep-passes}
-use Rattle.laws.proofs.Least.{least-mem, mem-least-in, mem-least-first}
+use Rattle.laws.proofs.Least.{Below, least-below, least-mem, mem-least-in, mem-least-first}
 use Rattle.cell.specs.declared.Cell.{Cell}
 use Rattle.cell.specs.Limits.{cellLimit}
 use Rattle.cell.specs.Order.{over}
 use Rattle.cell.proofs.Order.{Compared, below, equal, above, compare, over-irrefl, over-trans, over-total}
 use Rattle.model.specs.Phase.{Waiting, beats}
-use Rattle.model.proofs.WaitingOrder.{beats-i, beats-output, beats-over}
+use Rattle.model.proofs.WaitingOrder.{beats-i, beats-output, beats-over, beats-strict}
 use Rattle.table.proofs.Records.{entryAt-input}
 use Rattle.table.specs.Entry.{entryAt, portsIn}
-use Rattle.fabric.specs.View.{InTable, crosspointAt}
+use Rattle.fabric.specs.View.{crosspointAt}
 use Rattle.fabric.specs.Choices.{nowhere, numberOf, toOutput, bestOf}
-use Rattle.fabric.specs.Scan.{Holds, betterOf}
+use Rattle.fabric.specs.Scan.{Holds}
+use Rattle.fabric.specs.Walk.{betterOf}
 
 ------------------------------------------------------------------------
 -- the better of two
@@ -58,6 +58,14 @@ pub numberOf-first : (l : List Waiting) {e : Waiting} (r : ℕ) → List·Memᴰ
 unfolding numberOf first?
 numberOf-first [] r m h = absurd (List·Memᴰ·not-nil m)
 numberOf-first (x ∷ l) r m h = h x (List·Memᴰ·head refl)
+
+pub numberOf-one : (e : Waiting) → numberOf (first? (e ∷ [])) ≡ e .at
+unfolding numberOf first?
+numberOf-one e = refl
+
+pub numberOf-nil : numberOf (first? []) ≡ nowhere
+unfolding numberOf first?
+numberOf-nil = refl
 
 pub numberOf-none : (l : List Waiting) → ((f : Waiting) → List·Memᴰ f l → ⊥) → numberOf (first? l) ≡ nowhere
 unfolding numberOf first?
@@ -331,3 +339,91 @@ module _ (table : List ℕ) (cross : List (List ℕ)) (output : ℕ) where
             go : (g .at ≡ r) ⊎ (over (w .0 .cell) (g .cell) ≡ true) → g .at ≡ r
             go (inl e) = e
             go (inr t) = absurd (clash (beats-i (w .0) g (w .4 ∙ sym q) t) (mem-least-first beats cells m (w .1)))
+
+------------------------------------------------------------------------
+-- the definition's choice, by its cell
+
+module _ (table : List ℕ) (cross : List (List ℕ)) {cells : List Waiting} (h : Holds table cross cells) where
+  -- the cell of highest output priority at the crosspoints of an output
+  pub record Chief (output : ℕ) : Type 0 where
+    pub chief : Waiting
+    pub member : List·Memᴰ chief cells
+    pub goes : chief .cell .output ≡ output
+    pub number : chief .at ≡ bestOf cells output
+    pub upper : (x : Waiting) → List·Memᴰ x cells → x .cell .output ≡ output
+        → (x .cell ≡ chief .cell) ⊎ (beats chief x ≡ true)
+
+  -- two of the best of one output are one
+  least-one : {x y : Waiting} → List·Memᴰ x (least beats cells) → List·Memᴰ y (least beats cells)
+      → x .cell .output ≡ y .cell .output → x .cell ≡ y .cell
+  least-one {x} {y} m k o = go (compare (x .cell .input) (y .cell .input))
+    where
+      mx : List·Memᴰ x cells
+      mx = mem-least-in beats cells m
+
+      my : List·Memᴰ y cells
+      my = mem-least-in beats cells k
+
+      no : (x .cell .input ≡ y .cell .input → ⊥) → ⊥
+      no d = one (over-total (x .cell) (y .cell) (inl d))
+        where
+          one : (over (x .cell) (y .cell) ≡ true) ⊎ (over (y .cell) (x .cell) ≡ true) → ⊥
+          one (inl t) = clash (beats-i x y o t) (mem-least-first beats cells k mx)
+          one (inr t) = clash (beats-i y x (sym o) t) (mem-least-first beats cells m my)
+
+      go : Compared (x .cell .input) (y .cell .input) → x .cell ≡ y .cell
+      go (below l) = absurd (no (λ e. omega arith))
+      go (above l) = absurd (no (λ e. omega arith))
+      go (equal i) =
+          h .cell x mx
+          ∙ ap (λ n. entryAt table n .cell) (sym (h .filled x mx) ∙ ap₂ (crosspointAt cross) i o ∙ h .filled y my)
+          ∙ sym (h .cell y my)
+
+  -- the first of a list that has a member
+  first-of : (l : List Waiting) {x : Waiting} → List·Memᴰ x l
+      → (f : Waiting) × List·Memᴰ f l × (f .at ≡ numberOf (first? l))
+  unfolding numberOf first?
+  first-of [] m = absurd (List·Memᴰ·not-nil m)
+  first-of (f ∷ l) m = (f, List·Memᴰ·head refl, refl)
+
+  -- an output with a cell at its crosspoints has one
+  pub chief-of : (output : ℕ) {x : Waiting} → List·Memᴰ x cells → x .cell .output ≡ output → Chief output
+  unfolding bestOf
+  chief-of output {x} m o = record {
+    chief = b .0;
+    member = mem-least-in beats cells (toOutput-in output _ (b .1));
+    goes = toOutput-output output _ (b .1);
+    number = b .2;
+    upper = λ y k q. under y (below-of y k) q;
+  }
+    where
+      below-of : (y : Waiting) → List·Memᴰ y cells → Below beats cells y
+      below-of y k = least-below beats beats-strict cells k
+
+      goes-to : (y : Waiting) (w : Below beats cells y) → w .0 .cell .output ≡ y .cell .output
+      goes-to y w = go (w .2)
+        where
+          go : (w .0 ≡ y) ⊎ (beats (w .0) y ≡ true) → w .0 .cell .output ≡ y .cell .output
+          go (inl e) = ap (λ z. z .cell .output) e
+          go (inr t) = beats-output (w .0) y t
+
+      b : (f : Waiting) × List·Memᴰ f (toOutput output (least beats cells))
+          × (f .at ≡ numberOf (first? (toOutput output (least beats cells))))
+      b =
+          first-of (toOutput output (least beats cells))
+          (toOutput-i output (below-of x m .1) (goes-to x (below-of x m) ∙ o))
+
+      under : (y : Waiting) (w : Below beats cells y) → y .cell .output ≡ output
+          → (y .cell ≡ b .0 .cell) ⊎ (beats (b .0) y ≡ true)
+      under y w q = go (w .2)
+        where
+          one : w .0 .cell ≡ b .0 .cell
+          one =
+              least-one (w .1) (toOutput-in output _ (b .1))
+              (goes-to y w ∙ q ∙ sym (toOutput-output output _ (b .1)))
+
+          go : (w .0 ≡ y) ⊎ (beats (w .0) y ≡ true) → (y .cell ≡ b .0 .cell) ⊎ (beats (b .0) y ≡ true)
+          go (inl e) = inl (ap (λ z. z .cell) (sym e) ∙ one)
+          go (inr t) =
+              inr (beats-i (b .0) y (ap (λ c. c .output) (sym one) ∙ beats-output (w .0) y t)
+              (ap (λ c. over c (y .cell)) (sym one) ∙ beats-over (w .0) y t))

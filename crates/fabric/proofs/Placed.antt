@@ -55,7 +55,7 @@ map-numbers f g k (suc n) h =
 ------------------------------------------------------------------------
 -- the numbered entries
 
-numberFrom-placed : (table places : List ℕ) (k n : ℕ)
+pub numberFrom-placed : (table places : List ℕ) (k n : ℕ)
     → numberFrom k (map (entryPlaced table places) (numbersFrom k n)) ≡ map (waitingAt table places) (numbersFrom k n)
 unfolding numberFrom numbersFrom entryPlaced waitingAt
 numberFrom-placed table places k zero = refl
@@ -92,6 +92,15 @@ countsBytes-at (suc n) [] bs (suc i) h few = countsBytes-at n [] bs i (omega ari
 countsBytes-at (suc n) (es ∷ sections) bs zero h few = omega arith
 countsBytes-at (suc n) (es ∷ sections) bs (suc i) h few = countsBytes-at n sections bs i (omega arith) few
 
+-- the count of a section
+pub encode-count : (s : Switch) (i : ℕ) → i < portLimit → length (getD (s .sections) i []) ≤ cellLimit
+    → countIn (encode s) i ≡ length (getD (s .sections) i [])
+unfolding countIn
+encode-count s i h few =
+    sym (getD-drop 16 (encode s) i 0)
+    ∙ ap (λ bs. getD bs i 0) (encode-counts s)
+    ∙ countsBytes-at portLimit (s .sections) (sectionsBytes portLimit (s .sections)) i h few
+
 -- the place among the bytes of an entry
 entryBytes-place : (x : Entry) → numberAt 1 2 (entryBytes x) ≡ placeByte (x .place)
 unfolding entryBytes bytesOf numberAt numberOf placeByte
@@ -123,16 +132,12 @@ module _ (table : List ℕ) (s : Switch) (e : decode table ≡ some s) where
   pub decode-ports-few : portsIn table ≤ portLimit
   decode-ports-few = omega (arith, decode-ports, sound-ports s (decode-sound table s e))
 
-  section-short : (i : ℕ) → length (getD (s .sections) i []) ≤ cellLimit
+  pub section-short : (i : ℕ) → length (getD (s .sections) i []) ≤ cellLimit
   section-short i = sections-e (s .ports) (s .clock) (s .sections) (sound-sections s (decode-sound table s e)) i .short
 
   pub decode-count : (i : ℕ) → i < portLimit → countIn table i ≡ length (getD (s .sections) i [])
-  unfolding countIn
   decode-count i h =
-      ap (λ bs. getD bs (16 + i) 0) (sym (encode-decode table s e))
-      ∙ sym (getD-drop 16 (encode s) i 0)
-      ∙ ap (λ bs. getD bs i 0) (encode-counts s)
-      ∙ countsBytes-at portLimit (s .sections) (sectionsBytes portLimit (s .sections)) i h (section-short i)
+      ap (λ bs. countIn bs i) (sym (encode-decode table s e)) ∙ encode-count s i h (section-short i)
 
   pub decode-count-few : (i : ℕ) → i < portLimit → countIn table i ≤ cellLimit
   decode-count-few i h = let few = section-short i in omega (arith, decode-count i h)

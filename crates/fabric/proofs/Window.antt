@@ -4,23 +4,25 @@
 --     window-suc, window-     the first cells of an input
 --     inTable-i, inTable-e    the waiting cells are those whose number is in the table
 --     ofInput-window          those of an input are its window
-use Prim.Native.Nat.{ℕ, zero, suc, _+_, _*_, _/_, _<_, _≤_}
+use Prim.Native.Nat.{ℕ, zero, suc, _+_, _*_, _-_, _/_, _<_, _≤_}
 use native.Mathlib.Omega.{arith}
-use native.Mathlib.Nat.{add-zero}
+use native.Mathlib.Nat.{add-zero, zero-add, suc-add}
 use mathlib.Core.Bool.{Bool, true, false}
 use mathlib.Core.Path.{_≡_, refl, sym, _∙_, ap, ap₂, subst}
 use mathlib.Core.Logic.{_⊎_, inl, inr, _≢_}
 use mathlib.Core.List.{List, [], _∷_, _++_, map, flatten, append-nil, List·Memᴰ, List·Memᴰ·head, List·Memᴰ·tail}
 use mathlib.Core.List.{List·Memᴰ·not-nil, List·Memᴰ·cases-cons, List·Memᴰ·append-cases}
-use mathlib.Core.List.{Memᴰ·append-left, Memᴰ·append-right, Memᴰ·cast, Memᴰ·map, Memᴰ·of-map}
-use borrow.Author.Tests.{eqb-true, eq-eqb, ne-eqb}
+use mathlib.Core.List.{Memᴰ·append-left, Memᴰ·append-right, Memᴰ·map, Memᴰ·of-map}
+use borrow.Author.Tests.{eq-eqb, ne-eqb}
 use lib.Dec.{eqb}
-use lib.ListN.{length, getD}
-use Rattle.laws.specs.Lists.{keep, numbersFrom, upTo}
-use Rattle.laws.proofs.Lists.{keep-append, keep-all, keep-none, keep-nil, all?-i, none?-i}
-use Rattle.cell.specs.Limits.{cellLimit, portLimit}
+use lib.ListN.{length, getD, length-map}
+use Rattle.laws.specs.Lists.{keep, pairwise, numbersFrom, upTo}
+use Rattle.laws.proofs.Lists.{keep-append, keep-all, keep-none, all?-i, none?-i}
+use Rattle.laws.proofs.Pairwise.{pairwise-nil, pairwise-cons, pairwise-map}
+use Rattle.cell.specs.Limits.{cellLimit}
 use Rattle.cell.proofs.Order.{Compared, below, equal, above, compare}
-use Rattle.model.specs.Phase.{Waiting}
+use Rattle.model.specs.Phase.{Waiting, ahead}
+use Rattle.model.proofs.WaitingOrder.{ahead-i}
 use Rattle.model.proofs.Sections.{map-append}
 use Rattle.model.proofs.PhaseFacts.{crosspoints, crosspoints-i, crosspoints-all, crosspoints-crossed}
 use Rattle.table.proofs.Records.{entryAt-input}
@@ -54,12 +56,39 @@ numbersFrom-i k (suc n) {a} h l = go (compare a k) (numbersFrom-i (k + 1) n)
     go (equal b) rec = List·Memᴰ·head b
     go (above b) rec = List·Memᴰ·tail (rec (omega arith) (omega arith))
 
+numbersFrom-cons : (k n : ℕ) → numbersFrom k (suc n) ≡ k ∷ numbersFrom (k + 1) n
+unfolding numbersFrom
+numbersFrom-cons k n = refl
+
 pub numbersFrom-suc : (k n : ℕ) → numbersFrom k (suc n) ≡ numbersFrom k n ++ ((k + n) ∷ [])
 unfolding numbersFrom
 numbersFrom-suc k zero = ap (λ a. a ∷ []) (sym (add-zero k))
 numbersFrom-suc k (suc n) =
     let e : k + 1 + n ≡ k + suc n = omega arith in
     ap (λ l. k ∷ l) (numbersFrom-suc (k + 1) n ∙ ap (λ a. numbersFrom (k + 1) n ++ (a ∷ [])) e)
+
+pub numbersFrom-add : (k n m : ℕ) → numbersFrom k (n + m) ≡ numbersFrom k n ++ numbersFrom (k + n) m
+unfolding numbersFrom
+numbersFrom-add k zero m = ap₂ numbersFrom (sym (add-zero k)) (zero-add m)
+numbersFrom-add k (suc n) m =
+    let e : k + 1 + n ≡ k + suc n = omega arith in
+    rw suc-add
+    (ap (λ l. k ∷ l) (numbersFrom-add (k + 1) n m ∙ ap (λ a. numbersFrom (k + 1) n ++ numbersFrom a m) e))
+
+pub length-numbersFrom : (k n : ℕ) → length (numbersFrom k n) ≡ n
+unfolding numbersFrom
+length-numbersFrom k zero = refl
+length-numbersFrom k (suc n) = ap suc (length-numbersFrom (k + 1) n)
+
+-- a run rises
+pub numbersFrom-pairwise : (r : ℕ → ℕ → Bool) (k n : ℕ) → ((a b : ℕ) → k ≤ a → a < b → b < k + n → r a b ≡ true)
+    → pairwise r (numbersFrom k n) ≡ true
+unfolding numbersFrom
+numbersFrom-pairwise r k zero h = pairwise-nil r
+numbersFrom-pairwise r k (suc n) h =
+    pairwise-cons r k (numbersFrom (k + 1) n)
+    (λ b m. let w = numbersFrom-e (k + 1) n m in h k b (omega arith) (omega (arith, w .0)) (omega (arith, w .1)))
+    (numbersFrom-pairwise r (k + 1) n (λ a b l m u. h a b (omega arith) m (omega arith)))
 
 -- a list for each number of a run, one after the other
 module _ {A : Type 0} (w : ℕ → List A) where
@@ -187,6 +216,33 @@ module _ (table places : List ℕ) where
       let w = window-e input n m in
       let q : e .at / cellLimit ≡ input = omega (arith, w .from, w .to) in
       ap (λ w. w .cell .input) (w .self) ∙ waitingAt-input (e .at) ∙ q
+
+  pub length-window : (input n : ℕ) → length (window table places input n) ≡ n
+  unfolding window
+  length-window input n =
+      length-map (numbersFrom (cellLimit * input) n) (waitingAt table places) ∙ length-numbersFrom (cellLimit * input) n
+
+  -- a window goes on after its first n cells
+  pub window-split : (input n m k : ℕ) → n < m → k ≡ cellLimit * input + n
+      → window table places input m
+      ≡ window table places input n ++ (waitingAt table places k ∷ map (waitingAt table places) (numbersFrom (k + 1) (m - (n + 1))))
+  unfolding window
+  window-split input n m k l at =
+      let q : m ≡ n + suc (m - (n + 1)) = omega arith in
+      ap (λ m. map (waitingAt table places) (numbersFrom (cellLimit * input) m)) q
+      ∙ ap (map (waitingAt table places)) (numbersFrom-add (cellLimit * input) n (suc (m - (n + 1))))
+      ∙ map-append (waitingAt table places) (numbersFrom (cellLimit * input) n) (numbersFrom (cellLimit * input + n) (suc (m - (n + 1))))
+      ∙ ap (λ l. window table places input n ++ map (waitingAt table places) l) (ap (λ a. numbersFrom a (suc (m - (n + 1)))) (sym at) ∙ numbersFrom-cons k (m - (n + 1)))
+
+  -- its cells stand in the order of their numbers
+  pub window-ordered : (input n : ℕ) → n ≤ cellLimit → pairwise ahead (window table places input n) ≡ true
+  unfolding window
+  window-ordered input n small =
+      pairwise-map ahead (waitingAt table places) (numbersFrom (cellLimit * input) n)
+      ∙ numbersFrom-pairwise (λ a b. ahead (waitingAt table places a) (waitingAt table places b)) (cellLimit * input) n
+      (λ a b l m u. ahead-i (waitingAt table places a) (waitingAt table places b)
+      (waitingAt-input a ∙ (let q : a / cellLimit ≡ b / cellLimit = omega arith in q) ∙ sym (waitingAt-input b))
+      (omega (arith, waitingAt-at a, waitingAt-at b)))
 
   ------------------------------------------------------------------------
   -- all waiting cells

@@ -1,5 +1,6 @@
 pub mod Arrival
 pub mod Choices
+pub mod Departing
 pub mod Fault
 pub mod Loading
 pub mod Moved
@@ -7,3 +8,4 @@ pub mod Moves
 pub mod Scan
 pub mod Sections
 pub mod View
+pub mod Walk

@@ -1,9 +1,4 @@
-pub mod Tests
-pub mod Line
 pub mod Blocks
+pub mod Line
 pub mod RoundTrip
-pub mod Pour
-pub mod Digits
-pub mod Keys
-pub mod Flat
-pub mod Writing
+pub mod Tests

@@ -4,6 +4,3 @@ pub mod Flat
 pub mod Line
 pub mod Piece
 pub mod Reader
-pub mod Reading
-pub mod Writing
-pub mod Keys

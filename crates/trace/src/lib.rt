@@ -1,8 +1,5 @@
-// The trace: one grammar, read and written here. What a line, a block and a whole text mean is in specs/.
+// The trace: one grammar, read by `reader` and written by `writer`. What a line, a block and a whole text mean is in specs/.
 use cell::Refusal;
-
-pub mod reader;
-pub mod writer;
 
 // The key of a line, in a trace or in what the player writes.
 pub enum Key {

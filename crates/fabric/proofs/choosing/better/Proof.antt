@@ -1,4 +1,3 @@
--- Each return is decided by one test.
 use mathlib.Core.Path.{sym}
 use Rattle.fabric.proofs.Best.{better-none, better-first, better-over, better-under}
 use borrow.Author.Needs.{needs}
@@ -14,38 +13,19 @@ returns-2 c = sym (better-first _ _ _ (c .before .if1 .left) (c .if2 .taken))
 wide-requires : tie.Need-wide-requires
 wide-requires c κs = search needs
 
-cell-of-requires : tie.Need-cell-of-requires
-cell-of-requires c κs = search needs
-
-wide-requires-2 : tie.Need-wide-requires-2
-wide-requires-2 c κs = search needs
-
-cell-of-requires-2 : tie.Need-cell-of-requires-2
-cell-of-requires-2 c κs = search needs
-
-over-requires : tie.Need-over-requires
-over-requires c κs = search needs
+is-over-requires : tie.Need-is-over-requires
+is-over-requires c κs = search needs
 
 returns-3 : tie.Need-returns-3
 returns-3 c =
-    let tests = c .before .before .before .before .before .before in
+    let tests = c .before .before .before in
     sym (better-over _ _ _ (tests .before .if1 .left) (tests .if2 .left) (cc))
 
 returns-4 : tie.Need-returns-4
 returns-4 c =
-    let tests = c .before .before .before .before .before .before in
+    let tests = c .before .before .before in
     sym (better-under _ _ _ (tests .before .if1 .left) (tests .if2 .left) (cc))
 
 pub better-spec : {M : Type 1} → statement M
 better-spec =
-    tie.close
-    (tie.spec
-    returns
-    returns-2
-    wide-requires
-    cell-of-requires
-    wide-requires-2
-    cell-of-requires-2
-    over-requires
-    returns-3
-    returns-4)
+    tie.close (tie.spec returns returns-2 wide-requires is-over-requires returns-3 returns-4)

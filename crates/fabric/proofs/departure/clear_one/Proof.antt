@@ -1,0 +1,47 @@
+-- Two zeros one behind the other.
+use native.Mathlib.Omega.{arith}
+use mathlib.Core.Path.{_∙_, ap}
+use borrow.Author.Needs.{needs}
+use Rattle.table.specs.Records.{recordStart}
+use Rattle.fabric.proofs.Put.{put, put-two}
+use Rattle.fabric.proofs.Staying.{zero-words}
+use Rattle.fabric.proofs.departure.clear_one.Statement.{statement}
+use Rattle.fabric.proofs.departure.clear_one.Tie as tie
+
+mul-at : tie.Need-mul-at
+mul-at c = search needs
+
+add-at : tie.Need-add-at
+add-at c = search needs
+
+write-u64-requires : tie.Need-write-u64-requires
+write-u64-requires c κs = search needs
+
+add-write-u64 : tie.Need-add-write-u64
+add-write-u64 c = search needs
+
+write-u64-requires-2 : tie.Need-write-u64-requires-2
+write-u64-requires-2 c κs = search needs
+
+same-length : tie.Need-same-length
+same-length c = search needs
+
+returns : tie.Need-returns
+returns c =
+    let start = c .before .before .before .before .before .before .before .before .before in
+    let old = start .args .table .now in
+    put-two (recordStart (start .args .k)) 0 0 old (c .before .before .before .before .before .before .write-u64 .last .0) (c .before .before .write-u642 .last .0)
+    (omega (arith, start .pre .0, start .pre .1)) (c .before .before .before .before .before .before .write-u64 .ensures) (c .before .before .write-u642 .ensures)
+    ∙ ap (λ bs. put (recordStart (start .args .k)) 16 bs old) zero-words
+
+pub clear-one-spec : {M : Type 1} → statement M
+clear-one-spec =
+    tie.close
+    (tie.spec
+    mul-at
+    add-at
+    write-u64-requires
+    add-write-u64
+    write-u64-requires-2
+    same-length
+    returns)

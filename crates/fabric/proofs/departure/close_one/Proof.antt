@@ -1,0 +1,99 @@
+-- The entry is its output's choice and leaves, or it is written to the free record.
+use Prim.Native.Nat.{_+_, _<_}
+use native.Mathlib.Omega.{arith}
+use mathlib.Core.Path.{_≡_, sym, _∙_, ap}
+use borrow.Author.Needs.{needs}
+use lib.ListN.{getD}
+use Rattle.table.specs.Entry.{entryAt}
+use Rattle.table.specs.Records.{recordStart}
+use Rattle.table.proofs.Records.{entryAt-flow}
+use Rattle.fabric.proofs.Staying.{free-leave, closed-leave, free-stay, closed-stay}
+use Rattle.fabric.proofs.departure.close_one.Statement.{statement}
+use Rattle.fabric.proofs.departure.close_one.Tie as tie
+
+-- the number of the entry's output
+choice : (t : tie.After-output-of) → let start = t .before .before .before .before in
+    getD (start .args .best .now) (t .output-of .result) 0
+    ≡ getD (start .args .best .now) (entryAt (start .args .table .now) (start .args .k) .cell .output) 0
+choice t = ap (λ o. getD (t .before .before .before .before .args .best .now) o 0) (t .output-of .ensures)
+
+output-of-requires : tie.Need-output-of-requires
+output-of-requires c κs = search needs
+
+cast-if1 : tie.Need-cast-if1
+cast-if1 c = search needs
+
+mul-if1 : tie.Need-mul-if1
+mul-if1 c = search needs
+
+element-copy-out-if1 : tie.Need-element-copy-out-if1
+element-copy-out-if1 c = search needs
+
+cast-if1-2 : tie.Need-cast-if1-2
+cast-if1-2 c = search needs
+
+same-length : tie.Need-same-length
+same-length c = search needs
+
+returns : tie.Need-returns
+returns c =
+    let start = c .before .before .before .before .before .before in
+    let own = sym (choice (c .before .before)) ∙ c .if1 .taken in (
+      free-leave (start .args .table .now) (start .args .places .now) (start .args .best .now) (start .args .k) (start .args .free) own,
+      closed-leave (start .args .table .now) (start .args .places .now) (start .args .best .now) (start .args .k) (start .args .free) own,
+    )
+
+cell-of-requires : tie.Need-cell-of-requires
+cell-of-requires c κs = search needs
+
+shared-slice-read-write-entry : tie.Need-shared-slice-read-write-entry
+shared-slice-read-write-entry c = search needs
+
+write-entry-requires : tie.Need-write-entry-requires
+write-entry-requires c κs =
+    let start = c .before .before .before .before .before .before .before .before .before .before in
+    let table = start .args .table .now in
+    let d = c .before .before .cell-of .ensures in
+    let output : c .before .before .cell-of .result .output < 256 = omega (arith, ap (λ e. e .output) d, start .pre .1 .0) in
+    let flow : c .before .before .cell-of .result .flow < 256 =
+    omega (arith, ap (λ e. e .flow) d ∙ entryAt-flow table (start .args .k), c .before .before .before .before .before .before .before .before .before .slice-known .given (recordStart (start .args .k) + 1)) in (
+      (start .pre .0 .0, omega (arith, start .pre .0 .2, start .pre .0 .3)),
+      (output, flow, start .pre .1 .1 .0, start .pre .1 .1 .1),
+    )
+
+add-result : tie.Need-add-result
+add-result c = search needs
+
+same-length-2 : tie.Need-same-length-2
+same-length-2 c = search needs
+
+returns-2 : tie.Need-returns-2
+returns-2 c =
+    let start = c .before .before .before .before .before .before .before .before .before .before .before .before .before in
+    let table = start .args .table .now in
+    let places = start .args .places .now in
+    let numbers = start .args .best .now in
+    let other : getD numbers (entryAt table (start .args .k) .cell .output) 0 ≡ start .args .k → ⊥ =
+    λ h. c .before .before .before .before .before .before .before .if1 .left (choice (c .before .before .before .before .before .before .before .before .before) ∙ h) in (
+      free-stay table places numbers (start .args .k) (start .args .free) other,
+      c .before .before .write-entry .ensures
+          ∙ closed-stay table places numbers (start .args .k) (start .args .free) other (c .before .before .before .before .before .cell-of .result) (c .before .before .before .before .before .cell-of .ensures),
+    )
+
+pub close-one-spec : {M : Type 1} → statement M
+close-one-spec =
+    tie.close
+    (tie.spec
+    output-of-requires
+    cast-if1
+    mul-if1
+    element-copy-out-if1
+    cast-if1-2
+    same-length
+    returns
+    cell-of-requires
+    shared-slice-read-write-entry
+    write-entry-requires
+    add-result
+    same-length-2
+    returns-2)

@@ -1,0 +1,38 @@
+-- The choices, the answer, the table without the cells that leave.
+use native.Mathlib.Omega.{arith}
+use mathlib.Core.Path.{_∙_, ap}
+use borrow.Author.Needs.{needs}
+use Rattle.table.specs.Host.{filled}
+use Rattle.fabric.proofs.Leaving.{ready-readable}
+use Rattle.fabric.proofs.Sending.{departures-chosen}
+use Rattle.fabric.proofs.departure.depart.Statement.{statement}
+use Rattle.fabric.proofs.departure.depart.Tie as tie
+
+choose-requires : tie.Need-choose-requires
+choose-requires c κs = search needs
+
+send-requires : tie.Need-send-requires
+send-requires c κs =
+    (ready-readable (c .before .before .before .before .before .before .before .before .pre .0) .size, c .before .before .before .choose .ensures .size, omega (arith, c .before .before .before .before .before .before .before .before .pre .1))
+
+remove-requires : tie.Need-remove-requires
+remove-requires c κs = search needs
+
+same-length : tie.Need-same-length
+same-length c = search needs
+
+same-length-2 : tie.Need-same-length-2
+same-length-2 c = search needs
+
+returns : tie.Need-returns
+returns c =
+    let start = c .before .before .before .before .before .before .before .before .before .before .before .before .before .before .before .before in (
+      c .before .before .remove .ensures,
+      c .before .before .before .before .before .before .before .send .ensures
+          ∙ ap (λ bs. filled bs (start .args .answer .now)) (departures-chosen (start .pre .0) (c .before .before .before .before .before .before .before .before .before .before .before .choose .ensures)),
+    )
+
+pub depart-spec : {M : Type 1} → statement M
+depart-spec =
+    tie.close
+    (tie.spec choose-requires send-requires remove-requires same-length same-length-2 returns)

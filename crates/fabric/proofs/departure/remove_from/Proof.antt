@@ -1,0 +1,100 @@
+-- The section closes up, and the records behind it are cleared.
+use Prim.Native.Nat.{_+_, _*_, _-_, _≤_}
+use native.Mathlib.Omega.{arith}
+use mathlib.Core.Path.{_≡_, sym, _∙_, ap, ap₂, subst}
+use borrow.Author.Needs.{needs}
+use lib.ListN.{length, length-set}
+use Rattle.table.specs.Entry.{countIn}
+use Rattle.fabric.specs.Departing.{staying, closed, cleared, Movable}
+use Rattle.fabric.proofs.Staying.{length-left, removed-section}
+use Rattle.fabric.proofs.departure.remove_from.Statement.{statement}
+use Rattle.fabric.proofs.departure.remove_from.Tie as tie
+
+-- the number of the section's entries
+size : (t : tie.After-end-of) → t .end-of .result - 64 * t .before .before .before .before .args .input ≡ countIn (t .before .before .before .before .args .table .now) (t .before .before .before .before .args .input)
+size t = omega (arith, t .end-of .ensures)
+
+-- and of those that stay
+kept : (t : tie.After-close-up) → let start = t .before .before .before .before .before .before in
+    t .close-up .result
+    ≡ 64 * start .args .input
+    + length
+    (staying (start .args .table .now) (start .args .places .now) (start .args .best .now) (64 * start .args .input)
+    (countIn (start .args .table .now) (start .args .input)))
+kept t =
+    let a = t .before .before .before .before .before .before .args in
+    t .close-up .ensures .0
+    ∙ ap (λ n. 64 * a .input + length (staying (a .table .now) (a .places .now) (a .best .now) (64 * a .input) n)) (size (t .before .before))
+
+few : (t : tie.After-close-up) → let start = t .before .before .before .before .before .before in
+    t .close-up .result ≤ 64 * start .args .input + countIn (start .args .table .now) (start .args .input)
+few t =
+    let a = t .before .before .before .before .before .before .args in
+    omega (arith, kept t, length-left (a .table .now) (a .places .now) (a .best .now) (a .input) (t .before .before .before .before .before .before .pre))
+
+mul-first : tie.Need-mul-first
+mul-first c = search needs
+
+end-of-requires : tie.Need-end-of-requires
+end-of-requires c κs = search needs
+
+close-up-requires : tie.Need-close-up-requires
+close-up-requires c κs =
+    let start = c .before .before .before .before .before in
+    let a = start .args in
+    subst (Movable (a .table .now) (a .places .now) (64 * a .input)) (sym (c .before .end-of .ensures)) (start .pre .records)
+
+clear-requires : tie.Need-clear-requires
+clear-requires c κs =
+    let start = c .before .before .before .before .before .before .before .before .before in
+    let up = c .before .before .before .close-up in (
+      up .kept .0 ∙ start .pre .records .size,
+      omega (arith, few (c .before .before .before), c .before .before .before .before .before .end-of .ensures),
+      omega (arith, start .pre .records .limit, c .before .before .before .before .before .end-of .ensures),
+    )
+
+sub-table : tie.Need-sub-table
+sub-table c = search needs
+
+cast-table : tie.Need-cast-table
+cast-table c =
+    omega (arith, few (c .before .before .before .before .before .before), c .before .before .before .before .before .before .before .before .before .before .before .before .pre .count)
+
+add-table : tie.Need-add-table
+add-table c = search needs
+
+slice-write-table : tie.Need-slice-write-table
+slice-write-table c = search needs
+
+same-length : tie.Need-same-length
+same-length c =
+    length-set (c .before .before .clear .last .0) _ _ ∙ c .before .before .clear .kept .0 ∙ c .before .before .before .before .before .before .close-up .kept .0
+
+returns : tie.Need-returns
+returns c =
+    let start = c .before .before .before .before .before .before .before .before .before .before .before .before in
+    let a = start .args in
+    let up = c .before .before .before .before .before .before .close-up in
+    let left = length (staying (a .table .now) (a .places .now) (a .best .now) (64 * a .input) (countIn (a .table .now) (a .input))) in
+    let cleared-left : c .before .before .before .before .before .before .before .before .end-of .result - up .result ≡ countIn (a .table .now) (a .input) - left =
+    omega (arith, kept (c .before .before .before .before .before .before), c .before .before .before .before .before .before .before .before .end-of .ensures) in
+    removed-section (a .table .now) (a .places .now) (a .best .now) (a .input) (start .pre) (up .last .0) (c .before .before .clear .last .0)
+    (up .result - 64 * a .input)
+    (up .ensures .1 ∙ ap (closed (a .table .now) (a .places .now) (a .best .now) (64 * a .input)) (size (c .before .before .before .before .before .before .before .before)))
+    (c .before .before .clear .ensures ∙ ap₂ (cleared (up .last .0)) (kept (c .before .before .before .before .before .before)) cleared-left)
+    (omega (arith, kept (c .before .before .before .before .before .before)))
+
+pub remove-from-spec : {M : Type 1} → statement M
+remove-from-spec =
+    tie.close
+    (tie.spec
+    mul-first
+    end-of-requires
+    close-up-requires
+    clear-requires
+    sub-table
+    cast-table
+    add-table
+    slice-write-table
+    same-length
+    returns)

@@ -1,0 +1,146 @@
+-- What the readers of a header and of a block answer, by what they read.
+use Prim.Native.Nat.{ℕ, _+_, _-_, _≤_, _<_}
+use native.Mathlib.Omega.{arith}
+use mathlib.Core.Bool.{Bool, true, false}
+use mathlib.Core.List.{List, [], _∷_, _++_}
+use mathlib.Core.Logic.{_≢_}
+use mathlib.Core.Path.{_≡_, refl, sym, ap, _∙_}
+use borrow.Author.Tests.{eq-eqb, ne-eqb}
+use lib.ListN.{length, drop, drop-of-length-le}
+use lib.Seq.{drop-cons}
+use Rattle.cell.specs.declared.Arrival.{Arrival}
+use Rattle.cell.specs.declared.Refusal.{Refusal}
+use Rattle.cell.specs.declared.Refusal.the-variants.{BadSize, BadLine}
+use Rattle.cell.specs.Limits.{portsInRange}
+use Rattle.trace.specs.declared.Key.the-variants.{Ports, First, Slot, End as EndKey}
+use Rattle.trace.specs.declared.Opening.{Opening}
+use Rattle.trace.specs.declared.Opening.the-variants.{Open, Refused, Short}
+use Rattle.trace.specs.declared.Answer.the-variants.{End, Bad, More}
+use Rattle.trace.specs.Contents.{blockLimit}
+use Rattle.trace.specs.Reader.{Cursor, Read, got, badAt, number, exactly, begins, arrivals, block}
+use Rattle.trace.specs.Reader.{Next, finished, faulty, next, Header, opened, refusedAt, header}
+use Rattle.trace.specs.Piece.{known, more, decided, nextIn, headerIn, blockOf, openingOf}
+use Rattle.reader.specs.Reading.{from, noArrivals, ahead}
+use Rattle.trace.proofs.Blocks.{bind-got, bind-bad, exactly-same, exactly-other, exactly-bad, afterEnd-nil, afterEnd-cons}
+use Rattle.trace.proofs.Blocks.{next-block, next-no-block, next-last, next-no-last}
+use Rattle.trace.proofs.RoundTrip.{header-bad-ports, header-bad-size, header-bad-first, header-opened}
+
+module _ (last : Bool) (t : List ℕ) where
+  pub headerIn-more : decided last t ≡ false → headerIn last t ≡ more
+  unfolding headerIn
+  headerIn-more h = rw (h, headerIn)
+
+  pub headerIn-known : decided last t ≡ true → headerIn last t ≡ known (header t)
+  unfolding headerIn
+  headerIn-known h = rw (h, headerIn)
+
+  pub nextIn-more : (clock : ℕ) → decided last t ≡ false → nextIn last clock t ≡ more
+  unfolding nextIn
+  nextIn-more clock h = rw (h, nextIn)
+
+  pub nextIn-known : (clock : ℕ) → decided last t ≡ true → nextIn last clock t ≡ known (next clock (from 0 t))
+  unfolding nextIn
+  nextIn-known clock h = rw (h, nextIn)
+
+  -- the header
+
+  pub opening-short : decided last t ≡ false → openingOf t (headerIn last t) ≡ Short
+  unfolding openingOf
+  opening-short h = rw (headerIn-more h)
+
+  module _ (d : decided last t ≡ true) where
+    opening-refused : {r : Refusal} {l : ℕ} → header t ≡ refusedAt r l → openingOf t (headerIn last t) ≡ Refused r l
+    unfolding openingOf
+    opening-refused h = rw (headerIn-known d, h)
+
+    pub opening-bad-ports : number Ports (from 1 t) ≡ badAt 1 → openingOf t (headerIn last t) ≡ Refused BadLine 1
+    opening-bad-ports h = opening-refused (header-bad-ports t h)
+
+    module _ {n : ℕ} {c : Cursor} (p : number Ports (from 1 t) ≡ got n c) where
+      pub opening-bad-size : portsInRange n ≡ false → openingOf t (headerIn last t) ≡ Refused BadSize 1
+      opening-bad-size h = opening-refused (header-bad-size t p h)
+
+      pub opening-bad-first : portsInRange n ≡ true → number First c ≡ badAt 2
+          → openingOf t (headerIn last t) ≡ Refused BadLine 2
+      opening-bad-first h f = opening-refused (header-bad-first t p h f)
+
+      pub opening-open : portsInRange n ≡ true → {first i : ℕ} {e : Cursor} → number First c ≡ got first e
+          → i + length (e .text) ≡ length t → openingOf t (headerIn last t) ≡ Open n first i
+      unfolding openingOf
+      opening-open h {first} {i} {e} f l =
+          let g : length t - length (e .text) ≡ i = omega arith in
+          rw (headerIn-known d, header-opened t p h f) (ap (Open n first) g)
+
+-- a block, or the end
+
+blockOf-faulty : (t : List ℕ) {n : Next} {l : ℕ} → n ≡ faulty l → noArrivals (Bad l) ≡ blockOf t (known n)
+unfolding blockOf noArrivals
+blockOf-faulty t h = rw (h, blockOf)
+
+blockOf-finished : (t : List ℕ) {n : Next} → n ≡ finished → noArrivals End ≡ blockOf t (known n)
+unfolding blockOf noArrivals
+blockOf-finished t h = rw (h, blockOf)
+
+pub block-more : (last : Bool) (clock : ℕ) (t : List ℕ) → decided last t ≡ false
+    → noArrivals More ≡ blockOf t (nextIn last clock t)
+unfolding blockOf noArrivals
+block-more last clock t h = rw (nextIn-more last t clock h)
+
+pub block-known : (last : Bool) (clock : ℕ) (t : List ℕ) → decided last t ≡ true
+    → blockOf t (known (next clock (from 0 t))) ≡ blockOf t (nextIn last clock t)
+block-known last clock t h = ap (blockOf t) (sym (nextIn-known last t clock h))
+
+module _ (clock : ℕ) (t : List ℕ) where
+  -- the line of `end`
+  module _ (b : begins EndKey (from 0 t) ≡ true) where
+    pub end-bad : number EndKey (from 0 t) ≡ badAt 0 → noArrivals (Bad 0) ≡ blockOf t (known (next clock (from 0 t)))
+    end-bad h = blockOf-faulty t (next-no-last clock (from 0 t) b (exactly-bad EndKey clock (from 0 t) h))
+
+    module _ (i : ℕ) {n : ℕ} (p : number EndKey (from 0 t) ≡ got n (from 1 (drop i t))) where
+      pub end-other : n ≢ clock → noArrivals (Bad 0) ≡ blockOf t (known (next clock (from 0 t)))
+      end-other h =
+          blockOf-faulty t (next-no-last clock (from 0 t) b (exactly-other EndKey clock (from 0 t) p (ne-eqb n clock h)))
+
+      pub end-more : n ≡ clock → i < length t → noArrivals (Bad 1) ≡ blockOf t (known (next clock (from 0 t)))
+      end-more h l =
+          blockOf-faulty t
+          (next-last clock (from 0 t) b (exactly-same EndKey clock (from 0 t) p (eq-eqb n clock h))
+          ∙ afterEnd-cons (from 1 (drop i t)) (drop-cons t i 0 l))
+
+      pub end-end : n ≡ clock → length t ≤ i → noArrivals End ≡ blockOf t (known (next clock (from 0 t)))
+      end-end h l =
+          blockOf-finished t
+          (next-last clock (from 0 t) b (exactly-same EndKey clock (from 0 t) p (eq-eqb n clock h))
+          ∙ afterEnd-nil (from 1 (drop i t)) (drop-of-length-le t l))
+
+  -- the line of `slot`
+  module _ (b : begins EndKey (from 0 t) ≡ false) where
+    next-ahead : next clock (from 0 t) ≡ ahead (block clock (from 0 t))
+    unfolding ahead
+    next-ahead = go (block clock (from 0 t)) refl
+      where
+        go : (r : Read (List Arrival)) → block clock (from 0 t) ≡ r → next clock (from 0 t) ≡ ahead (block clock (from 0 t))
+        go (got rs d) e = next-block clock (from 0 t) b e ∙ sym (rw e)
+        go (badAt l) e = next-no-block clock (from 0 t) b e ∙ sym (rw e)
+
+    slot-fault : exactly Slot clock (from 0 t) ≡ badAt 0 → noArrivals (Bad 0) ≡ blockOf t (known (next clock (from 0 t)))
+    unfolding block
+    slot-fault h =
+        blockOf-faulty t (next-no-block clock (from 0 t) b (bind-bad (exactly Slot clock) (λ _. arrivals blockLimit) (from 0 t) h))
+
+    pub slot-bad : number Slot (from 0 t) ≡ badAt 0 → noArrivals (Bad 0) ≡ blockOf t (known (next clock (from 0 t)))
+    slot-bad h = slot-fault (exactly-bad Slot clock (from 0 t) h)
+
+    module _ (i : ℕ) {n : ℕ} (p : number Slot (from 0 t) ≡ got n (from 1 (drop i t))) where
+      pub slot-other : n ≢ clock → noArrivals (Bad 0) ≡ blockOf t (known (next clock (from 0 t)))
+      slot-other h = slot-fault (exactly-other Slot clock (from 0 t) p (ne-eqb n clock h))
+
+      pub slot-same : n ≡ clock
+          → blockOf t (known (ahead (arrivals blockLimit (from 1 (drop i t))))) ≡ blockOf t (known (next clock (from 0 t)))
+      unfolding block
+      slot-same h =
+          ap (λ r. blockOf t (known (ahead r)))
+          (sym
+          (bind-got (exactly Slot clock) (λ _. arrivals blockLimit) (from 0 t)
+          (exactly-same Slot clock (from 0 t) p (eq-eqb n clock h))))
+          ∙ ap (λ x. blockOf t (known x)) (sym next-ahead)

@@ -1,0 +1,99 @@
+-- What the reader of a line answers:
+--     lineOf-none, -some      by what was read
+--     lineOf-bad, -number     and what was read by the answer
+use Prim.Native.Nat.{ℕ, _+_, _-_, _≤_}
+use native.Mathlib.Omega.{arith}
+use mathlib.Core.List.{List, [], _∷_, _++_}
+use mathlib.Core.Option.{Option, none, some, bind}
+use mathlib.Core.Path.{_≡_, refl, sym, ap, _∙_}
+use lib.ListN.{length, take, drop, length-append, length-drop}
+use lib.Seq.{take-all, drop-at}
+use Rattle.trace.specs.declared.Key.{Key}
+use Rattle.reader.specs.declared.Line.{Line}
+use Rattle.reader.specs.declared.Line.the-variants.{Number, Bad}
+use Rattle.reader.specs.declared.Mark.the-variants.{Before, Missing}
+use Rattle.trace.specs.Line.{keyText, line, after, readLine}
+use Rattle.trace.specs.Reader.{got, badAt, number}
+use Rattle.reader.specs.Reading.{from, markOf, readBody, lineOf}
+use Rattle.trace.proofs.Line.{readLine-exact}
+use Rattle.trace.proofs.Blocks.{number-some, number-none}
+use Rattle.reader.proofs.Marks.{markOf-missing-e, markOf-before-e}
+
+-- the rest of a text, by how much was read
+pub drop-rest : (x rest t : List ℕ) → t ≡ x ++ rest
+    → (rest ≡ drop (length t - length rest) t) × (length t - length rest ≤ length t)
+drop-rest x rest t h =
+    let l : length t ≡ length x + length rest = ap length h ∙ length-append x rest in
+    let n : length x ≡ length t - length rest = omega arith in
+    (sym (ap (drop (length t - length rest)) h ∙ drop-at x rest _ n), omega arith)
+
+module _ (t : List ℕ) where
+  pub lineOf-none : {o : Option (ℕ × List ℕ)} → o ≡ none → lineOf t o ≡ Bad
+  unfolding lineOf
+  lineOf-none h = rw (h, lineOf)
+
+  pub lineOf-some : {o : Option (ℕ × List ℕ)} {n i : ℕ} → o ≡ some (n, drop i t) → i ≤ length t → lineOf t o ≡ Number n i
+  unfolding lineOf
+  lineOf-some {n} {i} h l =
+      let e : length t - length (drop i t) ≡ i = simp length-drop (omega arith) in
+      rw (h, lineOf) (ap (Number n) e)
+
+  pub lineOf-bad : (o : Option (ℕ × List ℕ)) → lineOf t o ≡ Bad → o ≡ none
+  unfolding lineOf
+  lineOf-bad none h = refl
+  lineOf-bad (some s) h = cc
+
+  lineOf-number : (k : Key) (o : Option (ℕ × List ℕ)) → readLine k t ≡ o → {n i : ℕ} → lineOf t o ≡ Number n i
+      → (o ≡ some (n, drop i t)) × (i ≤ length t)
+  unfolding lineOf
+  lineOf-number k none e {n} {i} h =
+      let z : _≡_ {A = ℕ} 0 1 = cc in
+      absurd (omega arith)
+  lineOf-number k (some s) e {n} {i} h =
+      let x : s .0 ≡ n = cc in
+      let y : length t - length (s .1) ≡ i = cc in
+      let (r, l) = drop-rest (line k (s .0)) (s .1) t (readLine-exact k t (s .0) (s .1) e .0) in
+      rw (← x, ← y) (ap (λ u. some (s .0, u)) r, l)
+
+-- a line is its key and what stands behind it
+module _ (k : Key) (t : List ℕ) where
+  pub readLine-missing : markOf (keyText k) t ≡ Missing → readLine k t ≡ none
+  unfolding readLine bind
+  readLine-missing h = rw (markOf-missing-e (keyText k) t h)
+
+  pub readLine-before : {i : ℕ} → markOf (keyText k) t ≡ Before i → readLine k t ≡ readBody (drop i t)
+  unfolding readLine readBody bind
+  readLine-before h = rw (markOf-before-e (keyText k) t h .0)
+
+  pub readLine-bad : lineOf t (readLine k t) ≡ Bad → readLine k t ≡ none
+  readLine-bad h = lineOf-bad t (readLine k t) h
+
+  pub readLine-number : {n i : ℕ} → lineOf t (readLine k t) ≡ Number n i
+      → (readLine k t ≡ some (n, drop i t)) × (i ≤ length t)
+  readLine-number h = lineOf-number t k (readLine k t) refl h
+
+-- the slice from a place is the rest of the text
+abbrev pub rest : List ℕ → ℕ → List ℕ
+rest t i = take (length t - i) (drop i t)
+
+pub rest-drop : (t : List ℕ) (i : ℕ) → rest t i ≡ drop i t
+rest-drop t i =
+    let h : length (drop i t) ≤ length t - i = simp length-drop (omega arith) in
+    take-all (length t - i) (drop i t) h
+
+pub length-rest : (t : List ℕ) (i : ℕ) → length (rest t i) ≡ length t - i
+length-rest t i = ap length (rest-drop t i) ∙ length-drop i t
+
+-- A line as a cursor has it, by what the reader of the line answered.
+module _ (k : Key) (l : ℕ) (t : List ℕ) {r : Line} (e : r ≡ lineOf t (readLine k t)) where
+  pub number-bad : r ≡ Bad → number k (from l t) ≡ badAt l
+  number-bad h = number-none k (from l t) (readLine-bad k t (sym e ∙ h))
+
+  pub number-got : {n i : ℕ} → r ≡ Number n i → number k (from l t) ≡ got n (from (l + 1) (drop i t))
+  number-got h = number-some k (from l t) (readLine-number k t (sym e ∙ h) .0)
+
+  pub number-within : {n i : ℕ} → r ≡ Number n i → i ≤ length t
+  number-within h = readLine-number k t (sym e ∙ h) .1
+
+  pub number-next : {n i : ℕ} → r ≡ Number n i → number k (from l t) ≡ got n (from (l + 1) (rest t i))
+  number-next {n} {i} h = rw (rest-drop t i) (number-got h)

@@ -1,0 +1,125 @@
+-- `reader::read_arrivals` meets its contract. The loop's invariant is `Walked`: what is read, what is stored and what is
+-- left. Assumes nothing.
+use Prim.Native.Nat.{ℕ, _≤_, _-_}
+use borrow.Author.Needs.{needs}
+use borrow.Author.Tests.{not-true, not-false}
+use native.Mathlib.Omega.{arith}
+use mathlib.Core.Path.{_≡_, refl, sym, ap, _∙_}
+use denote.Ref.{now}
+use Rattle.trace.specs.Piece.{numbersOf, paddedNumbers}
+use Rattle.reader.proofs.Records.{Walked, walked-start, walked-more, walked-stop, walked-full, walked-bad}
+use Rattle.reader.proofs.read_arrivals.Statement.{statement}
+use Rattle.reader.proofs.read_arrivals.Tie as tie
+use Rattle.reader.proofs.read_arrivals.Reads as reads
+use Rattle.reader.proofs.read_arrivals.Lts as lts
+use Rattle.reader.proofs.begins.Reads as begins-reads
+use Rattle.reader.proofs.no_arrivals.Reads as no-arrivals-reads
+use Rattle.reader.proofs.read_arrival.Reads as read-arrival-reads
+use Rattle.reader.proofs.store.Reads as store-reads
+
+abbrev Inv-loop : tie.InvT-loop
+Inv-loop text start records₀ at₀ k₀ records at k = Walked text start records at k
+
+abbrev μ-loop : tie.MeasureT-loop
+μ-loop text start records₀ at₀ k₀ records at k = 16 - k
+
+loop-holds : tie.Need-loop-holds Inv-loop μ-loop
+unfolding paddedNumbers numbersOf
+loop-holds c = walked-start _ _ (c .before .pre)
+
+sub-rest : tie.Need-sub-rest Inv-loop μ-loop
+sub-rest c = c .before .loop .inv .within
+
+part-rest-start : tie.Need-part-rest-start Inv-loop μ-loop
+part-rest-start c = c .before .loop .inv .within
+
+part-rest-end : tie.Need-part-rest-end Inv-loop μ-loop
+part-rest-end c = omega arith
+
+mul-line : tie.Need-mul-line Inv-loop μ-loop
+mul-line c = omega arith
+
+add-line : tie.Need-add-line Inv-loop μ-loop
+add-line c = omega arith
+
+cast-line : tie.Need-cast-line Inv-loop μ-loop
+cast-line c = omega arith
+
+begins-requires : tie.Need-begins-requires Inv-loop μ-loop
+begins-requires c κs = search needs
+
+cast-t18 : tie.Need-cast-t18 Inv-loop μ-loop
+cast-t18 c = omega arith
+
+returns : tie.Need-returns Inv-loop μ-loop
+returns c =
+    walked-stop (c .before .before .before .before .loop .inv) (sym (c .before .begins .ensures) ∙ not-true _ (c .if1 .taken))
+
+read-arrival-requires : tie.Need-read-arrival-requires Inv-loop μ-loop
+read-arrival-requires c κs = search needs
+
+enum-known-fault : tie.Need-enum-known-fault Inv-loop μ-loop
+enum-known-fault c = search needs
+
+no-arrivals-requires : tie.Need-no-arrivals-requires Inv-loop μ-loop
+no-arrivals-requires c κs = search needs
+
+returns-2 : tie.Need-returns-2 Inv-loop μ-loop
+returns-2 c =
+    let b = sym (c .before .before .before .before .before .before .begins .ensures) ∙ not-false _ (c .before .before .before .before .before .if1 .left) in
+    c .no-arrivals .ensures
+    ∙ walked-bad (c .before .before .before .before .before .before .before .before .before .loop .inv) (c .before .before .before .before .before .before .before .before .loop-test .taken) b (c .before .before .before .before .read-arrival .ensures) (c .before .before .fault .given .1)
+
+enum-known-a : tie.Need-enum-known-a Inv-loop μ-loop
+enum-known-a c = search needs
+
+store-requires : tie.Need-store-requires Inv-loop μ-loop
+store-requires c κs = search needs
+
+add-at : tie.Need-add-at Inv-loop μ-loop
+add-at c =
+    let b = sym (c .before .before .before .before .before .before .before .begins .ensures) ∙ not-false _ (c .before .before .before .before .before .before .if1 .left) in
+    let w = walked-more (c .before .before .before .before .before .before .before .before .before .before .loop .inv) (c .before .before .before .before .before .before .before .before .before .loop-test .taken) b (c .before .before .before .before .before .read-arrival .ensures) (c .before .before .before .a .given .1) (c .store .ensures) in
+    omega (arith, w .within, c .before .before .before .before .before .before .before .before .before .before .before .before .good)
+
+add-k : tie.Need-add-k Inv-loop μ-loop
+add-k c = omega arith
+
+loop-less : tie.Need-loop-less Inv-loop μ-loop
+loop-less c = omega arith
+
+loop-again : tie.Need-loop-again Inv-loop μ-loop
+loop-again c =
+    let b = sym (c .before .before .before .before .before .before .before .begins .ensures) ∙ not-false _ (c .before .before .before .before .before .before .if1 .left) in
+    walked-more (c .before .before .before .before .before .before .before .before .before .before .loop .inv) (c .before .before .before .before .before .before .before .before .before .loop-test .taken) b (c .before .before .before .before .before .read-arrival .ensures) (c .before .before .before .a .given .1) (c .store .ensures)
+
+returns-3 : tie.Need-returns-3 Inv-loop μ-loop
+returns-3 c = walked-full (c .before .loop .inv) (c .loop-test .left)
+
+pub read-arrivals-spec : {M : Type 1} → statement M
+read-arrivals-spec =
+    tie.close
+    (tie.spec
+    Inv-loop
+    μ-loop
+    loop-holds
+    sub-rest
+    part-rest-start
+    part-rest-end
+    mul-line
+    add-line
+    cast-line
+    begins-requires
+    cast-t18
+    returns
+    read-arrival-requires
+    enum-known-fault
+    no-arrivals-requires
+    returns-2
+    enum-known-a
+    store-requires
+    add-at
+    add-k
+    loop-less
+    loop-again
+    returns-3)

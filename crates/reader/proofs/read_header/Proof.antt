@@ -1,0 +1,123 @@
+-- `reader::read_header` meets its contract: each `return` is a case of the header. Assumes nothing.
+use native.Mathlib.Omega.{arith}
+use mathlib.Core.Path.{_≡_, sym, _∙_}
+use borrow.Author.Tests.{not-true, not-false}
+use denote.Ref.{now}
+use lib.ListN.{length}
+use Rattle.trace.specs.declared.Key.the-variants.{Ports, First}
+use Rattle.reader.proofs.Lines.{rest, length-rest, number-bad, number-next, number-within}
+use Rattle.reader.proofs.Answers.{opening-short, opening-bad-ports, opening-bad-size}
+use Rattle.reader.proofs.Answers.{opening-bad-first, opening-open}
+use borrow.Author.Needs.{needs}
+use Rattle.reader.proofs.read_header.Statement.{statement}
+use Rattle.reader.proofs.read_header.Tie as tie
+use Rattle.reader.proofs.read_header.Reads as reads
+use Rattle.reader.proofs.read_header.Lts as lts
+use Rattle.cell.proofs.Switch.ports_in_range.Reads as ports-in-range-reads
+use Rattle.reader.proofs.decided.Reads as decided-reads
+use Rattle.reader.proofs.read_line.Reads as read-line-reads
+
+decided-requires : tie.Need-decided-requires
+decided-requires c κs = search needs
+
+returns : tie.Need-returns
+returns c = sym (opening-short _ _ (sym (c .before .decided .ensures) ∙ not-true _ (c .if1 .taken)))
+
+read-line-requires : tie.Need-read-line-requires
+read-line-requires c κs = search needs
+
+enum-known-ports : tie.Need-enum-known-ports
+enum-known-ports c = search needs
+
+enum-told : tie.Need-enum-told
+enum-told c = search needs
+
+returns-2 : tie.Need-returns-2
+returns-2 c =
+    let d = sym (c .before .before .before .before .decided .ensures) ∙ not-false _ (c .before .before .before .if1 .left) in
+    sym (opening-bad-ports _ _ d (number-bad Ports 1 _ (c .before .before .read-line .ensures) (c .enum-told .given .1)))
+
+ports-in-range-requires : tie.Need-ports-in-range-requires
+ports-in-range-requires c κs = search needs
+
+returns-3 : tie.Need-returns-3
+returns-3 c =
+    let d = sym (c .before .before .before .before .before .before .before .decided .ensures) ∙ not-false _ (c .before .before .before .before .before .before .if1 .left) in
+    let p = number-next Ports 1 _ (c .before .before .before .before .before .read-line .ensures) (c .before .before .before .ports .given .1) in
+    sym (opening-bad-size _ _ d p (sym (c .before .ports-in-range .ensures) ∙ not-true _ (c .if2 .taken)))
+
+sub-read-line : tie.Need-sub-read-line
+sub-read-line c =
+    number-within Ports 1 _ (c .before .before .before .before .before .read-line .ensures) (c .before .before .before .ports .given .1)
+
+part-read-line-start : tie.Need-part-read-line-start
+part-read-line-start c =
+    number-within Ports 1 _ (c .before .before .before .before .before .read-line .ensures) (c .before .before .before .ports .given .1)
+
+part-read-line-end : tie.Need-part-read-line-end
+part-read-line-end c = search needs
+
+read-line-requires-2 : tie.Need-read-line-requires-2
+read-line-requires-2 c κs = search needs
+
+enum-known-first : tie.Need-enum-known-first
+enum-known-first c = search needs
+
+enum-told-2 : tie.Need-enum-told-2
+enum-told-2 c = search needs
+
+returns-4 : tie.Need-returns-4
+returns-4 c =
+    let t = now (c .before .before .before .before .before .before .before .before .before .before .before .before .before .args .text) in
+    let i = c .before .before .before .before .before .before .before .ports .given .0 .1 .0 in
+    let d = sym (c .before .before .before .before .before .before .before .before .before .before .before .decided .ensures) ∙ not-false _ (c .before .before .before .before .before .before .before .before .before .before .if1 .left) in
+    let p = number-next Ports 1 t (c .before .before .before .before .before .before .before .before .before .read-line .ensures) (c .before .before .before .before .before .before .before .ports .given .1) in
+    let r = sym (c .before .before .before .before .before .ports-in-range .ensures) ∙ not-false _ (c .before .before .before .before .if2 .left) in
+    let f = number-bad First 2 (rest t i) (c .before .before .read-line2 .ensures) (c .enum-told2 .given .1) in
+    sym (opening-bad-first _ t d p r f)
+
+add-t15 : tie.Need-add-t15
+add-t15 c =
+    let t = now (c .before .before .before .before .before .before .before .before .before .before .before .before .before .before .args .text) in
+    let i = c .before .before .before .before .before .before .before .before .ports .given .0 .1 .0 in
+    let x = number-within Ports 1 t (c .before .before .before .before .before .before .before .before .before .before .read-line .ensures) (c .before .before .before .before .before .before .before .before .ports .given .1) in
+    let y = number-within First 2 (rest t i) (c .before .before .before .read-line2 .ensures) (c .before .first .given .1) in
+    let z = length-rest t i in
+    omega (arith, c .before .before .before .before .before .before .before .before .before .before .before .before .before .before .good)
+
+returns-5 : tie.Need-returns-5
+returns-5 c =
+    let t = now (c .before .before .before .before .before .before .before .before .before .before .before .before .before .before .args .text) in
+    let i = c .before .before .before .before .before .before .before .before .ports .given .0 .1 .0 in
+    let j = c .before .first .given .0 .1 .0 in
+    let d = sym (c .before .before .before .before .before .before .before .before .before .before .before .before .decided .ensures) ∙ not-false _ (c .before .before .before .before .before .before .before .before .before .before .before .if1 .left) in
+    let p = number-next Ports 1 t (c .before .before .before .before .before .before .before .before .before .before .read-line .ensures) (c .before .before .before .before .before .before .before .before .ports .given .1) in
+    let r = sym (c .before .before .before .before .before .before .ports-in-range .ensures) ∙ not-false _ (c .before .before .before .before .before .if2 .left) in
+    let f = number-next First 2 (rest t i) (c .before .before .before .read-line2 .ensures) (c .before .first .given .1) in
+    let x = number-within Ports 1 t (c .before .before .before .before .before .before .before .before .before .before .read-line .ensures) (c .before .before .before .before .before .before .before .before .ports .given .1) in
+    let y = number-within First 2 (rest t i) (c .before .before .before .read-line2 .ensures) (c .before .first .given .1) in
+    let z = length-rest t i in
+    let w = length-rest (rest t i) j in
+    sym (opening-open _ t d p r f (omega arith))
+
+pub read-header-spec : {M : Type 1} → statement M
+read-header-spec =
+    tie.close
+    (tie.spec
+    decided-requires
+    returns
+    read-line-requires
+    enum-known-ports
+    enum-told
+    returns-2
+    ports-in-range-requires
+    returns-3
+    sub-read-line
+    part-read-line-start
+    part-read-line-end
+    read-line-requires-2
+    enum-known-first
+    enum-told-2
+    returns-4
+    add-t15
+    returns-5)

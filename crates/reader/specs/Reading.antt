@@ -1,0 +1,54 @@
+-- What the functions of the reader answer.
+use Prim.Native.Nat.{ℕ, _+_, _*_, _-_}
+use mathlib.Core.Bool.{true, false, _&&_}
+use mathlib.Core.List.{List, [], _∷_}
+use mathlib.Core.Option.{Option, none, some, bind, Option·map}
+use lib.ListN.{length}
+use Rattle.cell.specs.declared.Arrival.{Arrival}
+use Rattle.cell.specs.Limits.{fits32}
+use Rattle.trace.specs.declared.Answer.{Answer}
+use Rattle.trace.specs.declared.Block.{Block}
+use Rattle.reader.specs.declared.Line.{Line}
+use Rattle.reader.specs.declared.Line.the-variants.{Number, Bad}
+use Rattle.reader.specs.declared.Mark.{Mark}
+use Rattle.reader.specs.declared.Mark.the-variants.{Before, Missing}
+use Rattle.reader.specs.declared.Digits.{Digits}
+use Rattle.reader.specs.declared.Digits.the-variants.{Worth, Bad as NoDigits}
+use Rattle.reader.specs.declared.Came.{Came}
+use Rattle.reader.specs.declared.Came.the-variants.{Whole, Bad as BadCame}
+use Rattle.trace.specs.Line.{after, upToLineFeed, isDigit, readNumber}
+use Rattle.trace.specs.Piece.{paddedNumbers}
+use Rattle.trace.specs.Reader.{Cursor, Read, got, badAt, Next, slotAhead, faulty}
+
+abbrev pub from : ℕ → List ℕ → Cursor
+from l t = record { line = l; text = t }
+
+-- the digits of a number and one more
+unfoldable pub withDigit : ℕ → ℕ → Digits
+withDigit n b =
+    elim (isDigit b && fits32 (10 * n + (b - 48))) [ true ↦ Worth (10 * n + (b - 48)) | false ↦ NoDigits ]
+
+-- whether a text begins so, and with how many bytes
+unfoldable pub markOf : List ℕ → List ℕ → Mark
+markOf p t = elim (after p t) [ none ↦ Missing | some u ↦ Before (length p) ]
+
+-- a line behind its key: the number and what follows the line feed
+unfoldable pub readBody : List ℕ → Option (ℕ × List ℕ)
+readBody t = bind (upToLineFeed t) (λ s. Option·map (λ n. (n, s .1)) (readNumber (s .0)))
+
+unfoldable pub lineOf : List ℕ → Option (ℕ × List ℕ) → Line
+lineOf t none = Bad
+lineOf t (some s) = Number (s .0) (length t - length (s .1))
+
+unfoldable pub cameOf : List ℕ → Read Arrival → Came
+cameOf t (got a d) = Whole a (length t - length (d .text))
+cameOf t (badAt l) = BadCame l
+
+-- an answer without arrivals
+unfoldable pub noArrivals : Answer → Block
+noArrivals a = record { answer = a; records = paddedNumbers [] }
+
+-- the arrivals of a block, as what stands there
+unfoldable pub ahead : Read (List Arrival) → Next
+ahead (got rs d) = slotAhead rs d
+ahead (badAt l) = faulty l

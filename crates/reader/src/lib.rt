@@ -1,0 +1,317 @@
+// Document 01, "The trace": the reader, a function for each rule of the grammar, which stands over it. A text is lent and
+// only read; what was read is handed on with its length, and the next reader gets the slice from there.
+// No public function has a `requires`.
+use trace::Answer;
+use trace::Block;
+use trace::Key;
+use trace::Opening;
+use cell::Arrival;
+use cell::Refusal;
+use cell::Switch;
+ghost use mathlib.Core.Bool.{true, false};
+ghost use mathlib.Core.List.{[], _∷_};
+ghost use mathlib.Core.Path.{_≡_};
+ghost use Prim.Native.Nat.{_*_, _≤_, _<_};
+ghost use lib.ListN.{length, drop};
+ghost use lib.Seq.{sets};
+ghost use Rattle.trace.specs.declared.Key.the-variants.{In, End};
+ghost use Rattle.trace.specs.Line.{keyText, readLine};
+ghost use Rattle.trace.specs.Contents.{blockLimit};
+ghost use Rattle.trace.specs.Reader.{arrival, arrivals, begins, next};
+ghost use Rattle.trace.specs.Piece.{known, decided, nextIn, headerIn, numbersOf, blockOf, openingOf};
+ghost use Rattle.reader.specs.Reading.{from, withDigit, markOf, readBody, lineOf, cameOf, noArrivals, ahead};
+
+// What stands at the start of a text.
+pub enum Line {
+    // The number, and how many bytes the line has.
+    Number(u32, usize),
+    Bad,
+}
+
+// Whether a text begins with a key and `=`.
+enum Mark {
+    // How many bytes these have.
+    Before(usize),
+    Missing,
+}
+
+// The value of some digits.
+enum Digits {
+    Worth(u32),
+    Bad,
+}
+
+// What stands where an arrival may begin.
+enum Came {
+    // The arrival, and how many bytes its lines have.
+    Whole(Arrival, usize),
+    // The line at fault.
+    Bad(u32),
+}
+
+// header = ports-line first-line
+pub fn read_header(text: &[u8], last: bool) -> Opening
+    ensures { λ r. ⌜ r ≡ openingOf (now (text .entry)) (headerIn last (now (text .entry))) ⌝ }
+{
+    if !decided(text, last) {
+        return Opening::Short;
+    }
+    let Line::Number(ports, used) = read_line(text, Key::Ports) else {
+        return Opening::Refused(Refusal::BadLine, 1);
+    };
+    if !Switch::ports_in_range(ports) {
+        return Opening::Refused(Refusal::BadSize, 1);
+    }
+    let Line::Number(first, more) = read_line(&text[used..], Key::First) else {
+        return Opening::Refused(Refusal::BadLine, 2);
+    };
+    Opening::Open(ports, first, used + more)
+}
+
+// next = block | end
+pub fn read_block(text: &[u8], clock: u32, last: bool) -> Block
+    ensures { λ r. ⌜ r ≡ blockOf (now (text .entry)) (nextIn last clock (now (text .entry))) ⌝ }
+{
+    if !decided(text, last) {
+        return no_arrivals(Answer::More);
+    }
+    if begins(text, Key::End) {
+        return read_end(text, clock);
+    }
+    read_slot(text, clock)
+}
+
+// line = key "=" number "\n"
+pub fn read_line(text: &[u8], key: Key) -> Line
+    ensures { λ r. ⌜ r ≡ lineOf (now (text .entry)) (readLine key (now (text .entry))) ⌝ }
+{
+    let Mark::Before(start) = read_key(text, key) else {
+        return Line::Bad;
+    };
+    read_number(text, start)
+}
+
+// Whether the text is enough to decide by.
+fn decided(text: &[u8], last: bool) -> bool
+    ensures { λ r. ⌜ r ≡ decided last (now (text .entry)) ⌝ }
+{
+    if last {
+        return true;
+    }
+    2048 <= text.len()
+}
+
+// An answer without arrivals.
+fn no_arrivals(answer: Answer) -> Block
+    ensures { λ r. ⌜ r ≡ noArrivals answer ⌝ }
+{
+    Block {
+        answer,
+        records: [0; 80],
+    }
+}
+
+// end = end-line, with the clock's number and nothing after it
+fn read_end(text: &[u8], clock: u32) -> Block
+    requires { ⌜ begins End (from 0 (now text)) ≡ true ⌝ }
+    ensures { λ r. ⌜ r ≡ blockOf (now (text .entry)) (known (next clock (from 0 (now (text .entry))))) ⌝ }
+{
+    let Line::Number(number, used) = read_line(text, Key::End) else {
+        return no_arrivals(Answer::Bad(0));
+    };
+    if number != clock {
+        return no_arrivals(Answer::Bad(0));
+    }
+    if used < text.len() {
+        return no_arrivals(Answer::Bad(1));
+    }
+    no_arrivals(Answer::End)
+}
+
+// block = slot-line, with the clock's number, and at most 16 arrivals
+fn read_slot(text: &[u8], clock: u32) -> Block
+    requires { ⌜ begins End (from 0 (now text)) ≡ false ⌝ }
+    ensures { λ r. ⌜ r ≡ blockOf (now (text .entry)) (known (next clock (from 0 (now (text .entry))))) ⌝ }
+{
+    let Line::Number(number, used) = read_line(text, Key::Slot) else {
+        return no_arrivals(Answer::Bad(0));
+    };
+    if number != clock {
+        return no_arrivals(Answer::Bad(0));
+    }
+    read_arrivals(text, used)
+}
+
+// { arrival }, up to the first line that does not begin `in=`
+fn read_arrivals(text: &[u8], start: usize) -> Block
+    requires { ⌜ start ≤ length (now text) ⌝ }
+    ensures { λ r. ⌜ r ≡ blockOf (now (text .entry)) (known (ahead (arrivals blockLimit (from 1 (drop start (now (text .entry))))))) ⌝ }
+{
+    let mut records = [0u32; 80];
+    let mut at = start;
+    let mut k: usize = 0;
+    while k < 16 {
+        let rest = &text[at..];
+        let line = (5 * k + 1) as u32;
+        if !begins(rest, Key::In) {
+            return Block {
+                answer: Answer::Slot(k as u32, at, line),
+                records,
+            };
+        }
+        match read_arrival(rest, line) {
+            Came::Bad(fault) => {
+                return no_arrivals(Answer::Bad(fault));
+            }
+            Came::Whole(a, used) => {
+                store(&mut records, k, a);
+                at += used;
+                k += 1;
+            }
+        }
+    }
+    Block {
+        answer: Answer::Slot(16, at, 81),
+        records,
+    }
+}
+
+// arrival = in-line out-line flow-line rank-line tag-line
+fn read_arrival(text: &[u8], line: u32) -> Came
+    requires { ⌜ line ≤ 76 ⌝ }
+    ensures { λ r. ⌜ r ≡ cameOf (now (text .entry)) (arrival (from line (now (text .entry)))) ⌝ }
+{
+    let Line::Number(input, a) = read_line(text, Key::In) else {
+        return Came::Bad(line);
+    };
+    let after_in = &text[a..];
+    let Line::Number(output, b) = read_line(after_in, Key::Out) else {
+        return Came::Bad(line + 1);
+    };
+    let after_out = &after_in[b..];
+    let Line::Number(flow, c) = read_line(after_out, Key::Flow) else {
+        return Came::Bad(line + 2);
+    };
+    let after_flow = &after_out[c..];
+    let Line::Number(rank, d) = read_line(after_flow, Key::Rank) else {
+        return Came::Bad(line + 3);
+    };
+    let after_rank = &after_flow[d..];
+    let Line::Number(tag, e) = read_line(after_rank, Key::Tag) else {
+        return Came::Bad(line + 4);
+    };
+    let arrival = Arrival {
+        input,
+        output,
+        flow,
+        rank,
+        tag,
+    };
+    Came::Whole(arrival, a + b + c + d + e)
+}
+
+// The numbers of an arrival, at its place among the records.
+fn store(records: &mut [u32; 80], k: usize, a: Arrival)
+    requires { ⌜ k < 16 ⌝ }
+    ensures { λ _. ⌜ now (records .exit) ≡ sets (now (records .entry)) (5 * k) (numbersOf (a ∷ [])) ⌝ }
+{
+    let at = 5 * k;
+    records[at] = a.input;
+    records[at + 1] = a.output;
+    records[at + 2] = a.flow;
+    records[at + 3] = a.rank;
+    records[at + 4] = a.tag;
+}
+
+// Whether the text begins with a key and `=`.
+fn begins(text: &[u8], key: Key) -> bool
+    ensures { λ r. ⌜ r ≡ begins key (from 0 (now (text .entry))) ⌝ }
+{
+    if let Mark::Before(_) = read_key(text, key) {
+        true
+    } else {
+        false
+    }
+}
+
+// key "="
+fn read_key(text: &[u8], key: Key) -> Mark
+    ensures { λ r. ⌜ r ≡ markOf (keyText key) (now (text .entry)) ⌝ }
+{
+    match key {
+        Key::Ports => read_mark(text, b"ports="),
+        Key::First => read_mark(text, b"first="),
+        Key::Slot => read_mark(text, b"slot="),
+        Key::In => read_mark(text, b"in="),
+        Key::Out => read_mark(text, b"out="),
+        Key::Flow => read_mark(text, b"flow="),
+        Key::Rank => read_mark(text, b"rank="),
+        Key::Tag => read_mark(text, b"tag="),
+        Key::End => read_mark(text, b"end="),
+        Key::Refused => read_mark(text, b"refused="),
+        Key::Line => read_mark(text, b"line="),
+    }
+}
+
+// These very bytes.
+fn read_mark(text: &[u8], mark: &[u8]) -> Mark
+    ensures { λ r. ⌜ r ≡ markOf (now (mark .entry)) (now (text .entry)) ⌝ }
+{
+    if text.len() < mark.len() {
+        return Mark::Missing;
+    }
+    let mut i = 0;
+    while i < mark.len() {
+        if text[i] != mark[i] {
+            return Mark::Missing;
+        }
+        i += 1;
+    }
+    Mark::Before(i)
+}
+
+// number "\n" from a place of the text; number = "0" | digit { digit }, the first not "0", at most 4294967295
+fn read_number(text: &[u8], start: usize) -> Line
+    ensures { λ r. ⌜ r ≡ lineOf (now (text .entry)) (readBody (drop start (now (text .entry)))) ⌝ }
+{
+    if text.len() <= start {
+        return Line::Bad;
+    }
+    let Digits::Worth(first) = with_digit(0, text[start]) else {
+        return Line::Bad;
+    };
+    let mut n = first;
+    let mut at = start + 1;
+    while at < text.len() {
+        let b = text[at];
+        at += 1;
+        if b == 10 {
+            return Line::Number(n, at);
+        }
+        if n == 0 {
+            return Line::Bad;
+        }
+        let Digits::Worth(m) = with_digit(n, b) else {
+            return Line::Bad;
+        };
+        n = m;
+    }
+    Line::Bad
+}
+
+// The digits of a number and one more.
+fn with_digit(n: u32, b: u8) -> Digits
+    ensures { λ r. ⌜ r ≡ withDigit n b ⌝ }
+{
+    if b < 48 {
+        return Digits::Bad;
+    }
+    if 57 < b {
+        return Digits::Bad;
+    }
+    let m = 10 * (n as u64) + ((b - 48) as u64);
+    if 4294967295 < m {
+        return Digits::Bad;
+    }
+    Digits::Worth(m as u32)
+}

@@ -1,0 +1,66 @@
+-- The digits of a number, as they are written and counted:
+--     decimal-tens                the last digit stands behind those of the tenth part
+--     length-decimal              how many there are
+--     poured-small, poured-tens   one digit is poured, and one digit more
+use Prim.Native.Nat.{ℕ, zero, suc, _+_, _*_, _-_, _/_, _%_, _≤_, _<_}
+use native.Mathlib.Omega.{arith}
+use mathlib.Core.Bool.{Bool, true, false}
+use mathlib.Core.List.{List, [], _∷_, _++_}
+use mathlib.Core.Path.{_≡_, ap, _∙_}
+use lib.Dec.{ltb}
+use lib.ListN.{length, length-append}
+use Rattle.trace.specs.declared.Key.{Key}
+use Rattle.trace.specs.Line.{digitsWithin, decimal, line}
+use Rattle.writer.specs.Keys.{keyLength}
+use Rattle.writer.specs.Writing.{lastPlace, Poured}
+use Rattle.trace.proofs.Line.{isDigit-i, decimal-small, decimal-large}
+use Rattle.writer.proofs.Keys.{length-keyText}
+use Rattle.writer.proofs.Pour.{poured-then}
+
+pub decimal-tens : (n : ℕ) → 10 ≤ n → decimal n ≡ decimal (n / 10) ++ ((48 + n % 10) ∷ [])
+decimal-tens n h =
+    let p : 0 < n / 10 = omega arith in
+    let i : 48 ≤ 48 + n % 10 = omega arith in
+    let j : 48 + n % 10 ≤ 57 = omega arith in
+    let e : n ≡ 10 * (n / 10) + (48 + n % 10 - 48) = omega arith in
+    ap decimal e ∙ decimal-large (n / 10) (48 + n % 10) p (isDigit-i _ i j)
+
+-- how many there are
+
+pub length-decimal-small : (n : ℕ) → n < 10 → length (decimal n) ≡ 1
+length-decimal-small n h = ap length (decimal-small n h)
+
+pub length-decimal-tens : (n : ℕ) → 10 ≤ n → length (decimal n) ≡ length (decimal (n / 10)) + 1
+length-decimal-tens n h = ap length (decimal-tens n h) ∙ length-append (decimal (n / 10)) ((48 + n % 10) ∷ [])
+
+length-digitsWithin : (k n : ℕ) → length (digitsWithin k n) ≤ suc k
+unfolding digitsWithin
+length-digitsWithin zero n = omega arith
+length-digitsWithin (suc k) n = go (ltb n 10) (length-digitsWithin k (n / 10))
+  where
+    more : List ℕ
+    more = digitsWithin k (n / 10) ++ ((48 + n % 10) ∷ [])
+
+    go : (b : Bool) → length (digitsWithin k (n / 10)) ≤ suc k
+        → length {A = ℕ} (elim b [ true ↦ (48 + n) ∷ [] | false ↦ more ]) ≤ suc (suc k)
+    go true h = omega arith
+    go false h = omega (arith, length-append (digitsWithin k (n / 10)) ((48 + n % 10) ∷ []))
+
+pub length-decimal-le : (n : ℕ) → length (decimal n) ≤ suc n
+unfolding decimal
+length-decimal-le n = length-digitsWithin n n
+
+pub length-line-parts : (k : Key) (n : ℕ) → length (line k n) ≡ keyLength k + length (decimal n) + 1
+unfolding line
+length-line-parts k n = simp length-append (omega (arith, length-keyText k))
+
+-- how they are written
+
+module _ {b c : List ℕ} {i j : ℕ} {n : ℕ} where
+  pub poured-small : n < 10 → Poured b i ((48 + n) ∷ []) c j → Poured b i (decimal n) c j
+  poured-small h p = rw (decimal-small n h) p
+
+  pub poured-tens : {d : List ℕ} {k : ℕ} → 10 ≤ n → length b ≤ lastPlace → Poured b i (decimal (n / 10)) c j
+      → Poured c j ((48 + n % 10) ∷ []) d k
+      → Poured b i (decimal n) d k
+  poured-tens h l p q = rw (decimal-tens n h) (poured-then l p q)
