@@ -2,7 +2,7 @@
 use Prim.Native.Nat.{ℕ, _+_, _-_, _≤_, _<_}
 use native.Mathlib.Omega.{arith}
 use mathlib.Core.Bool.{Bool, true, false}
-use mathlib.Core.List.{List, [], _∷_, _++_}
+use mathlib.Core.List.{List}
 use mathlib.Core.Logic.{_≢_}
 use mathlib.Core.Path.{_≡_, refl, sym, ap, _∙_}
 use borrow.Author.Tests.{eq-eqb, ne-eqb}
@@ -13,12 +13,11 @@ use Rattle.cell.specs.declared.Refusal.{Refusal}
 use Rattle.cell.specs.declared.Refusal.the-variants.{BadSize, BadLine}
 use Rattle.cell.specs.Limits.{portsInRange}
 use Rattle.trace.specs.declared.Key.the-variants.{Ports, First, Slot, End as EndKey}
-use Rattle.trace.specs.declared.Opening.{Opening}
 use Rattle.trace.specs.declared.Opening.the-variants.{Open, Refused, Short}
 use Rattle.trace.specs.declared.Answer.the-variants.{End, Bad, More}
 use Rattle.trace.specs.Contents.{blockLimit}
 use Rattle.trace.specs.Reader.{Cursor, Read, got, badAt, number, exactly, begins, arrivals, block}
-use Rattle.trace.specs.Reader.{Next, finished, faulty, next, Header, opened, refusedAt, header}
+use Rattle.trace.specs.Reader.{Next, finished, faulty, next, refusedAt, header}
 use Rattle.trace.specs.Piece.{known, more, decided, nextIn, headerIn, blockOf, openingOf}
 use Rattle.reader.specs.Reading.{from, noArrivals, ahead}
 use Rattle.trace.proofs.Blocks.{bind-got, bind-bad, exactly-same, exactly-other, exactly-bad, afterEnd-nil, afterEnd-cons}

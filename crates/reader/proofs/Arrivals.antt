@@ -1,11 +1,12 @@
 -- What the reader of an arrival answers, by its five lines, and what was read by the answer.
-use Prim.Native.Nat.{ℕ, zero, suc, _+_, _*_, _-_, _≤_}
+use Prim.Native.Nat.{ℕ, suc, _+_, _-_, _≤_}
 use native.Mathlib.Omega.{arith}
-use mathlib.Core.Bool.{true, false}
+use mathlib.Core.Bool.{Bool, true, false}
 use mathlib.Core.List.{List, [], _∷_, _++_, append-assoc, append-nil}
 use mathlib.Core.Option.{Option, none, some}
 use mathlib.Core.Path.{_≡_, refl, sym, ap, _∙_}
-use lib.ListN.{length, drop, length-drop}
+use lib.Dec.{eqb}
+use lib.ListN.{length, drop}
 use Rattle.cell.specs.declared.Arrival.{Arrival}
 use Rattle.trace.specs.declared.Key.{Key}
 use Rattle.trace.specs.declared.Key.the-variants.{In, Out, Flow, Rank, Tag}
@@ -13,10 +14,10 @@ use Rattle.reader.specs.declared.Came.{Came}
 use Rattle.reader.specs.declared.Came.the-variants.{Whole, Bad}
 use Rattle.trace.specs.Line.{readLine}
 use Rattle.trace.specs.Contents.{arrivalText}
-use Rattle.trace.specs.Reader.{Cursor, Read, got, badAt, Reader, give, _>>=_, number, begins, arrival, arrivals}
+use Rattle.trace.specs.Reader.{Cursor, Read, got, badAt, Reader, give, _>>=_, number, exactly, begins, arrival, arrivals}
 use Rattle.reader.specs.Reading.{from, cameOf}
 use Rattle.trace.proofs.Blocks.{got-bad, bind-got, bind-bad, bind-exact, number-some, number-none, arrival-exact}
-use Rattle.trace.proofs.Blocks.{arrivals-stop}
+use Rattle.trace.proofs.Blocks.{exactly-same, exactly-other, exactly-bad, arrivals-stop}
 use Rattle.reader.proofs.Lines.{drop-rest}
 
 module _ (t : List ℕ) where
@@ -86,7 +87,7 @@ module _ (c : Cursor) where
 -- what was read, by the answer
 
 -- each line read is one line further
-number-line-next : (k : Key) (c : Cursor) {n : ℕ} {d : Cursor} → number k c ≡ got n d → d .line ≡ c .line + 1
+pub number-line-next : (k : Key) (c : Cursor) {n : ℕ} {d : Cursor} → number k c ≡ got n d → d .line ≡ c .line + 1
 number-line-next k c {n} {d} h = go (readLine k (c .text)) refl
   where
     go : (o : Option (ℕ × List ℕ)) → readLine k (c .text) ≡ o → d .line ≡ c .line + 1
@@ -95,6 +96,21 @@ number-line-next k c {n} {d} h = go (readLine k (c .text)) refl
         let g : got (s .0) (from (c .line + 1) (s .1)) ≡ got n d = sym (number-some k c e) ∙ h in
         let i : from (c .line + 1) (s .1) ≡ d = cc in
         sym (ap (λ x. x .line) i)
+
+pub exactly-line-next : (k : Key) (i : ℕ) (c : Cursor) {n : ℕ} {d : Cursor} → exactly k i c ≡ got n d
+    → d .line ≡ c .line + 1
+exactly-line-next k i c {n} {d} h = go (number k c) refl
+  where
+    same : (m : ℕ) (e : Cursor) → number k c ≡ got m e → (b : Bool) → eqb m i ≡ b → d .line ≡ c .line + 1
+    same m e p true b =
+        let g : got m e ≡ got n d = sym (exactly-same k i c p b) ∙ h in
+        let f : e ≡ d = cc in
+        sym (ap (λ x. x .line) f) ∙ number-line-next k c p
+    same m e p false b = got-bad (sym (exactly-other k i c p b) ∙ h)
+
+    go : (r : Read ℕ) → number k c ≡ r → d .line ≡ c .line + 1
+    go (got m e) p = same m e p (eqb m i) refl
+    go (badAt l) p = got-bad (sym (exactly-bad k i c p) ∙ h)
 
 pub arrival-line : (c : Cursor) {a : Arrival} {d : Cursor} → arrival c ≡ got a d → d .line ≡ c .line + 5
 unfolding arrival give

@@ -3,7 +3,7 @@
 --     lineOf-bad, -number     and what was read by the answer
 use Prim.Native.Nat.{ℕ, _+_, _-_, _≤_}
 use native.Mathlib.Omega.{arith}
-use mathlib.Core.List.{List, [], _∷_, _++_}
+use mathlib.Core.List.{List, _++_}
 use mathlib.Core.Option.{Option, none, some, bind}
 use mathlib.Core.Path.{_≡_, refl, sym, ap, _∙_}
 use lib.ListN.{length, take, drop, length-append, length-drop}
@@ -12,7 +12,7 @@ use Rattle.trace.specs.declared.Key.{Key}
 use Rattle.reader.specs.declared.Line.{Line}
 use Rattle.reader.specs.declared.Line.the-variants.{Number, Bad}
 use Rattle.reader.specs.declared.Mark.the-variants.{Before, Missing}
-use Rattle.trace.specs.Line.{keyText, line, after, readLine}
+use Rattle.trace.specs.Line.{keyText, line, readLine}
 use Rattle.trace.specs.Reader.{got, badAt, number}
 use Rattle.reader.specs.Reading.{from, markOf, readBody, lineOf}
 use Rattle.trace.proofs.Line.{readLine-exact}
@@ -97,3 +97,15 @@ module _ (k : Key) (l : ℕ) (t : List ℕ) {r : Line} (e : r ≡ lineOf t (read
 
   pub number-next : {n i : ℕ} → r ≡ Number n i → number k (from l t) ≡ got n (from (l + 1) (rest t i))
   number-next {n} {i} h = rw (rest-drop t i) (number-got h)
+
+-- A line was read: where, and what is left.
+pub record Taken (k : Key) (l : ℕ) (t : List ℕ) (n i : ℕ) : Type 0 where
+  pub read : number k (from l t) ≡ got n (from (l + 1) (rest t i))
+  pub within : i ≤ length t
+  pub left : i + length (rest t i) ≡ length t
+
+pub taken : (k : Key) (l : ℕ) (t : List ℕ) {r : Line} {n i : ℕ} → r ≡ lineOf t (readLine k t) → r ≡ Number n i
+    → Taken k l t n i
+taken k l t {r} {n} {i} e h =
+    let w : i ≤ length t = number-within k l t e h in
+    record { read = number-next k l t e h; within = w; left = omega (arith, length-rest t i) }

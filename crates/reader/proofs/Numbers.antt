@@ -3,11 +3,11 @@
 --     scan                                        the digits behind those of a number, up to the line feed
 --     scan-nil, -line-feed, -zero, -digit, -bad   scan, a byte at a time
 --     readBody-nil, -first, -bad                  what stands behind a key is read by its first digit and scan
-use Prim.Native.Nat.{ℕ, zero, suc, _+_, _*_, _-_, _≤_, _<_}
+use Prim.Native.Nat.{ℕ, _+_, _*_, _-_, _≤_, _<_}
 use native.Mathlib.Numerals.{add-one}
 use native.Mathlib.Omega.{arith}
-use mathlib.Core.Bool.{Bool, true, false, cond, not, _&&_}
-use mathlib.Core.List.{List, [], _∷_, _++_, append-assoc, append-nil}
+use mathlib.Core.Bool.{Bool, true, false, _&&_}
+use mathlib.Core.List.{List, [], _∷_, _++_, append-assoc}
 use mathlib.Core.Logic.{_≢_}
 use mathlib.Core.Option.{Option, none, some, bind, Option·map, Option·none-ne-some, Option·some-injective}
 use mathlib.Core.Path.{_≡_, refl, sym, ap, _∙_}
@@ -16,14 +16,13 @@ use lib.Dec.{leb, eqb}
 use lib.ListN.{length, getD, drop, drop-of-length-le}
 use lib.Seq.{drop-cons}
 use Rattle.laws.specs.Lists.{all?}
-use Rattle.laws.proofs.Tests.{and-i, and-false-l, and-false-r}
+use Rattle.laws.proofs.Tests.{and-false-l, and-false-r}
 use Rattle.laws.proofs.Lists.{all?-nil, all?-cons, all?-append}
 use Rattle.cell.specs.Limits.{fits32, clockEnd}
-use Rattle.reader.specs.declared.Digits.{Digits}
 use Rattle.reader.specs.declared.Digits.the-variants.{Worth, Bad}
 use Rattle.trace.specs.Line.{decimal, upToLineFeed, isDigit, valueAfter, noLeadingZero, readNumber}
 use Rattle.reader.specs.Reading.{withDigit, readBody}
-use Rattle.trace.proofs.Tests.{all?-head, all?-tail, fits32-i}
+use Rattle.trace.proofs.Tests.{all?-head, all?-tail, fits32-i, fits32-e}
 use Rattle.trace.proofs.Line.{isDigit-i, isDigit-e, decimal-small, decimal-large, all?-decimal, value-decimal}
 use Rattle.trace.proofs.Line.{readNumber-decimal, upToLineFeed-digits}
 
@@ -83,6 +82,22 @@ module _ (n b : ℕ) where
       go false h y k = stray h
       go true h false k = over h k
       go true h true k = fits h k
+
+-- a further digit makes the number at least ten times as large
+pub withDigit-above : (n b : ℕ) {m : ℕ} → withDigit n b ≡ Worth m → (10 * n ≤ m) × (m ≤ clockEnd)
+withDigit-above n b {m} h = go (further n b)
+  where
+    go : Further n b → (10 * n ≤ m) × (m ≤ clockEnd)
+    go (stray d) =
+        let z : _≡_ {A = ℕ} 0 1 = cc (withDigit-bad n b d) in
+        absurd (omega arith)
+    go (over d k) =
+        let z : _≡_ {A = ℕ} 0 1 = cc (withDigit-over n b d k) in
+        absurd (omega arith)
+    go (fits d k) =
+        let e : 10 * n + (b - 48) ≡ m = cc (withDigit-is n b d k) in
+        let l : 10 * n + (b - 48) ≤ clockEnd = fits32-e _ k in
+        (omega arith, omega arith)
 
 -- a text up to its line feed, behind digits
 

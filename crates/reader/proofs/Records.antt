@@ -4,16 +4,15 @@
 --     Walked                      how far the arrivals of a block are read, and what is stored of them
 --     walked-start, -more         where the walk begins, and one arrival further
 --     walked-stop, -full, -bad    where it ends
-use Prim.Native.Nat.{ℕ, zero, suc, _+_, _*_, _-_, _≤_, _<_}
+use Prim.Native.Nat.{ℕ, suc, _+_, _*_, _-_, _≤_, _<_}
 use native.Mathlib.Omega.{arith}
 use mathlib.Core.Bool.{Bool, true, false}
-use mathlib.Core.List.{List, [], _∷_, _++_, append-assoc, append-nil}
+use mathlib.Core.List.{List, [], _∷_, _++_, append-assoc}
 use mathlib.Core.Path.{_≡_, refl, sym, ap, _∙_}
-use lib.ListN.{length, take, drop, replicate, length-append, length-drop, length-replicate, replicate-append-replicate}
+use lib.ListN.{length, drop, replicate, length-append, length-drop, length-replicate, replicate-append-replicate}
 use lib.Seq.{sets, sets-eq, take-at, drop-at, drop-drop}
 use Rattle.cell.specs.declared.Arrival.{Arrival}
 use Rattle.trace.specs.declared.Key.the-variants.{In}
-use Rattle.trace.specs.declared.Answer.{Answer}
 use Rattle.trace.specs.declared.Answer.the-variants.{Slot, Bad}
 use Rattle.trace.specs.declared.Block.{Block}
 use Rattle.reader.specs.declared.Came.{Came}

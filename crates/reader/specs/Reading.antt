@@ -1,10 +1,11 @@
 -- What the functions of the reader answer.
 use Prim.Native.Nat.{ℕ, _+_, _*_, _-_}
 use mathlib.Core.Bool.{true, false, _&&_}
-use mathlib.Core.List.{List, [], _∷_}
+use mathlib.Core.List.{List, []}
 use mathlib.Core.Option.{Option, none, some, bind, Option·map}
 use lib.ListN.{length}
 use Rattle.cell.specs.declared.Arrival.{Arrival}
+use Rattle.cell.specs.declared.Refusal.the-variants.{BadLine}
 use Rattle.cell.specs.Limits.{fits32}
 use Rattle.trace.specs.declared.Answer.{Answer}
 use Rattle.trace.specs.declared.Block.{Block}
@@ -16,9 +17,11 @@ use Rattle.reader.specs.declared.Digits.{Digits}
 use Rattle.reader.specs.declared.Digits.the-variants.{Worth, Bad as NoDigits}
 use Rattle.reader.specs.declared.Came.{Came}
 use Rattle.reader.specs.declared.Came.the-variants.{Whole, Bad as BadCame}
+use Rattle.reader.specs.declared.Verdict.{Verdict}
+use Rattle.reader.specs.declared.Verdict.the-variants.{Accepted, Refused}
 use Rattle.trace.specs.Line.{after, upToLineFeed, isDigit, readNumber}
 use Rattle.trace.specs.Piece.{paddedNumbers}
-use Rattle.trace.specs.Reader.{Cursor, Read, got, badAt, Next, slotAhead, faulty}
+use Rattle.trace.specs.Reader.{Cursor, Read, got, badAt, Next, slotAhead, faulty, blocks, Outcome, accepted, refused}
 
 abbrev pub from : ℕ → List ℕ → Cursor
 from l t = record { line = l; text = t }
@@ -52,3 +55,15 @@ noArrivals a = record { answer = a; records = paddedNumbers [] }
 unfoldable pub ahead : Read (List Arrival) → Next
 ahead (got rs d) = slotAhead rs d
 ahead (badAt l) = faulty l
+
+unfoldable pub ended : ℕ → Read (List (List Arrival)) → Verdict
+ended n (got slots d) = Accepted (n + length slots)
+ended n (badAt l) = Refused BadLine l
+
+unfoldable pub endedOf : ℕ → List ℕ → Verdict
+endedOf first t = ended 0 (blocks (length t) first (from 3 t))
+
+-- What the reader of a whole text answers.
+unfoldable pub verdictOf : Outcome → Verdict
+verdictOf (accepted c) = Accepted (length (c .slots))
+verdictOf (refused r l) = Refused r l

@@ -1,31 +1,40 @@
 // Document 01, "The trace": the reader, a function for each rule of the grammar, which stands over it. A text is lent and
 // only read; what was read is handed on with its length, and the next reader gets the slice from there.
 // No public function has a `requires`.
+use cell::Arrival;
+use cell::Refusal;
+use cell::Switch;
 use trace::Answer;
 use trace::Block;
 use trace::Key;
 use trace::Opening;
-use cell::Arrival;
-use cell::Refusal;
-use cell::Switch;
 ghost use mathlib.Core.Bool.{true, false};
 ghost use mathlib.Core.List.{[], _∷_};
 ghost use mathlib.Core.Path.{_≡_};
 ghost use Prim.Native.Nat.{_*_, _≤_, _<_};
 ghost use lib.ListN.{length, drop};
 ghost use lib.Seq.{sets};
-ghost use Rattle.trace.specs.declared.Key.the-variants.{In, End};
+ghost use Rattle.trace.specs.declared.Key.the-variants.{End};
 ghost use Rattle.trace.specs.Line.{keyText, readLine};
 ghost use Rattle.trace.specs.Contents.{blockLimit};
-ghost use Rattle.trace.specs.Reader.{arrival, arrivals, begins, next};
+ghost use Rattle.trace.specs.Reader.{arrival, arrivals, begins, next, read};
 ghost use Rattle.trace.specs.Piece.{known, decided, nextIn, headerIn, numbersOf, blockOf, openingOf};
 ghost use Rattle.reader.specs.Reading.{from, withDigit, markOf, readBody, lineOf, cameOf, noArrivals, ahead};
+ghost use Rattle.reader.specs.Reading.{endedOf, verdictOf};
 
 // What stands at the start of a text.
 pub enum Line {
     // The number, and how many bytes the line has.
     Number(u32, usize),
     Bad,
+}
+
+// What reading a whole text by the grammar alone gives.
+pub enum Verdict {
+    // The number of slots.
+    Accepted(u32),
+    // A refusal and its line, counted from 1.
+    Refused(Refusal, usize),
 }
 
 // Whether a text begins with a key and `=`.
@@ -47,6 +56,18 @@ enum Came {
     Whole(Arrival, usize),
     // The line at fault.
     Bad(u32),
+}
+
+// text = header { block } end
+pub fn verify(text: &[u8]) -> Verdict
+    ensures { λ r. ⌜ r ≡ verdictOf (read (now (text .entry))) ⌝ }
+{
+    let opening = read_header(text, true);
+    match opening {
+        Opening::Open(_, first, used) => verify_blocks(&text[used..], first),
+        Opening::Refused(refusal, line) => Verdict::Refused(refusal, line as usize),
+        Opening::Short => Verdict::Refused(Refusal::BadLine, 1),
+    }
 }
 
 // header = ports-line first-line
@@ -89,6 +110,38 @@ pub fn read_line(text: &[u8], key: Key) -> Line
         return Line::Bad;
     };
     read_number(text, start)
+}
+
+// { block } end
+fn verify_blocks(text: &[u8], first: u32) -> Verdict
+    ensures { λ r. ⌜ r ≡ endedOf first (now (text .entry)) ⌝ }
+{
+    let mut rest = text;
+    let mut clock = first;
+    let mut line: usize = 3;
+    loop {
+        let b = read_block(rest, clock, true);
+        let answer = b.answer;
+        match answer {
+            Answer::Slot(_, used, lines) => {
+                line += lines as usize;
+                if clock == 4294967295 {
+                    return Verdict::Refused(Refusal::BadLine, line);
+                }
+                clock += 1;
+                rest = &rest[used..];
+            }
+            Answer::End => {
+                return Verdict::Accepted(clock - first);
+            }
+            Answer::Bad(k) => {
+                return Verdict::Refused(Refusal::BadLine, line + k as usize);
+            }
+            Answer::More => {
+                return Verdict::Refused(Refusal::BadLine, line);
+            }
+        }
+    }
 }
 
 // Whether the text is enough to decide by.

@@ -1,5 +1,4 @@
 -- The digits of a number, as they are written and counted:
---     decimal-tens                the last digit stands behind those of the tenth part
 --     length-decimal              how many there are
 --     poured-small, poured-tens   one digit is poured, and one digit more
 use Prim.Native.Nat.{ℕ, zero, suc, _+_, _*_, _-_, _/_, _%_, _≤_, _<_}
@@ -13,25 +12,12 @@ use Rattle.trace.specs.declared.Key.{Key}
 use Rattle.trace.specs.Line.{digitsWithin, decimal, line}
 use Rattle.writer.specs.Keys.{keyLength}
 use Rattle.writer.specs.Writing.{lastPlace, Poured}
-use Rattle.trace.proofs.Line.{isDigit-i, decimal-small, decimal-large}
+use Rattle.trace.proofs.Lengths.{decimal-tens}
+use Rattle.trace.proofs.Line.{decimal-small}
 use Rattle.writer.proofs.Keys.{length-keyText}
 use Rattle.writer.proofs.Pour.{poured-then}
 
-pub decimal-tens : (n : ℕ) → 10 ≤ n → decimal n ≡ decimal (n / 10) ++ ((48 + n % 10) ∷ [])
-decimal-tens n h =
-    let p : 0 < n / 10 = omega arith in
-    let i : 48 ≤ 48 + n % 10 = omega arith in
-    let j : 48 + n % 10 ≤ 57 = omega arith in
-    let e : n ≡ 10 * (n / 10) + (48 + n % 10 - 48) = omega arith in
-    ap decimal e ∙ decimal-large (n / 10) (48 + n % 10) p (isDigit-i _ i j)
-
 -- how many there are
-
-pub length-decimal-small : (n : ℕ) → n < 10 → length (decimal n) ≡ 1
-length-decimal-small n h = ap length (decimal-small n h)
-
-pub length-decimal-tens : (n : ℕ) → 10 ≤ n → length (decimal n) ≡ length (decimal (n / 10)) + 1
-length-decimal-tens n h = ap length (decimal-tens n h) ∙ length-append (decimal (n / 10)) ((48 + n % 10) ∷ [])
 
 length-digitsWithin : (k n : ℕ) → length (digitsWithin k n) ≤ suc k
 unfolding digitsWithin

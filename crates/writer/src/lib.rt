@@ -3,12 +3,12 @@
 // buffer says that the text does not fit. The public ones write all of a text or nothing of it. The private ones,
 // `pour_..`, write what fits of it, so that one text after another needs no test, and a text poured into no bytes is
 // measured.
-use trace::Key;
-use trace::Output;
 use cell::Arrival;
 use cell::Cell;
 use cell::Refusal;
 use cell::Switch;
+use trace::Key;
+use trace::Output;
 ghost use mathlib.Core.Path.{_≡_};
 ghost use mathlib.Core.List.{_∷_, [], _++_};
 ghost use lib.ListN.{length, getD, drop};

@@ -1,5 +1,4 @@
 -- `reader::decided` meets its contract. Assumes nothing.
-use mathlib.Core.Path.{refl}
 use Rattle.trace.specs.Piece.{decided}
 use Rattle.reader.proofs.decided.Statement.{statement}
 use Rattle.reader.proofs.decided.Tie as tie

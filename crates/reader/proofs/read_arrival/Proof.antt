@@ -1,20 +1,103 @@
 -- `reader::read_arrival` meets its contract: each `return` is the line at which the arrival ends. Assumes nothing.
-use Prim.Native.Nat.{_+_}
+use Prim.Native.Nat.{ℕ, _+_, _^_, _<_}
 use native.Mathlib.Omega.{arith}
+use mathlib.Core.List.{List}
 use mathlib.Core.Path.{sym, ap, _∙_}
 use denote.Ref.{now}
 use Rattle.trace.specs.declared.Key.the-variants.{In, Out, Flow, Rank, Tag}
 use Rattle.reader.specs.declared.Came.the-variants.{Bad}
-use Rattle.reader.specs.Reading.{from}
-use Rattle.reader.proofs.Lines.{rest, length-rest, number-bad, number-next, number-within}
+use Rattle.reader.proofs.Lines.{rest, Taken, taken, number-bad}
 use Rattle.reader.proofs.Arrivals.{cameOf-bad, cameOf-whole, arrival-bad-in, arrival-bad-out}
 use Rattle.reader.proofs.Arrivals.{arrival-bad-flow, arrival-bad-rank, arrival-bad-tag, arrival-whole}
 use borrow.Author.Needs.{needs}
 use Rattle.reader.proofs.read_arrival.Statement.{statement}
 use Rattle.reader.proofs.read_arrival.Tie as tie
-use Rattle.reader.proofs.read_arrival.Reads as reads
-use Rattle.reader.proofs.read_arrival.Lts as lts
-use Rattle.reader.proofs.read_line.Reads as read-line-reads
+
+-- the places behind the lines, each from the next one
+
+abbrev back₁ : tie.After-known-told → tie.Start
+back₁ c = c .before .before .before .before .before
+
+abbrev back₂ : tie.After-known-told2 → tie.After-known-told
+back₂ c = c .before .before .before .before .before
+
+abbrev back₃ : tie.After-known-told3 → tie.After-known-told2
+back₃ c = c .before .before .before .before .before
+
+abbrev back₄ : tie.After-known-told4 → tie.After-known-told3
+back₄ c = c .before .before .before .before .before
+
+abbrev back₅ : tie.After-known-told5 → tie.After-known-told4
+back₅ c = c .before .before .before .before .before
+
+-- the line that is next there, and the text that is left
+
+abbrev line₁ : tie.After-known-told → ℕ
+line₁ c = back₁ c .args .line + 1
+
+abbrev left₁ : tie.After-known-told → List ℕ
+left₁ c = rest (now (back₁ c .args .text)) (c .before .input .given .0 .1 .0)
+
+abbrev line₂ : tie.After-known-told2 → ℕ
+line₂ c = line₁ (back₂ c) + 1
+
+abbrev left₂ : tie.After-known-told2 → List ℕ
+left₂ c = rest (left₁ (back₂ c)) (c .before .output .given .0 .1 .0)
+
+abbrev line₃ : tie.After-known-told3 → ℕ
+line₃ c = line₂ (back₃ c) + 1
+
+abbrev left₃ : tie.After-known-told3 → List ℕ
+left₃ c = rest (left₂ (back₃ c)) (c .before .flow .given .0 .1 .0)
+
+abbrev line₄ : tie.After-known-told4 → ℕ
+line₄ c = line₃ (back₄ c) + 1
+
+abbrev left₄ : tie.After-known-told4 → List ℕ
+left₄ c = rest (left₃ (back₄ c)) (c .before .rank .given .0 .1 .0)
+
+-- the lines that were read
+
+taken₁ : (c : tie.After-known-told)
+    → Taken In (back₁ c .args .line) (now (back₁ c .args .text)) (c .before .input .given .0 .0) (c .before .input .given .0 .1 .0)
+taken₁ c = taken In _ _ (c .before .before .before .read-line .ensures) (c .before .input .given .1)
+
+taken₂ : (c : tie.After-known-told2)
+    → Taken Out (line₁ (back₂ c)) (left₁ (back₂ c)) (c .before .output .given .0 .0) (c .before .output .given .0 .1 .0)
+taken₂ c = taken Out _ _ (c .before .before .before .read-line2 .ensures) (c .before .output .given .1)
+
+taken₃ : (c : tie.After-known-told3)
+    → Taken Flow (line₂ (back₃ c)) (left₂ (back₃ c)) (c .before .flow .given .0 .0) (c .before .flow .given .0 .1 .0)
+taken₃ c = taken Flow _ _ (c .before .before .before .read-line3 .ensures) (c .before .flow .given .1)
+
+taken₄ : (c : tie.After-known-told4)
+    → Taken Rank (line₃ (back₄ c)) (left₃ (back₄ c)) (c .before .rank .given .0 .0) (c .before .rank .given .0 .1 .0)
+taken₄ c = taken Rank _ _ (c .before .before .before .read-line4 .ensures) (c .before .rank .given .1)
+
+taken₅ : (c : tie.After-known-told5)
+    → Taken Tag (line₄ (back₅ c)) (left₄ (back₅ c)) (c .before .tag .given .0 .0) (c .before .tag .given .0 .1 .0)
+taken₅ c = taken Tag _ _ (c .before .before .before .read-line5 .ensures) (c .before .tag .given .1)
+
+-- the five lines are within the text
+abbrev total : tie.After-known-told5 → ℕ
+total c =
+    let p₄ = back₅ c in
+    let p₃ = back₄ p₄ in
+    let p₂ = back₃ p₃ in
+    let p₁ = back₂ p₂ in
+    p₁ .before .input .given .0 .1 .0
+    + p₂ .before .output .given .0 .1 .0
+    + p₃ .before .flow .given .0 .1 .0
+    + p₄ .before .rank .given .0 .1 .0
+    + c .before .tag .given .0 .1 .0
+
+total-fits : (c : tie.After-known-told5) → total c < 2 ^ 64
+total-fits c =
+    let p₄ = back₅ c in
+    let p₃ = back₄ p₄ in
+    let p₂ = back₃ p₃ in
+    let p₁ = back₂ p₂ in
+    omega (arith, back₁ p₁ .good, taken₁ p₁, taken₂ p₂, taken₃ p₃, taken₄ p₄, taken₅ c)
 
 read-line-requires : tie.Need-read-line-requires
 read-line-requires c κs = search needs
@@ -27,22 +110,13 @@ enum-told c = search needs
 
 returns : tie.Need-returns
 returns c =
-    let t = now (c .before .before .before .before .args .text) in
-    let l = c .before .before .before .before .args .line in
-    let b = number-bad In (l) t (c .before .before .read-line .ensures) (c .enum-told .given .1) in
-    sym (cameOf-bad t (arrival-bad-in (from l t) b))
+    sym (cameOf-bad _ (arrival-bad-in _ (number-bad In _ _ (c .before .before .read-line .ensures) (c .enum-told .given .1))))
 
 sub-after-in : tie.Need-sub-after-in
-sub-after-in c =
-    let t = now (c .before .before .before .before .before .args .text) in
-    let l = c .before .before .before .before .before .args .line in
-    number-within In (l) t (c .before .before .before .read-line .ensures) (c .before .input .given .1)
+sub-after-in c = taken₁ c .within
 
 part-after-in-start : tie.Need-part-after-in-start
-part-after-in-start c =
-    let t = now (c .before .before .before .before .before .args .text) in
-    let l = c .before .before .before .before .before .args .line in
-    number-within In (l) t (c .before .before .before .read-line .ensures) (c .before .input .given .1)
+part-after-in-start c = taken₁ c .within
 
 part-after-in-end : tie.Need-part-after-in-end
 part-after-in-end c = search needs
@@ -61,29 +135,15 @@ add-t24 c = search needs
 
 returns-2 : tie.Need-returns-2
 returns-2 c =
-    let t = now (c .before .before .before .before .before .before .before .before .before .args .text) in
-    let l = c .before .before .before .before .before .before .before .before .before .args .line in
-    let n0 = c .before .before .before .before .before .input .given .0 .1 .0 in
-    let p0 = number-next In (l) t (c .before .before .before .before .before .before .before .read-line .ensures) (c .before .before .before .before .before .input .given .1) in
-    let t0 = rest t n0 in
-    let b = number-bad Out (l + 1) t0 (c .before .before .read-line2 .ensures) (c .enum-told2 .given .1) in
-    sym (cameOf-bad t (arrival-bad-out (from l t) p0 b))
+    let p₁ = c .before .before .before .before in
+    let b = number-bad Out _ (left₁ p₁) (c .before .before .read-line2 .ensures) (c .enum-told2 .given .1) in
+    sym (cameOf-bad _ (arrival-bad-out _ (taken₁ p₁ .read) b))
 
 sub-after-out : tie.Need-sub-after-out
-sub-after-out c =
-    let t = now (c .before .before .before .before .before .before .before .before .before .before .args .text) in
-    let l = c .before .before .before .before .before .before .before .before .before .before .args .line in
-    let n0 = c .before .before .before .before .before .before .input .given .0 .1 .0 in
-    let t0 = rest t n0 in
-    number-within Out (l + 1) t0 (c .before .before .before .read-line2 .ensures) (c .before .output .given .1)
+sub-after-out c = taken₂ c .within
 
 part-after-out-start : tie.Need-part-after-out-start
-part-after-out-start c =
-    let t = now (c .before .before .before .before .before .before .before .before .before .before .args .text) in
-    let l = c .before .before .before .before .before .before .before .before .before .before .args .line in
-    let n0 = c .before .before .before .before .before .before .input .given .0 .1 .0 in
-    let t0 = rest t n0 in
-    number-within Out (l + 1) t0 (c .before .before .before .read-line2 .ensures) (c .before .output .given .1)
+part-after-out-start c = taken₂ c .within
 
 part-after-out-end : tie.Need-part-after-out-end
 part-after-out-end c = search needs
@@ -102,36 +162,17 @@ add-t28 c = search needs
 
 returns-3 : tie.Need-returns-3
 returns-3 c =
-    let t = now (c .before .before .before .before .before .before .before .before .before .before .before .before .before .before .args .text) in
-    let l = c .before .before .before .before .before .before .before .before .before .before .before .before .before .before .args .line in
-    let n0 = c .before .before .before .before .before .before .before .before .before .before .input .given .0 .1 .0 in
-    let p0 = number-next In (l) t (c .before .before .before .before .before .before .before .before .before .before .before .before .read-line .ensures) (c .before .before .before .before .before .before .before .before .before .before .input .given .1) in
-    let t0 = rest t n0 in
-    let n1 = c .before .before .before .before .before .output .given .0 .1 .0 in
-    let p1 = number-next Out (l + 1) t0 (c .before .before .before .before .before .before .before .read-line2 .ensures) (c .before .before .before .before .before .output .given .1) in
-    let t1 = rest t0 n1 in
-    let b = number-bad Flow (l + 1 + 1) t1 (c .before .before .read-line3 .ensures) (c .enum-told3 .given .1) in
-    ap Bad (omega arith) ∙ sym (cameOf-bad t (arrival-bad-flow (from l t) p0 p1 b))
+    let p₂ = c .before .before .before .before in
+    let p₁ = back₂ p₂ in
+    let b = number-bad Flow _ (left₂ p₂) (c .before .before .read-line3 .ensures) (c .enum-told3 .given .1) in
+    ap Bad (omega arith)
+    ∙ sym (cameOf-bad _ (arrival-bad-flow _ (taken₁ p₁ .read) (taken₂ p₂ .read) b))
 
 sub-after-flow : tie.Need-sub-after-flow
-sub-after-flow c =
-    let t = now (c .before .before .before .before .before .before .before .before .before .before .before .before .before .before .before .args .text) in
-    let l = c .before .before .before .before .before .before .before .before .before .before .before .before .before .before .before .args .line in
-    let n0 = c .before .before .before .before .before .before .before .before .before .before .before .input .given .0 .1 .0 in
-    let t0 = rest t n0 in
-    let n1 = c .before .before .before .before .before .before .output .given .0 .1 .0 in
-    let t1 = rest t0 n1 in
-    number-within Flow (l + 1 + 1) t1 (c .before .before .before .read-line3 .ensures) (c .before .flow .given .1)
+sub-after-flow c = taken₃ c .within
 
 part-after-flow-start : tie.Need-part-after-flow-start
-part-after-flow-start c =
-    let t = now (c .before .before .before .before .before .before .before .before .before .before .before .before .before .before .before .args .text) in
-    let l = c .before .before .before .before .before .before .before .before .before .before .before .before .before .before .before .args .line in
-    let n0 = c .before .before .before .before .before .before .before .before .before .before .before .input .given .0 .1 .0 in
-    let t0 = rest t n0 in
-    let n1 = c .before .before .before .before .before .before .output .given .0 .1 .0 in
-    let t1 = rest t0 n1 in
-    number-within Flow (l + 1 + 1) t1 (c .before .before .before .read-line3 .ensures) (c .before .flow .given .1)
+part-after-flow-start c = taken₃ c .within
 
 part-after-flow-end : tie.Need-part-after-flow-end
 part-after-flow-end c = search needs
@@ -150,43 +191,18 @@ add-t32 c = search needs
 
 returns-4 : tie.Need-returns-4
 returns-4 c =
-    let t = now (c .before .before .before .before .before .before .before .before .before .before .before .before .before .before .before .before .before .before .before .args .text) in
-    let l = c .before .before .before .before .before .before .before .before .before .before .before .before .before .before .before .before .before .before .before .args .line in
-    let n0 = c .before .before .before .before .before .before .before .before .before .before .before .before .before .before .before .input .given .0 .1 .0 in
-    let p0 = number-next In (l) t (c .before .before .before .before .before .before .before .before .before .before .before .before .before .before .before .before .before .read-line .ensures) (c .before .before .before .before .before .before .before .before .before .before .before .before .before .before .before .input .given .1) in
-    let t0 = rest t n0 in
-    let n1 = c .before .before .before .before .before .before .before .before .before .before .output .given .0 .1 .0 in
-    let p1 = number-next Out (l + 1) t0 (c .before .before .before .before .before .before .before .before .before .before .before .before .read-line2 .ensures) (c .before .before .before .before .before .before .before .before .before .before .output .given .1) in
-    let t1 = rest t0 n1 in
-    let n2 = c .before .before .before .before .before .flow .given .0 .1 .0 in
-    let p2 = number-next Flow (l + 1 + 1) t1 (c .before .before .before .before .before .before .before .read-line3 .ensures) (c .before .before .before .before .before .flow .given .1) in
-    let t2 = rest t1 n2 in
-    let b = number-bad Rank (l + 1 + 1 + 1) t2 (c .before .before .read-line4 .ensures) (c .enum-told4 .given .1) in
-    ap Bad (omega arith) ∙ sym (cameOf-bad t (arrival-bad-rank (from l t) p0 p1 p2 b))
+    let p₃ = c .before .before .before .before in
+    let p₂ = back₃ p₃ in
+    let p₁ = back₂ p₂ in
+    let b = number-bad Rank _ (left₃ p₃) (c .before .before .read-line4 .ensures) (c .enum-told4 .given .1) in
+    ap Bad (omega arith)
+    ∙ sym (cameOf-bad _ (arrival-bad-rank _ (taken₁ p₁ .read) (taken₂ p₂ .read) (taken₃ p₃ .read) b))
 
 sub-after-rank : tie.Need-sub-after-rank
-sub-after-rank c =
-    let t = now (c .before .before .before .before .before .before .before .before .before .before .before .before .before .before .before .before .before .before .before .before .args .text) in
-    let l = c .before .before .before .before .before .before .before .before .before .before .before .before .before .before .before .before .before .before .before .before .args .line in
-    let n0 = c .before .before .before .before .before .before .before .before .before .before .before .before .before .before .before .before .input .given .0 .1 .0 in
-    let t0 = rest t n0 in
-    let n1 = c .before .before .before .before .before .before .before .before .before .before .before .output .given .0 .1 .0 in
-    let t1 = rest t0 n1 in
-    let n2 = c .before .before .before .before .before .before .flow .given .0 .1 .0 in
-    let t2 = rest t1 n2 in
-    number-within Rank (l + 1 + 1 + 1) t2 (c .before .before .before .read-line4 .ensures) (c .before .rank .given .1)
+sub-after-rank c = taken₄ c .within
 
 part-after-rank-start : tie.Need-part-after-rank-start
-part-after-rank-start c =
-    let t = now (c .before .before .before .before .before .before .before .before .before .before .before .before .before .before .before .before .before .before .before .before .args .text) in
-    let l = c .before .before .before .before .before .before .before .before .before .before .before .before .before .before .before .before .before .before .before .before .args .line in
-    let n0 = c .before .before .before .before .before .before .before .before .before .before .before .before .before .before .before .before .input .given .0 .1 .0 in
-    let t0 = rest t n0 in
-    let n1 = c .before .before .before .before .before .before .before .before .before .before .before .output .given .0 .1 .0 in
-    let t1 = rest t0 n1 in
-    let n2 = c .before .before .before .before .before .before .flow .given .0 .1 .0 in
-    let t2 = rest t1 n2 in
-    number-within Rank (l + 1 + 1 + 1) t2 (c .before .before .before .read-line4 .ensures) (c .before .rank .given .1)
+part-after-rank-start c = taken₄ c .within
 
 part-after-rank-end : tie.Need-part-after-rank-end
 part-after-rank-end c = search needs
@@ -205,149 +221,36 @@ add-t36 c = search needs
 
 returns-5 : tie.Need-returns-5
 returns-5 c =
-    let t = now (c .before .before .before .before .before .before .before .before .before .before .before .before .before .before .before .before .before .before .before .before .before .before .before .before .args .text) in
-    let l = c .before .before .before .before .before .before .before .before .before .before .before .before .before .before .before .before .before .before .before .before .before .before .before .before .args .line in
-    let n0 = c .before .before .before .before .before .before .before .before .before .before .before .before .before .before .before .before .before .before .before .before .input .given .0 .1 .0 in
-    let p0 = number-next In (l) t (c .before .before .before .before .before .before .before .before .before .before .before .before .before .before .before .before .before .before .before .before .before .before .read-line .ensures) (c .before .before .before .before .before .before .before .before .before .before .before .before .before .before .before .before .before .before .before .before .input .given .1) in
-    let t0 = rest t n0 in
-    let n1 = c .before .before .before .before .before .before .before .before .before .before .before .before .before .before .before .output .given .0 .1 .0 in
-    let p1 = number-next Out (l + 1) t0 (c .before .before .before .before .before .before .before .before .before .before .before .before .before .before .before .before .before .read-line2 .ensures) (c .before .before .before .before .before .before .before .before .before .before .before .before .before .before .before .output .given .1) in
-    let t1 = rest t0 n1 in
-    let n2 = c .before .before .before .before .before .before .before .before .before .before .flow .given .0 .1 .0 in
-    let p2 = number-next Flow (l + 1 + 1) t1 (c .before .before .before .before .before .before .before .before .before .before .before .before .read-line3 .ensures) (c .before .before .before .before .before .before .before .before .before .before .flow .given .1) in
-    let t2 = rest t1 n2 in
-    let n3 = c .before .before .before .before .before .rank .given .0 .1 .0 in
-    let p3 = number-next Rank (l + 1 + 1 + 1) t2 (c .before .before .before .before .before .before .before .read-line4 .ensures) (c .before .before .before .before .before .rank .given .1) in
-    let t3 = rest t2 n3 in
-    let b = number-bad Tag (l + 1 + 1 + 1 + 1) t3 (c .before .before .read-line5 .ensures) (c .enum-told5 .given .1) in
-    ap Bad (omega arith) ∙ sym (cameOf-bad t (arrival-bad-tag (from l t) p0 p1 p2 p3 b))
+    let p₄ = c .before .before .before .before in
+    let p₃ = back₄ p₄ in
+    let p₂ = back₃ p₃ in
+    let p₁ = back₂ p₂ in
+    let b = number-bad Tag _ (left₄ p₄) (c .before .before .read-line5 .ensures) (c .enum-told5 .given .1) in
+    ap Bad (omega arith)
+    ∙ sym (cameOf-bad _ (arrival-bad-tag _ (taken₁ p₁ .read) (taken₂ p₂ .read) (taken₃ p₃ .read) (taken₄ p₄ .read) b))
 
 add-t21 : tie.Need-add-t21
-add-t21 c =
-    let t = now (c .before .before .before .before .before .before .before .before .before .before .before .before .before .before .before .before .before .before .before .before .before .before .before .before .before .args .text) in
-    let l = c .before .before .before .before .before .before .before .before .before .before .before .before .before .before .before .before .before .before .before .before .before .before .before .before .before .args .line in
-    let n0 = c .before .before .before .before .before .before .before .before .before .before .before .before .before .before .before .before .before .before .before .before .before .input .given .0 .1 .0 in
-    let w0 = number-within In (l) t (c .before .before .before .before .before .before .before .before .before .before .before .before .before .before .before .before .before .before .before .before .before .before .before .read-line .ensures) (c .before .before .before .before .before .before .before .before .before .before .before .before .before .before .before .before .before .before .before .before .before .input .given .1) in
-    let r0 = length-rest t n0 in
-    let t0 = rest t n0 in
-    let n1 = c .before .before .before .before .before .before .before .before .before .before .before .before .before .before .before .before .output .given .0 .1 .0 in
-    let w1 = number-within Out (l + 1) t0 (c .before .before .before .before .before .before .before .before .before .before .before .before .before .before .before .before .before .before .read-line2 .ensures) (c .before .before .before .before .before .before .before .before .before .before .before .before .before .before .before .before .output .given .1) in
-    let r1 = length-rest t0 n1 in
-    let t1 = rest t0 n1 in
-    let n2 = c .before .before .before .before .before .before .before .before .before .before .before .flow .given .0 .1 .0 in
-    let w2 = number-within Flow (l + 1 + 1) t1 (c .before .before .before .before .before .before .before .before .before .before .before .before .before .read-line3 .ensures) (c .before .before .before .before .before .before .before .before .before .before .before .flow .given .1) in
-    let r2 = length-rest t1 n2 in
-    let t2 = rest t1 n2 in
-    let n3 = c .before .before .before .before .before .before .rank .given .0 .1 .0 in
-    let w3 = number-within Rank (l + 1 + 1 + 1) t2 (c .before .before .before .before .before .before .before .before .read-line4 .ensures) (c .before .before .before .before .before .before .rank .given .1) in
-    let r3 = length-rest t2 n3 in
-    let t3 = rest t2 n3 in
-    let n4 = c .before .tag .given .0 .1 .0 in
-    let w4 = number-within Tag (l + 1 + 1 + 1 + 1) t3 (c .before .before .before .read-line5 .ensures) (c .before .tag .given .1) in
-    omega (arith, c .before .before .before .before .before .before .before .before .before .before .before .before .before .before .before .before .before .before .before .before .before .before .before .before .before .good)
+add-t21 c = omega (arith, total-fits c)
 
 add-t37 : tie.Need-add-t37
-add-t37 c =
-    let t = now (c .before .before .before .before .before .before .before .before .before .before .before .before .before .before .before .before .before .before .before .before .before .before .before .before .before .args .text) in
-    let l = c .before .before .before .before .before .before .before .before .before .before .before .before .before .before .before .before .before .before .before .before .before .before .before .before .before .args .line in
-    let n0 = c .before .before .before .before .before .before .before .before .before .before .before .before .before .before .before .before .before .before .before .before .before .input .given .0 .1 .0 in
-    let w0 = number-within In (l) t (c .before .before .before .before .before .before .before .before .before .before .before .before .before .before .before .before .before .before .before .before .before .before .before .read-line .ensures) (c .before .before .before .before .before .before .before .before .before .before .before .before .before .before .before .before .before .before .before .before .before .input .given .1) in
-    let r0 = length-rest t n0 in
-    let t0 = rest t n0 in
-    let n1 = c .before .before .before .before .before .before .before .before .before .before .before .before .before .before .before .before .output .given .0 .1 .0 in
-    let w1 = number-within Out (l + 1) t0 (c .before .before .before .before .before .before .before .before .before .before .before .before .before .before .before .before .before .before .read-line2 .ensures) (c .before .before .before .before .before .before .before .before .before .before .before .before .before .before .before .before .output .given .1) in
-    let r1 = length-rest t0 n1 in
-    let t1 = rest t0 n1 in
-    let n2 = c .before .before .before .before .before .before .before .before .before .before .before .flow .given .0 .1 .0 in
-    let w2 = number-within Flow (l + 1 + 1) t1 (c .before .before .before .before .before .before .before .before .before .before .before .before .before .read-line3 .ensures) (c .before .before .before .before .before .before .before .before .before .before .before .flow .given .1) in
-    let r2 = length-rest t1 n2 in
-    let t2 = rest t1 n2 in
-    let n3 = c .before .before .before .before .before .before .rank .given .0 .1 .0 in
-    let w3 = number-within Rank (l + 1 + 1 + 1) t2 (c .before .before .before .before .before .before .before .before .read-line4 .ensures) (c .before .before .before .before .before .before .rank .given .1) in
-    let r3 = length-rest t2 n3 in
-    let t3 = rest t2 n3 in
-    let n4 = c .before .tag .given .0 .1 .0 in
-    let w4 = number-within Tag (l + 1 + 1 + 1 + 1) t3 (c .before .before .before .read-line5 .ensures) (c .before .tag .given .1) in
-    omega (arith, c .before .before .before .before .before .before .before .before .before .before .before .before .before .before .before .before .before .before .before .before .before .before .before .before .before .good)
+add-t37 c = omega (arith, total-fits c)
 
 add-t38 : tie.Need-add-t38
-add-t38 c =
-    let t = now (c .before .before .before .before .before .before .before .before .before .before .before .before .before .before .before .before .before .before .before .before .before .before .before .before .before .args .text) in
-    let l = c .before .before .before .before .before .before .before .before .before .before .before .before .before .before .before .before .before .before .before .before .before .before .before .before .before .args .line in
-    let n0 = c .before .before .before .before .before .before .before .before .before .before .before .before .before .before .before .before .before .before .before .before .before .input .given .0 .1 .0 in
-    let w0 = number-within In (l) t (c .before .before .before .before .before .before .before .before .before .before .before .before .before .before .before .before .before .before .before .before .before .before .before .read-line .ensures) (c .before .before .before .before .before .before .before .before .before .before .before .before .before .before .before .before .before .before .before .before .before .input .given .1) in
-    let r0 = length-rest t n0 in
-    let t0 = rest t n0 in
-    let n1 = c .before .before .before .before .before .before .before .before .before .before .before .before .before .before .before .before .output .given .0 .1 .0 in
-    let w1 = number-within Out (l + 1) t0 (c .before .before .before .before .before .before .before .before .before .before .before .before .before .before .before .before .before .before .read-line2 .ensures) (c .before .before .before .before .before .before .before .before .before .before .before .before .before .before .before .before .output .given .1) in
-    let r1 = length-rest t0 n1 in
-    let t1 = rest t0 n1 in
-    let n2 = c .before .before .before .before .before .before .before .before .before .before .before .flow .given .0 .1 .0 in
-    let w2 = number-within Flow (l + 1 + 1) t1 (c .before .before .before .before .before .before .before .before .before .before .before .before .before .read-line3 .ensures) (c .before .before .before .before .before .before .before .before .before .before .before .flow .given .1) in
-    let r2 = length-rest t1 n2 in
-    let t2 = rest t1 n2 in
-    let n3 = c .before .before .before .before .before .before .rank .given .0 .1 .0 in
-    let w3 = number-within Rank (l + 1 + 1 + 1) t2 (c .before .before .before .before .before .before .before .before .read-line4 .ensures) (c .before .before .before .before .before .before .rank .given .1) in
-    let r3 = length-rest t2 n3 in
-    let t3 = rest t2 n3 in
-    let n4 = c .before .tag .given .0 .1 .0 in
-    let w4 = number-within Tag (l + 1 + 1 + 1 + 1) t3 (c .before .before .before .read-line5 .ensures) (c .before .tag .given .1) in
-    omega (arith, c .before .before .before .before .before .before .before .before .before .before .before .before .before .before .before .before .before .before .before .before .before .before .before .before .before .good)
+add-t38 c = omega (arith, total-fits c)
 
 add-t39 : tie.Need-add-t39
-add-t39 c =
-    let t = now (c .before .before .before .before .before .before .before .before .before .before .before .before .before .before .before .before .before .before .before .before .before .before .before .before .before .args .text) in
-    let l = c .before .before .before .before .before .before .before .before .before .before .before .before .before .before .before .before .before .before .before .before .before .before .before .before .before .args .line in
-    let n0 = c .before .before .before .before .before .before .before .before .before .before .before .before .before .before .before .before .before .before .before .before .before .input .given .0 .1 .0 in
-    let w0 = number-within In (l) t (c .before .before .before .before .before .before .before .before .before .before .before .before .before .before .before .before .before .before .before .before .before .before .before .read-line .ensures) (c .before .before .before .before .before .before .before .before .before .before .before .before .before .before .before .before .before .before .before .before .before .input .given .1) in
-    let r0 = length-rest t n0 in
-    let t0 = rest t n0 in
-    let n1 = c .before .before .before .before .before .before .before .before .before .before .before .before .before .before .before .before .output .given .0 .1 .0 in
-    let w1 = number-within Out (l + 1) t0 (c .before .before .before .before .before .before .before .before .before .before .before .before .before .before .before .before .before .before .read-line2 .ensures) (c .before .before .before .before .before .before .before .before .before .before .before .before .before .before .before .before .output .given .1) in
-    let r1 = length-rest t0 n1 in
-    let t1 = rest t0 n1 in
-    let n2 = c .before .before .before .before .before .before .before .before .before .before .before .flow .given .0 .1 .0 in
-    let w2 = number-within Flow (l + 1 + 1) t1 (c .before .before .before .before .before .before .before .before .before .before .before .before .before .read-line3 .ensures) (c .before .before .before .before .before .before .before .before .before .before .before .flow .given .1) in
-    let r2 = length-rest t1 n2 in
-    let t2 = rest t1 n2 in
-    let n3 = c .before .before .before .before .before .before .rank .given .0 .1 .0 in
-    let w3 = number-within Rank (l + 1 + 1 + 1) t2 (c .before .before .before .before .before .before .before .before .read-line4 .ensures) (c .before .before .before .before .before .before .rank .given .1) in
-    let r3 = length-rest t2 n3 in
-    let t3 = rest t2 n3 in
-    let n4 = c .before .tag .given .0 .1 .0 in
-    let w4 = number-within Tag (l + 1 + 1 + 1 + 1) t3 (c .before .before .before .read-line5 .ensures) (c .before .tag .given .1) in
-    omega (arith, c .before .before .before .before .before .before .before .before .before .before .before .before .before .before .before .before .before .before .before .before .before .before .before .before .before .good)
+add-t39 c = omega (arith, total-fits c)
 
 returns-6 : tie.Need-returns-6
 returns-6 c =
-    let t = now (c .before .before .before .before .before .before .before .before .before .before .before .before .before .before .before .before .before .before .before .before .before .before .before .before .before .args .text) in
-    let l = c .before .before .before .before .before .before .before .before .before .before .before .before .before .before .before .before .before .before .before .before .before .before .before .before .before .args .line in
-    let n0 = c .before .before .before .before .before .before .before .before .before .before .before .before .before .before .before .before .before .before .before .before .before .input .given .0 .1 .0 in
-    let p0 = number-next In (l) t (c .before .before .before .before .before .before .before .before .before .before .before .before .before .before .before .before .before .before .before .before .before .before .before .read-line .ensures) (c .before .before .before .before .before .before .before .before .before .before .before .before .before .before .before .before .before .before .before .before .before .input .given .1) in
-    let w0 = number-within In (l) t (c .before .before .before .before .before .before .before .before .before .before .before .before .before .before .before .before .before .before .before .before .before .before .before .read-line .ensures) (c .before .before .before .before .before .before .before .before .before .before .before .before .before .before .before .before .before .before .before .before .before .input .given .1) in
-    let r0 = length-rest t n0 in
-    let t0 = rest t n0 in
-    let n1 = c .before .before .before .before .before .before .before .before .before .before .before .before .before .before .before .before .output .given .0 .1 .0 in
-    let p1 = number-next Out (l + 1) t0 (c .before .before .before .before .before .before .before .before .before .before .before .before .before .before .before .before .before .before .read-line2 .ensures) (c .before .before .before .before .before .before .before .before .before .before .before .before .before .before .before .before .output .given .1) in
-    let w1 = number-within Out (l + 1) t0 (c .before .before .before .before .before .before .before .before .before .before .before .before .before .before .before .before .before .before .read-line2 .ensures) (c .before .before .before .before .before .before .before .before .before .before .before .before .before .before .before .before .output .given .1) in
-    let r1 = length-rest t0 n1 in
-    let t1 = rest t0 n1 in
-    let n2 = c .before .before .before .before .before .before .before .before .before .before .before .flow .given .0 .1 .0 in
-    let p2 = number-next Flow (l + 1 + 1) t1 (c .before .before .before .before .before .before .before .before .before .before .before .before .before .read-line3 .ensures) (c .before .before .before .before .before .before .before .before .before .before .before .flow .given .1) in
-    let w2 = number-within Flow (l + 1 + 1) t1 (c .before .before .before .before .before .before .before .before .before .before .before .before .before .read-line3 .ensures) (c .before .before .before .before .before .before .before .before .before .before .before .flow .given .1) in
-    let r2 = length-rest t1 n2 in
-    let t2 = rest t1 n2 in
-    let n3 = c .before .before .before .before .before .before .rank .given .0 .1 .0 in
-    let p3 = number-next Rank (l + 1 + 1 + 1) t2 (c .before .before .before .before .before .before .before .before .read-line4 .ensures) (c .before .before .before .before .before .before .rank .given .1) in
-    let w3 = number-within Rank (l + 1 + 1 + 1) t2 (c .before .before .before .before .before .before .before .before .read-line4 .ensures) (c .before .before .before .before .before .before .rank .given .1) in
-    let r3 = length-rest t2 n3 in
-    let t3 = rest t2 n3 in
-    let n4 = c .before .tag .given .0 .1 .0 in
-    let p4 = number-next Tag (l + 1 + 1 + 1 + 1) t3 (c .before .before .before .read-line5 .ensures) (c .before .tag .given .1) in
-    let w4 = number-within Tag (l + 1 + 1 + 1 + 1) t3 (c .before .before .before .read-line5 .ensures) (c .before .tag .given .1) in
-    let r4 = length-rest t3 n4 in
-    let w = arrival-whole (from l t) p0 p1 p2 p3 p4 in
-    sym (cameOf-whole t w (omega arith))
+    let p₄ = back₅ c in
+    let p₃ = back₄ p₄ in
+    let p₂ = back₃ p₃ in
+    let p₁ = back₂ p₂ in
+    sym
+    (cameOf-whole _
+    (arrival-whole _ (taken₁ p₁ .read) (taken₂ p₂ .read) (taken₃ p₃ .read) (taken₄ p₄ .read) (taken₅ c .read))
+    (omega (arith, taken₁ p₁, taken₂ p₂, taken₃ p₃, taken₄ p₄, taken₅ c)))
 
 pub read-arrival-spec : {M : Type 1} → statement M
 read-arrival-spec =

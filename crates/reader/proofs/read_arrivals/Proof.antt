@@ -1,21 +1,14 @@
 -- `reader::read_arrivals` meets its contract. The loop's invariant is `Walked`: what is read, what is stored and what is
 -- left. Assumes nothing.
-use Prim.Native.Nat.{ℕ, _≤_, _-_}
+use Prim.Native.Nat.{_-_}
 use borrow.Author.Needs.{needs}
 use borrow.Author.Tests.{not-true, not-false}
 use native.Mathlib.Omega.{arith}
-use mathlib.Core.Path.{_≡_, refl, sym, ap, _∙_}
-use denote.Ref.{now}
+use mathlib.Core.Path.{sym, _∙_}
 use Rattle.trace.specs.Piece.{numbersOf, paddedNumbers}
 use Rattle.reader.proofs.Records.{Walked, walked-start, walked-more, walked-stop, walked-full, walked-bad}
 use Rattle.reader.proofs.read_arrivals.Statement.{statement}
 use Rattle.reader.proofs.read_arrivals.Tie as tie
-use Rattle.reader.proofs.read_arrivals.Reads as reads
-use Rattle.reader.proofs.read_arrivals.Lts as lts
-use Rattle.reader.proofs.begins.Reads as begins-reads
-use Rattle.reader.proofs.no_arrivals.Reads as no-arrivals-reads
-use Rattle.reader.proofs.read_arrival.Reads as read-arrival-reads
-use Rattle.reader.proofs.store.Reads as store-reads
 
 abbrev Inv-loop : tie.InvT-loop
 Inv-loop text start records₀ at₀ k₀ records at k = Walked text start records at k

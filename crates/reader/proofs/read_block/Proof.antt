@@ -5,13 +5,6 @@ use Rattle.reader.proofs.Answers.{block-more, block-known}
 use borrow.Author.Needs.{needs}
 use Rattle.reader.proofs.read_block.Statement.{statement}
 use Rattle.reader.proofs.read_block.Tie as tie
-use Rattle.reader.proofs.read_block.Reads as reads
-use Rattle.reader.proofs.read_block.Lts as lts
-use Rattle.reader.proofs.begins.Reads as begins-reads
-use Rattle.reader.proofs.decided.Reads as decided-reads
-use Rattle.reader.proofs.no_arrivals.Reads as no-arrivals-reads
-use Rattle.reader.proofs.read_end.Reads as read-end-reads
-use Rattle.reader.proofs.read_slot.Reads as read-slot-reads
 
 decided-requires : tie.Need-decided-requires
 decided-requires c κs = search needs

@@ -1,16 +1,11 @@
 -- `reader::read_end` meets its contract: each `return` is a case of what stands at the line of `end`. Assumes nothing.
-use mathlib.Core.Path.{sym, _∙_}
-use denote.Ref.{now}
+use mathlib.Core.Path.{_∙_}
 use Rattle.trace.specs.declared.Key.the-variants.{End}
 use Rattle.reader.proofs.Lines.{number-bad, number-got}
 use Rattle.reader.proofs.Answers.{end-bad, end-other, end-more, end-end}
 use borrow.Author.Needs.{needs}
 use Rattle.reader.proofs.read_end.Statement.{statement}
 use Rattle.reader.proofs.read_end.Tie as tie
-use Rattle.reader.proofs.read_end.Reads as reads
-use Rattle.reader.proofs.read_end.Lts as lts
-use Rattle.reader.proofs.no_arrivals.Reads as no-arrivals-reads
-use Rattle.reader.proofs.read_line.Reads as read-line-reads
 
 read-line-requires : tie.Need-read-line-requires
 read-line-requires c κs = search needs

@@ -1,9 +1,8 @@
 -- `reader::read_header` meets its contract: each `return` is a case of the header. Assumes nothing.
 use native.Mathlib.Omega.{arith}
-use mathlib.Core.Path.{_≡_, sym, _∙_}
+use mathlib.Core.Path.{sym, _∙_}
 use borrow.Author.Tests.{not-true, not-false}
 use denote.Ref.{now}
-use lib.ListN.{length}
 use Rattle.trace.specs.declared.Key.the-variants.{Ports, First}
 use Rattle.reader.proofs.Lines.{rest, length-rest, number-bad, number-next, number-within}
 use Rattle.reader.proofs.Answers.{opening-short, opening-bad-ports, opening-bad-size}
@@ -11,11 +10,6 @@ use Rattle.reader.proofs.Answers.{opening-bad-first, opening-open}
 use borrow.Author.Needs.{needs}
 use Rattle.reader.proofs.read_header.Statement.{statement}
 use Rattle.reader.proofs.read_header.Tie as tie
-use Rattle.reader.proofs.read_header.Reads as reads
-use Rattle.reader.proofs.read_header.Lts as lts
-use Rattle.cell.proofs.Switch.ports_in_range.Reads as ports-in-range-reads
-use Rattle.reader.proofs.decided.Reads as decided-reads
-use Rattle.reader.proofs.read_line.Reads as read-line-reads
 
 decided-requires : tie.Need-decided-requires
 decided-requires c κs = search needs

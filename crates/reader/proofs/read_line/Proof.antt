@@ -6,10 +6,6 @@ use Rattle.reader.specs.Reading.{lineOf}
 use Rattle.reader.proofs.Lines.{lineOf-none, readLine-missing, readLine-before}
 use Rattle.reader.proofs.read_line.Statement.{statement}
 use Rattle.reader.proofs.read_line.Tie as tie
-use Rattle.reader.proofs.read_line.Reads as reads
-use Rattle.reader.proofs.read_line.Lts as lts
-use Rattle.reader.proofs.read_key.Reads as read-key-reads
-use Rattle.reader.proofs.read_number.Reads as read-number-reads
 
 read-key-requires : tie.Need-read-key-requires
 read-key-requires c κs = search needs

@@ -1,17 +1,14 @@
 -- `reader::read_mark` meets its contract. The loop's invariant: what follows the mark in the text is what follows the rest
 -- of the mark in the rest of the text. Assumes nothing.
-use Prim.Native.Nat.{ℕ, _≤_, _-_}
+use Prim.Native.Nat.{_≤_, _-_}
 use native.Mathlib.Omega.{arith}
 use mathlib.Core.Path.{_≡_, refl, sym, ap, _∙_}
-use mathlib.Core.Option.{none, some}
 use lib.ListN.{length, drop}
 use Rattle.reader.specs.declared.Mark.the-variants.{Before}
 use Rattle.trace.specs.Line.{after}
 use Rattle.reader.proofs.Marks.{after-short, after-next, after-other, after-end, markOf-missing, markOf-before}
 use Rattle.reader.proofs.read_mark.Statement.{statement}
 use Rattle.reader.proofs.read_mark.Tie as tie
-use Rattle.reader.proofs.read_mark.Reads as reads
-use Rattle.reader.proofs.read_mark.Lts as lts
 
 abbrev Inv-loop : tie.InvT-loop
 Inv-loop text mark i₀ i =

@@ -1,9 +1,9 @@
 -- `reader::read_number` meets its contract. The loop's invariant: what is read from the start is what scan finds from here,
 -- behind the digits of n. Assumes nothing.
-use Prim.Native.Nat.{ℕ, _≤_, _-_}
+use Prim.Native.Nat.{_≤_, _-_}
 use borrow.Author.Needs.{needs}
 use native.Mathlib.Omega.{arith}
-use mathlib.Core.Path.{_≡_, refl, sym, ap, _∙_}
+use mathlib.Core.Path.{_≡_, sym, _∙_}
 use lib.ListN.{length, drop}
 use Rattle.reader.specs.Reading.{readBody}
 use Rattle.reader.proofs.Numbers.{scan, readBody-past, readBody-at-bad, readBody-at-first, scan-past}
@@ -11,9 +11,6 @@ use Rattle.reader.proofs.Numbers.{scan-at-line-feed, scan-at-zero, scan
 use Rattle.reader.proofs.Lines.{lineOf-none, lineOf-some}
 use Rattle.reader.proofs.read_number.Statement.{statement}
 use Rattle.reader.proofs.read_number.Tie as tie
-use Rattle.reader.proofs.read_number.Reads as reads
-use Rattle.reader.proofs.read_number.Lts as lts
-use Rattle.reader.proofs.with_digit.Reads as with-digit-reads
 
 abbrev Inv-loop : tie.InvT-loop
 Inv-loop text start first n₀ at₀ n at = (at ≤ length text) × (readBody (drop start text) ≡ scan n (drop at text))

@@ -1,17 +1,11 @@
 -- `reader::read_slot` meets its contract: each `return` is a case of what stands at the line of `slot`. Assumes nothing.
-use mathlib.Core.Path.{sym, _∙_}
-use denote.Ref.{now}
+use mathlib.Core.Path.{_∙_}
 use Rattle.trace.specs.declared.Key.the-variants.{Slot}
 use Rattle.reader.proofs.Lines.{number-bad, number-got, number-within}
 use Rattle.reader.proofs.Answers.{slot-bad, slot-other, slot-same}
 use borrow.Author.Needs.{needs}
 use Rattle.reader.proofs.read_slot.Statement.{statement}
 use Rattle.reader.proofs.read_slot.Tie as tie
-use Rattle.reader.proofs.read_slot.Reads as reads
-use Rattle.reader.proofs.read_slot.Lts as lts
-use Rattle.reader.proofs.no_arrivals.Reads as no-arrivals-reads
-use Rattle.reader.proofs.read_arrivals.Reads as read-arrivals-reads
-use Rattle.reader.proofs.read_line.Reads as read-line-reads
 
 read-line-requires : tie.Need-read-line-requires
 read-line-requires c κs = search needs

@@ -6,7 +6,8 @@ use native.Mathlib.Omega.{arith}
 use mathlib.Core.Path.{_≡_, refl}
 use lib.ListN.{length}
 use Rattle.trace.specs.Line.{decimal}
-use Rattle.writer.proofs.Decimals.{length-decimal-small, length-decimal-tens, length-decimal-le}
+use Rattle.trace.proofs.Lengths.{length-decimal-small, length-decimal-tens}
+use Rattle.writer.proofs.Decimals.{length-decimal-le}
 use Rattle.writer.proofs.digits.Statement.{statement}
 use Rattle.writer.proofs.digits.Tie as tie
 
