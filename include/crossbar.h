@@ -1,8 +1,7 @@
 /* A buffered crossbar of up to sixteen ports. This header is the whole manual of the host.
 
-   The switch is a table of bytes that the host keeps. start makes one, slot runs one slot on it, check looks whether bytes
-   are one. No call asks anything of what it is lent: a bad argument is a refusal. A call keeps nothing and allocates
-   nothing. A pointer may be null only where its length is 0. The layouts are in docs/LAYOUT.md. */
+   The switch is a table of bytes that the host keeps. start makes one, check looks whether bytes are one. No call asks
+   anything of what it is lent: a bad argument is a refusal. A call keeps nothing and allocates nothing. A pointer may be null only where its length is 0. The layouts are in docs/LAYOUT.md. */
 #ifndef CROSSBAR_H
 #define CROSSBAR_H
 
@@ -40,6 +39,9 @@ extern "C" {
 /* Writes the table of a fresh switch into the first CROSSBAR_TABLE_BYTES of table, with ports from 1 to 16, no cells and any
    first slot; bytes past it are kept. Returns 0, or, changing nothing, CROSSBAR_BAD_SIZE, then CROSSBAR_SHORT_BUFFER. */
 uint32_t start(uint32_t ports, uint32_t first, uint8_t *table, size_t table_bytes);
+
+/* Says whether bytes are the table of a sound state: 0, or CROSSBAR_BROKEN_TABLE. Changes nothing. */
+uint32_t check(const uint8_t *table, size_t table_bytes);
 
 #ifdef __cplusplus
 }

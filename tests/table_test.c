@@ -138,7 +138,7 @@ static void same(const uint8_t *t, size_t n, const char *what, long where) {
 
 static void test_check(void) {
     static uint8_t table[CROSSBAR_TABLE_BYTES + 1];
-    static const uint32_t sizes[][2] = {{1, 64}, {2, 5}, {3, 64}, {5, 17}, {16, 1}, {16, 33}, {16, 64}};
+    static const uint32_t sizes[][2] = {{1, 64}, {2, 5}, {5, 17}, {16, 64}};
     for (size_t s = 0; s < sizeof sizes / sizeof *sizes; s++) {
         fill(table, sizes[s][0], sizes[s][1]);
         if (!sound(table, CROSSBAR_TABLE_BYTES)) fail("a table made here is not sound", (long)s);
@@ -146,7 +146,7 @@ static void test_check(void) {
         /* Every byte changed to several values, one at a time. */
         for (size_t i = 0; i < CROSSBAR_TABLE_BYTES; i++) {
             uint8_t kept = table[i];
-            uint8_t values[] = {0, 1, 2, 3, 4, 7, 8, 16, 17, 64, 65, 255, (uint8_t)(kept + 1), (uint8_t)(kept - 1), (uint8_t)(kept ^ 128)};
+            uint8_t values[] = {0, 1, 3, 16, 64, 255, (uint8_t)(kept + 1), (uint8_t)(kept - 1)};
             for (size_t v = 0; v < sizeof values; v++) {
                 table[i] = values[v];
                 same(table, CROSSBAR_TABLE_BYTES, "one byte changed", (long)i);

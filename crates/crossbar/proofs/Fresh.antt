@@ -15,7 +15,13 @@ use Rattle.table.specs.Table.{encode, countsBytes, sectionsBytes, sectionBytes,
 use Rattle.cell.specs.declared.Refusal.{Refusal}
 use Rattle.cell.specs.Refusal.{number}
 use Rattle.model.specs.Checks.{Outcome, done, refused}
-use Rattle.table.specs.Host.{filled, startCall, bufferAfter, resultOf}
+use mathlib.Core.Bool.{true, false, false≢true}
+use mathlib.Core.Option.{Option, none, some}
+use Rattle.model.specs.State.{Switch}
+use Rattle.table.specs.Check.{isTable}
+use Rattle.table.specs.Table.{decode}
+use Rattle.table.proofs.Host.{checkCall-table, checkCall-broken}
+use Rattle.table.specs.Host.{checkCall, filled, startCall, bufferAfter, resultOf}
 use Rattle.table.proofs.Number.{length-bytesOf}
 
 zeros : ℕ → List ℕ
@@ -158,3 +164,22 @@ pub start-runs : (ports first : ℕ) (buffer after : List ℕ) → startCall por
     → after ≡ filled (encode (fresh ports first)) buffer → Answers ports first buffer 0 after
 unfolding resultOf bufferAfter
 start-runs ports first buffer after e h = rw e (refl, h)
+
+------------------------------------------------------------------------
+-- what check answers
+
+pub check-passes : (table : List ℕ) → isTable table ≡ true → 0 ≡ checkCall table
+unfolding isTable
+check-passes table h = go (decode table) refl h
+  where
+    go : (o : Option Switch) → decode table ≡ o → isTable table ≡ true → 0 ≡ checkCall table
+    go (some s) e k = sym (checkCall-table table s e)
+    go none e k = absurd (false≢true (sym (rw (e, isTable) refl) ∙ k))
+
+pub check-refuses : (table : List ℕ) (result : ℕ) → isTable table ≡ false → result ≡ 2 → result ≡ checkCall table
+unfolding isTable
+check-refuses table result h r = go (decode table) refl h
+  where
+    go : (o : Option Switch) → decode table ≡ o → isTable table ≡ false → result ≡ checkCall table
+    go (some s) e k = absurd (false≢true (sym k ∙ (rw (e, isTable) refl)))
+    go none e k = r ∙ sym (checkCall-broken table e)

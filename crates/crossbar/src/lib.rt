@@ -9,7 +9,7 @@ ghost use lib.ListN.{length};
 ghost use Rattle.model.specs.State.{fresh};
 ghost use Rattle.table.specs.Table.{encode, tableSize};
 ghost use Rattle.crossbar.specs.Cleared.{cleared};
-ghost use Rattle.table.specs.Host.{startCall, bufferAfter, resultOf, filled};
+ghost use Rattle.table.specs.Host.{checkCall, startCall, bufferAfter, resultOf, filled};
 
 // The bytes of a table.
 pub const TABLE_BYTES: usize = 16416;
@@ -29,6 +29,17 @@ pub extern "C" fn start(ports: u32, first: u32, table: &mut [u8]) -> u32
     }
     write_fresh(Switch::fresh(ports, first), table);
     0
+}
+
+// Whether the bytes are a table: 0, or 2. Nothing is written.
+#[no_mangle]
+pub extern "C" fn check(table: &[u8]) -> u32
+    ensures { λ r. ⌜ r ≡ checkCall (now (table .entry)) ⌝ }
+{
+    if table::check::is_table(table) {
+        return 0;
+    }
+    Refusal::BrokenTable.number()
 }
 
 // The table of a fresh switch: its header, and zeros.

@@ -93,7 +93,10 @@ enter-place c es = go (enters c es)
     go (front n e) = rw (place-front c es n) e
     go (behind pre d post s f n e) =
         let size : length (pre ++ (d ∷ [])) ≡ enterPlace c es =
-        length-append pre (d ∷ []) ∙ add-one (length pre) ∙ sym (place-behind c pre d post f n) ∙ sym (ap (enterPlace c) s) in
+        length-append pre (d ∷ [])
+        ∙ add-one (length pre)
+        ∙ sym (place-behind c pre d post f n)
+        ∙ sym (ap (enterPlace c) s) in
         let split : es ≡ (pre ++ (d ∷ [])) ++ post = s ∙ sym (append-snoc pre d post) in
         e
         ∙ sym (append-snoc pre d (newEntry c ∷ post))
@@ -123,7 +126,8 @@ module _ (bs : List ℕ) (t : IsTable bs) (c : Cell) (within : c .input < portsI
       none?-at (inListOf c) (drop q es) (entryAt bs 0) (λ j b.
       let size : length es ≡ countIn bs (c .input) = section-length bs t (c .input) within in
       let few : q + j < countIn bs (c .input) = omega (arith, length-drop q es) in
-      ap (inListOf c) (getD-drop q es j (entryAt bs 0) ∙ section-entry bs t (c .input) within (q + j) (entryAt bs 0) few)
+      ap (inListOf c)
+      (getD-drop q es j (entryAt bs 0) ∙ section-entry bs t (c .input) within (q + j) (entryAt bs 0) few)
       ∙ h (cellLimit * c .input + (q + j)) (omega arith) (omega arith))
 
   pub place-none : ((j : ℕ) → cellLimit * c .input ≤ j → j < cellLimit * c .input + countIn bs (c .input)
@@ -183,7 +187,8 @@ put-next : (at next : ℕ) (xs ys old cur : List ℕ) → cur ≡ put at xs old 
     → next + length ys ≤ length old → put next ys cur ≡ put at (xs ++ ys) old
 put-next at next xs ys old cur e q room = ap (put next ys) e ∙ put-put at next xs ys old q room
 
-module _ (at : ℕ) (c : Cell) (old : List ℕ) (room : at + 16 ≤ length old) (output : c .output < 256) (flow : c .flow < 256)
+module _ (at : ℕ) (c : Cell) (old : List ℕ) (room : at + 16 ≤ length old)
+    (output : c .output < 256) (flow : c .flow < 256)
   where
     -- the four bytes
     abbrev pub fourBytes : List ℕ
@@ -194,7 +199,8 @@ module _ (at : ℕ) (c : Cell) (old : List ℕ) (room : at + 16 ≤ length old) 
 
     four-bytes : fourBytes ≡ put at (c .output ∷ c .flow ∷ 1 ∷ 0 ∷ []) old
     four-bytes =
-        put-set (at + 3) 0 (set (set (set old at (c .output)) (at + 1) (c .flow)) (at + 2) 1) (simp length-set (omega arith))
+        put-set (at + 3) 0 (set (set (set old at (c .output)) (at + 1) (c .flow)) (at + 2) 1)
+        (simp length-set (omega arith))
         ∙ put-next at (at + 3) (c .output ∷ c .flow ∷ 1 ∷ []) (0 ∷ []) old _
         (put-set (at + 2) 1 (set (set old at (c .output)) (at + 1) (c .flow)) (simp length-set (omega arith))
         ∙ put-next at (at + 2) (c .output ∷ c .flow ∷ []) (1 ∷ []) old _
@@ -288,9 +294,10 @@ module _ (bs : List ℕ) (t : IsTable bs) (c : Cell) (within : c .input < portsI
       omega (arith, length-back, place-below c here, section-length bs t (c .input) within) in
       ap (λ k. set (put (recordStart at) (entryBytes (newEntry c)) (movedUp (recordStart at) (recordStart end) k bs))
       (16 + c .input) (countIn bs (c .input) + 1)) (sym new)
-      ∙ insert-entry (around .before) (around .between) (entriesBytes (take place here)) (entriesBytes (drop place here))
-      (replicate entrySize 0) (zerosAfter here place here-short) (around .after) (entryBytes (newEntry c)) bs (length here)
-      (countIn bs (c .input) + 1) (c .input) (recordStart at) (recordStart end) whole-bytes (around .to-count) to-entry to-end
+      ∙ insert-entry (around .before) (around .between) (entriesBytes (take place here))
+      (entriesBytes (drop place here)) (replicate entrySize 0) (zerosAfter here place here-short) (around .after)
+      (entryBytes (newEntry c)) bs (length here) (countIn bs (c .input) + 1) (c .input) (recordStart at)
+      (recordStart end) whole-bytes (around .to-count) to-entry to-end
       (length-replicate {A = ℕ} entrySize 0 ∙ sym new) (omega arith)
       ∙ sym changed-bytes
 

@@ -38,7 +38,8 @@ use Rattle.table.specs.Entry.{entryAt, portsIn, countIn}
 use Rattle.table.specs.Table.{stateOf}
 use Rattle.fabric.specs.declared.arrival.Fault.{Fault}
 use Rattle.fabric.specs.declared.arrival.Fault.the-variants.{Clear, At}
-use Rattle.fabric.specs.Fault.{IsTable, sectionIn, arrivalAt, coming, faultIn, faultOf, faultAt, turnAfter, outranks}
+use Rattle.fabric.specs.Fault.{IsTable, sectionIn, arrivalAt, coming, faultIn, faultOf, faultAt, turnAfter}
+use Rattle.fabric.specs.Fault.{outranks}
 use Rattle.fabric.proofs.Stored.{ports-below, section-sound, section-length, section-entry}
 use Rattle.fabric.proofs.Stored.{length-coming, coming-at}
 
@@ -220,13 +221,15 @@ module _ (table arrivals : List ℕ) (t : IsTable table) (turn n : ℕ) (l : Loo
     next =
         let inside : n < length (coming table arrivals) = omega (arith, length-coming table arrivals) in
         drop-cons (coming table arrivals) n c inside
-        ∙ ap₂ (λ x k. x ∷ drop k (coming table arrivals)) (coming-at table arrivals n c more ∙ sym here) (sym (add-one n))
+        ∙ ap₂ (λ x k. x ∷ drop k (coming table arrivals))
+        (coming-at table arrivals n c more ∙ sym here) (sym (add-one n))
 
     from : Option Cell → Option Refusal
     from before = fault (portsIn table) (cells (stateOf table)) before c
 
     rest-at : faultIn table arrivals
-        ≡ faultFrom (portsIn table) (cells (stateOf table)) (n + 1) (l .before) (c ∷ drop (n + 1) (coming table arrivals))
+        ≡ faultFrom (portsIn table) (cells (stateOf table)) (n + 1) (l .before)
+        (c ∷ drop (n + 1) (coming table arrivals))
     rest-at = l .rest ∙ ap (faultFrom (portsIn table) (cells (stateOf table)) (n + 1) (l .before)) next
 
     -- it has a fault

@@ -1,5 +1,6 @@
 -- A new entry in a section's bytes.
 --     put-set, put-put, put-parts, length-put       bytes written over others
+--     take-drop-take                                a part of a part
 --     movedUp-none, movedUp-more, put-movedUp       bytes moved up, and others put in where they stood
 --     Around, encode-around                         the bytes of a state around one section and its count
 --     section-old, section-new                      a section with one more entry
@@ -11,14 +12,14 @@ use native.Mathlib.Numerals.{add-one}
 use native.Mathlib.Omega.{arith}
 use lib.ListN.{length, take, drop, set, getD, replicate, length-append, length-drop, take-append-drop}
 use lib.ListN.{replicate-append-replicate}
-use lib.Seq.{take-at, drop-at, take-take, drop-drop, take-add, take-append-le, drop-append-le, length-take-le, set-split}
-use lib.Seq.{set-at}
+use lib.Seq.{take-at, drop-at, take-take, drop-drop, take-add, take-append-le, drop-append-le, length-take-le}
+use lib.Seq.{set-split, set-at}
 use Rattle.laws.specs.Lists.{update}
 use Rattle.cell.specs.Limits.{portLimit, cellLimit}
 use Rattle.model.specs.State.{Entry, Switch}
 use Rattle.table.specs.Number.{bytesOf}
-use Rattle.table.specs.Table.{entrySize, sectionSize, layoutNumber, entryBytes, entriesBytes, sectionBytes, sectionsBytes}
-use Rattle.table.specs.Table.{countsBytes, encode}
+use Rattle.table.specs.Table.{entrySize, sectionSize, layoutNumber, entryBytes, entriesBytes, sectionBytes}
+use Rattle.table.specs.Table.{sectionsBytes, countsBytes, encode}
 use Rattle.table.proofs.Number.{length-bytesOf}
 use Rattle.table.proofs.Table.{length-entriesBytes, length-sectionBytes, length-countsBytes}
 use Rattle.fabric.specs.Arrival.{put, movedUp}
@@ -76,7 +77,8 @@ movedUp-none at size bs =
     let none : _≡_ {A = ℕ} (at - at) 0 = omega arith in
     rw none (sym (take-append-drop (at + size) bs))
 
-take-drop-take : (w at n : ℕ) (l : List ℕ) → at + w ≤ n → take w (drop at (take n l)) ≡ take w (drop at l)
+-- a part of the first n
+pub take-drop-take : (w at n : ℕ) (l : List ℕ) → at + w ≤ n → take w (drop at (take n l)) ≡ take w (drop at l)
 take-drop-take w zero n l h = take-take w n l (omega arith)
 take-drop-take w (suc at) zero l h = absurd (omega arith)
 take-drop-take w (suc at) (suc n) [] h = refl
@@ -222,7 +224,8 @@ pub record Around (s : Switch) (i : ℕ) : Type 0 where
   pub to-count : length before ≡ 16 + i
   pub to-section : length between + (i + 1) ≡ 16 + sectionSize * i
   pub whole : encode s
-      ≡ before ++ (bytesOf 1 (length (getD (s .sections) i [])) ++ (between ++ (sectionBytes (getD (s .sections) i []) ++ after)))
+      ≡ before ++ (bytesOf 1 (length (getD (s .sections) i []))
+      ++ (between ++ (sectionBytes (getD (s .sections) i []) ++ after)))
   pub changed : (f : List Entry → List Entry) → encode (changedAt i f s)
       ≡ before ++ (bytesOf 1 (length (f (getD (s .sections) i [])))
       ++ (between ++ (sectionBytes (f (getD (s .sections) i [])) ++ after)))
@@ -240,7 +243,8 @@ length-header : (s : Switch) → length (header s) ≡ 16
 unfolding header bytesOf
 length-header s = refl
 
-regroup : (h b c a p q r : List ℕ) → h ++ ((b ++ (c ++ a)) ++ (p ++ (q ++ r))) ≡ (h ++ b) ++ (c ++ ((a ++ p) ++ (q ++ r)))
+regroup : (h b c a p q r : List ℕ)
+    → h ++ ((b ++ (c ++ a)) ++ (p ++ (q ++ r))) ≡ (h ++ b) ++ (c ++ ((a ++ p) ++ (q ++ r)))
 regroup h b c a p q r = simp append-assoc
 
 pub encode-around : (s : Switch) (i : ℕ) → i < portLimit → i < length (s .sections)
@@ -329,10 +333,12 @@ insert-entry before between w y old z after new bs n m i from end whole to-count
     let front : List ℕ = before ++ (bytesOf 1 n ++ (between ++ w)) in
     let width : length front ≡ from =
     length-append before (bytesOf 1 n ++ (between ++ w))
-    ∙ ap (λ k. length before + k) (length-append (bytesOf 1 n) (between ++ w) ∙ ap (λ k. 1 + k) (length-append between w))
+    ∙ ap (λ k. length before + k)
+    (length-append (bytesOf 1 n) (between ++ w) ∙ ap (λ k. 1 + k) (length-append between w))
     ∙ to-entry in
     let put-in : put from new (movedUp from end (length new) bs) ≡ front ++ (new ++ (y ++ (z ++ after))) =
-    ap (λ l. put from new (movedUp from end (length new) l)) (whole ∙ insert-groups before (bytesOf 1 n) between w y old z after)
+    ap (λ l. put from new (movedUp from end (length new) l))
+    (whole ∙ insert-groups before (bytesOf 1 n) between w y old z after)
     ∙ put-movedUp from end front y old (z ++ after) new width to-end size in
     let byte : m ≡ m % 256 = omega arith in
     ap (λ l. set l (16 + i) m) (put-in ∙ sym (insert-groups before (bytesOf 1 n) between w new y z after))

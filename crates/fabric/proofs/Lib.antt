@@ -15,6 +15,7 @@ pub mod Output
 pub mod Phases
 pub mod Placed
 pub mod Ports
+pub mod Positions
 pub mod Pulling
 pub mod Put
 pub mod Relocated
@@ -23,9 +24,11 @@ pub mod Rows
 pub mod Rules
 pub mod Scan
 pub mod Sending
+pub mod Settling
 pub mod Staying
 pub mod Step
 pub mod Stored
+pub mod Turn
 pub mod Walk
 pub mod Walked
 pub mod Window

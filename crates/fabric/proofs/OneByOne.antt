@@ -4,6 +4,7 @@
 --     after                             the switch when the first n have come, with the next slot's clock
 --     after-sound, after-table          it is sound, and its bytes are a table
 --     after-first, after-next, after-all    from the table with the raised clock to the end
+--     arrived-sound                     the switch when all have come
 --     after-enters                      the next cell may enter
 --     Slot, Came, slot-begins, -enters, -next, -ends   the same as the code has it
 use Prim.Native.Nat.{ℕ, zero, suc, _+_, _*_, _/_, _≤_, _<_}
@@ -81,7 +82,8 @@ faultFrom-take ports waiting place before (suc n) (c ∷ cs) h =
     go (some r) e rec =
         absurd (Option·some-ne-none (r, place) (sym (faults-first ports waiting place before c cs e) ∙ h))
 
-arrive-append : (cs ds : List Cell) (sections : List (List Entry)) → arrive (cs ++ ds) sections ≡ arrive ds (arrive cs sections)
+arrive-append : (cs ds : List Cell) (sections : List (List Entry))
+    → arrive (cs ++ ds) sections ≡ arrive ds (arrive cs sections)
 unfolding arrive
 arrive-append [] ds sections = refl
 arrive-append (c ∷ cs) ds sections = arrive-append cs ds (update (c .input) (enter c) sections)
@@ -127,7 +129,8 @@ records-fit (suc n) bs b room =
     (records-fit n (drop arrivalSize bs) (bytes?-drop arrivalSize bs b) rest)
 
 clock-raised : (s : Switch) (cs : List Cell)
-    → take 8 (encode s) ++ (bytesOf 4 (s .clock + 1) ++ drop (8 + 4) (encode s)) ≡ encode (arrivedBy (raised s) (take 0 cs))
+    → take 8 (encode s) ++ (bytesOf 4 (s .clock + 1) ++ drop (8 + 4) (encode s))
+    ≡ encode (arrivedBy (raised s) (take 0 cs))
 unfolding encode bytesOf arrivedBy raised arrive
 clock-raised s cs = refl
 
@@ -187,7 +190,8 @@ module _ (table arrivals : List ℕ) (t : IsTable table) (clear : faultIn table 
   unfolding clockIn
   after-first clock first e w =
       w
-      ∙ ap₂ (λ l n. take 8 l ++ (bytesOf 4 (n + 1) ++ drop (8 + 4) l)) (sym (table-encode table t)) (e ∙ sym (table-clock table t))
+      ∙ ap₂ (λ l n. take 8 l ++ (bytesOf 4 (n + 1) ++ drop (8 + 4) l))
+      (sym (table-encode table t)) (e ∙ sym (table-clock table t))
       ∙ clock-raised s cs
 
   -- all have come
@@ -195,6 +199,12 @@ module _ (table arrivals : List ℕ) (t : IsTable table) (clear : faultIn table 
   unfolding arrived arrivedBy raised
   after-all n h =
       ap (λ l. arrivedBy (raised s) l) (take-all n cs (omega (arith, length-coming table arrivals)))
+
+  -- the switch is sound then
+  pub arrived-sound : sound (arrived table arrivals) ≡ true
+  arrived-sound =
+      let all : length arrivals / arrivalSize ≤ length arrivals / arrivalSize = omega arith in
+      ap sound (sym (after-all (length arrivals / arrivalSize) all)) ∙ after-sound (length arrivals / arrivalSize)
 
   admit : Admitted (s .ports) (cells s) cs
   unfolding faultIn coming
@@ -232,7 +242,8 @@ module _ (table arrivals : List ℕ) (t : IsTable table) (clear : faultIn table 
     room-left : length (getD (arrive (take n cs) (s .sections)) (c .input) []) < cellLimit
     unfolding cells
     room-left =
-        go (arrive-at (take n cs) (s .sections) (λ d m. inputs d (earlier m)) (pairwise-append-l rises (take n cs) (drop n cs) turns) (c .input))
+        go (arrive-at (take n cs) (s .sections) (λ d m. inputs d (earlier m))
+        (pairwise-append-l rises (take n cs) (drop n cs) turns) (c .input))
       where
         rises : Cell → Cell → Bool
         rises x y = ltb (x .input) (y .input)
@@ -250,7 +261,8 @@ module _ (table arrivals : List ℕ) (t : IsTable table) (clear : faultIn table 
             → length (getD (arrive (take n cs) (s .sections)) (c .input) []) < cellLimit
         go (kept q) =
             rw q
-            (arrival-room (s .ports) (s .clock) (s .sections) (sound-e s (table-sound table t) .sections) c (admit .rooms c among))
+            (arrival-room (s .ports) (s .clock) (s .sections) (sound-e s (table-sound table t) .sections) c
+            (admit .rooms c among))
         go (one-came d m q r) =
             absurd (omega (
               arith,
@@ -266,7 +278,8 @@ module _ (table arrivals : List ℕ) (t : IsTable table) (clear : faultIn table 
       where
         Ready : List ℕ → Type 0
         Ready l =
-            IsTable l × (((c .input < portsIn l) × (countIn l (c .input) < cellLimit)) × ((c .output < 256) × (c .flow < 256)))
+            IsTable l × (((c .input < portsIn l) × (countIn l (c .input) < cellLimit))
+            × ((c .output < 256) × (c .flow < 256)))
 
         here-table : decode (encode (after n)) ≡ some (after n)
         here-table = decode-encode (after n) (after-sound n)
@@ -279,7 +292,8 @@ module _ (table arrivals : List ℕ) (t : IsTable table) (clear : faultIn table 
 
         room-now : countIn (encode (after n)) (c .input) < cellLimit
         room-now =
-            rw (decode-count (encode (after n)) (after n) here-table (c .input) (omega (arith, ports, admit .inputs c among)))
+            rw (decode-count (encode (after n)) (after n) here-table (c .input)
+            (omega (arith, ports, admit .inputs c among)))
             room-left
 
         few-outputs : c .output < 256
@@ -309,14 +323,16 @@ module _ (table arrivals : List ℕ) (clock : ℕ) (first : List ℕ) (g : Slot 
   unfolding arrivedBy arriving coming arrive clockIn
   so-far n =
       let state : stateOf first ≡ after table arrivals (g .isTable) (g .clear) (g .early) (g .bytes) 0 =
-      ap stateOf (after-first table arrivals (g .isTable) (g .clear) (g .early) (g .bytes) clock first (g .clock-read) (g .clock-raised))
+      ap stateOf (after-first table arrivals (g .isTable) (g .clear) (g .early) (g .bytes) clock first
+      (g .clock-read) (g .clock-raised))
       ∙ after-state table arrivals (g .isTable) (g .clear) (g .early) (g .bytes) 0 in
       ap₂ (λ s k. arrivedBy s (take n (map (accepted k) (arrivalsOf (length arrivals / arrivalSize) arrivals)))) state
       (g .clock-read ∙ sym (table-clock table (g .isTable)))
 
   pub slot-begins : Came first arrivals clock 0 first
   slot-begins =
-      after-first table arrivals (g .isTable) (g .clear) (g .early) (g .bytes) clock first (g .clock-read) (g .clock-raised)
+      after-first table arrivals (g .isTable) (g .clear) (g .early) (g .bytes) clock first
+      (g .clock-read) (g .clock-raised)
       ∙ ap encode (sym (so-far 0))
 
   pub slot-ends : (n : ℕ) (cur : List ℕ) → Came first arrivals clock n cur → length arrivals / arrivalSize ≤ n

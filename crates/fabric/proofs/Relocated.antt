@@ -21,7 +21,7 @@ module _ {A B C : Type 0} (f : B → C) (g : A → C) (h : A → B) where
   map-through (x ∷ l) e = ap₂ _∷_ (e x (List·Memᴰ·head refl)) (map-through l (λ y m. e y (List·Memᴰ·tail m)))
 
 module _ {A B C : Type 0} (f : B → C) (g : A → List C) (h : A → List B) where
-  flatten-through : (l : List A) → ((x : A) → List·Memᴰ x l → g x ≡ map f (h x))
+  pub flatten-through : (l : List A) → ((x : A) → List·Memᴰ x l → g x ≡ map f (h x))
       → flatten (map g l) ≡ map f (flatten (map h l))
   unfolding flatten
   flatten-through [] e = refl

@@ -1,35 +1,50 @@
 -- What the bytes of a table and of a slot's arrivals hold.
---     table-sound, -encode, -length, -ports, -clock    what it is to be a table
+--     is-table, table-sound, -encode, -length, -ports, -clock    what it is to be a table
 --     section-length, section-entry                    a section, its entries by their numbers
 --     listed-byte                                      the byte of a place in a list
 --     arrivalAt-cell, length-coming, coming-at, coming-read    the records of a slot
 use Prim.Native.Nat.{ℕ, zero, suc, _+_, _*_, _/_, _≤_, _<_}
-use mathlib.Core.Bool.{Bool, true, false}
+use mathlib.Core.Bool.{Bool, true, false, false≢true}
 use mathlib.Core.Path.{_≡_, refl, sym, _∙_, ap}
-use mathlib.Core.List.{List, [], _∷_, map}
+use mathlib.Core.List.{List, map}
+use mathlib.Core.Option.{Option, none, some}
 use native.Mathlib.Omega.{arith}
 use lib.Dec.{eqb}
 use lib.ListN.{length, take, drop, getD, length-map}
-use lib.Seq.{take-take, drop-drop}
+use lib.Seq.{drop-drop}
 use Rattle.cell.specs.declared.Arrival.{Arrival}
 use Rattle.cell.specs.declared.Cell.{Cell}
 use Rattle.cell.specs.Cell.{accepted}
 use Rattle.cell.specs.Limits.{cellLimit, portLimit}
-use Rattle.model.specs.State.{listed, crossed, buffered, Entry, isListed}
+use Rattle.model.specs.State.{listed, crossed, buffered, Entry, Switch, isListed}
 use Rattle.model.specs.Sound.{sound}
 use Rattle.model.proofs.SoundLaws.{SoundSection, sound-e, sections-e}
 use Rattle.table.specs.Arrivals.{arrivalSize, arrivalOf, arrivalsOf}
+use Rattle.table.specs.Check.{isTable}
 use Rattle.table.specs.Entry.{entryAt, portsIn, clockIn, countIn}
 use Rattle.table.specs.Number.{numberOf, numberAt, word}
-use Rattle.table.specs.Table.{placeOf, stateOf, encode, tableSize}
+use Rattle.table.specs.Table.{placeOf, stateOf, encode, decode, tableSize}
 use Rattle.table.proofs.Arrivals.{length-arrivalsOf}
 use Rattle.table.proofs.Records.{stateOf-entry}
-use Rattle.table.proofs.Table.{decode-sound, encode-decode, decode-length, sound-ports, sound-length}
+use Rattle.table.proofs.Table.{decode-sound, encode-decode, decode-length, stateOf-encode, sound-ports, sound-length}
 use Rattle.fabric.specs.Fault.{IsTable, sectionIn, arrivalAt, coming}
+use Rattle.fabric.proofs.Insert.{take-drop-take}
 use Rattle.fabric.proofs.Placed.{decode-count, decode-count-few}
 
 ------------------------------------------------------------------------
 -- a table
+
+-- as the check of a table says it
+pub is-table : (bs : List ℕ) → isTable bs ≡ true → IsTable bs
+unfolding isTable
+is-table bs h = go (decode bs) refl h
+  where
+    go : (o : Option Switch) → decode bs ≡ o → elim o [ some s ↦ true | none ↦ false ] ≡ true → IsTable bs
+    go none e h = absurd (false≢true h)
+    go (some s) e h =
+        let state : stateOf bs ≡ s =
+        ap stateOf (sym (encode-decode bs s e)) ∙ stateOf-encode s (decode-sound bs s e) in
+        e ∙ ap some (sym state)
 
 module _ (bs : List ℕ) (t : IsTable bs) where
   pub table-sound : sound (stateOf bs) ≡ true
@@ -71,7 +86,8 @@ module _ (bs : List ℕ) (t : IsTable bs) where
         decode-count-few bs (stateOf bs) t i (omega arith)
 
     -- and its entry j is the table's entry 64 i + j
-    pub section-entry : (j : ℕ) (d : Entry) → j < countIn bs i → getD (sectionIn bs i) j d ≡ entryAt bs (cellLimit * i + j)
+    pub section-entry : (j : ℕ) (d : Entry) → j < countIn bs i
+        → getD (sectionIn bs i) j d ≡ entryAt bs (cellLimit * i + j)
     unfolding portsIn
     section-entry j d h =
         let few : word bs 4 ≤ portLimit = ports-below in
@@ -92,12 +108,6 @@ listed-byte b = go (eqb b 1) (eqb b 2)
 ------------------------------------------------------------------------
 -- the records of a slot
 
-take-drop-take : (w at n : ℕ) (l : List ℕ) → at + w ≤ n → take w (drop at (take n l)) ≡ take w (drop at l)
-take-drop-take w zero n l h = take-take w n l (omega arith)
-take-drop-take w (suc at) zero l h = absurd (omega arith)
-take-drop-take w (suc at) (suc n) [] h = refl
-take-drop-take w (suc at) (suc n) (x ∷ l) h = take-drop-take w at n l (omega arith)
-
 -- a number of a part
 numberAt-part : (w at n from : ℕ) (bs : List ℕ) → at + w ≤ n
     → numberAt w at (take n (drop from bs)) ≡ numberAt w (from + at) bs
@@ -106,7 +116,8 @@ numberAt-part w at n from bs h =
     ap numberOf (take-drop-take w at n (drop from bs) h ∙ ap (take w) (drop-drop at from bs))
 
 module _ (bs : List ℕ) (k : ℕ) where
-  arrivalAt-word : (at : ℕ) → at + 4 ≤ 20 → word bs (20 * k + at) ≡ word (take arrivalSize (drop (arrivalSize * k) bs)) at
+  arrivalAt-word : (at : ℕ) → at + 4 ≤ 20
+      → word bs (20 * k + at) ≡ word (take arrivalSize (drop (arrivalSize * k) bs)) at
   unfolding word
   arrivalAt-word at h = sym (numberAt-part 4 at 20 (20 * k) bs h)
 
@@ -134,7 +145,8 @@ arrivalsOf-at f (suc n) bs zero d h = refl
 arrivalsOf-at f (suc n) bs (suc k) d h =
     let next : 20 + 20 * k ≡ 20 * suc k = omega arith in
     arrivalsOf-at f n (drop arrivalSize bs) k d (omega arith)
-    ∙ ap (λ l. f (arrivalOf (take arrivalSize l))) (drop-drop (arrivalSize * k) arrivalSize bs ∙ ap (λ m. drop m bs) next)
+    ∙ ap (λ l. f (arrivalOf (take arrivalSize l)))
+    (drop-drop (arrivalSize * k) arrivalSize bs ∙ ap (λ m. drop m bs) next)
 
 pub length-coming : (table arrivals : List ℕ) → length (coming table arrivals) ≡ length arrivals / arrivalSize
 unfolding coming

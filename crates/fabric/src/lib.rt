@@ -4,3 +4,4 @@ pub mod choosing;
 pub mod departure;
 pub mod loading;
 pub mod moving;
+pub mod phase;

@@ -69,7 +69,8 @@ isTable-state : (bs : List ℕ) → isTable bs ≡ true → decode bs ≡ some (
 unfolding isTable
 isTable-state bs h = go (decode bs) refl h
   where
-    go : (o : Option Switch) → decode bs ≡ o → elim o [ some s ↦ true | none ↦ false ] ≡ true → decode bs ≡ some (stateOf bs)
+    go : (o : Option Switch) → decode bs ≡ o → elim o [ some s ↦ true | none ↦ false ] ≡ true
+        → decode bs ≡ some (stateOf bs)
     go none e h = absurd (false≢true h)
     go (some s) e h = e ∙ ap some (sym (decode-state bs s e))
 
@@ -129,7 +130,8 @@ module _ (bs : List ℕ) (h : bytes? bs ≡ true) (t : Table bs) where
   encode-at : encode (stateOf bs) ≡ bs
   unfolding encode stateOf
   encode-at =
-      let tail : countsBytes portLimit (stateOf bs .sections) ++ sectionsBytes portLimit (stateOf bs .sections) ≡ drop 16 bs =
+      let sections = stateOf bs .sections in
+      let tail : countsBytes portLimit sections ++ sectionsBytes portLimit sections ≡ drop 16 bs =
       ap₂ _++_ counts-at (bytes-at ∙ sym (drop-drop 16 16 bs)) ∙ take-append-drop portLimit (drop 16 bs) in
       word-at layoutNumber 0 _ (sym (t .layout)) (lit≤ tt)
       (word-at (word bs 4) 4 _ refl (lit≤ tt)
@@ -169,8 +171,8 @@ module _ (bs : List ℕ) (good : sound (stateOf bs) ≡ true) (same : encode (st
   unfolding upTo
   section-of i port =
       isSection-i (word bs 4) (word bs 8) bs size-of i port
-      (rows-e (word bs 4) (word bs 8) bs size-of portLimit 0 (word bs 4) refl (omega arith) counts-of bytes-of sounds-of i
-      (omega arith) port)
+      (rows-e (word bs 4) (word bs 8) bs size-of portLimit 0 (word bs 4) refl (omega arith) counts-of bytes-of sounds-of
+      i (omega arith) port)
 
   ports-of : portsInRange (word bs 4) ≡ true
   unfolding sound stateOf

@@ -45,7 +45,8 @@ pub placeOf-listed : (b : ℕ) → isListed (placeOf b) ≡ eqb b 1
 unfolding placeOf isListed
 placeOf-listed b = go (eqb b 1) (eqb b 2)
   where
-    go : (one two : Bool) → isListed (elim one [ true ↦ listed | false ↦ elim two [ true ↦ crossed | false ↦ buffered ] ]) ≡ one
+    go : (one two : Bool)
+        → isListed (elim one [ true ↦ listed | false ↦ elim two [ true ↦ crossed | false ↦ buffered ] ]) ≡ one
     go true two = refl
     go false true = refl
     go false false = refl
@@ -154,9 +155,10 @@ module _ (ports clock : ℕ) (bs : List ℕ) (h : bytes? bs ≡ true) (size : le
     unfolding isEntry soundEntry
     isEntry-e t =
         let e = entryAt bs k in
-        let bytes : sameBytes (entryBytes e) (recordAt bs k) ≡ true = and-l (sameBytes (entryBytes e) (recordAt bs k)) (soundEntry ports clock (k / cellLimit) e) t in
-        let good : soundEntry ports clock (k / cellLimit) e ≡ true = and-r (sameBytes (entryBytes e) (recordAt bs k)) _ t in
-        let exact : entryBytes e ≡ recordAt bs k = sameBytes-exact (entryBytes e) (recordAt bs k) bytes in
+        let bytes : Bool = sameBytes (entryBytes e) (recordAt bs k) in
+        let good : soundEntry ports clock (k / cellLimit) e ≡ true = and-r bytes _ t in
+        let exact : entryBytes e ≡ recordAt bs k =
+        sameBytes-exact (entryBytes e) (recordAt bs k) (and-l bytes (soundEntry ports clock (k / cellLimit) e) t) in
         let output : ltb (e .cell .output) ports ≡ true = search (and-l, and-r) in
         let flow : ltb (e .cell .flow) flowLimit ≡ true = search (and-l, and-r) in
         let slot : ltb (e .cell .slot) clock ≡ true = search (and-l, and-r) depth 7 in
@@ -193,7 +195,8 @@ entries-inRange ports clock bs from to few h =
 -- an unused record
 
 module _ (bs : List ℕ) (h : bytes? bs ≡ true) (size : length bs ≡ tableSize) (k : ℕ) (within : k < 1024) where
-  recordAt-halves : recordAt bs k ≡ bytesOf 8 (numberAt 8 (recordStart k) bs) ++ bytesOf 8 (numberAt 8 (recordStart k + 8) bs)
+  recordAt-halves : recordAt bs k
+      ≡ bytesOf 8 (numberAt 8 (recordStart k) bs) ++ bytesOf 8 (numberAt 8 (recordStart k + 8) bs)
   recordAt-halves =
       let r = recordAt bs k in
       let bytes = recordAt-bytes bs h size k within in
@@ -210,7 +213,8 @@ module _ (bs : List ℕ) (h : bytes? bs ≡ true) (size : length bs ≡ tableSiz
       ap (sameBytes (replicate entrySize 0)) (recordAt-halves ∙ ap₂ (λ m n. bytesOf 8 m ++ bytesOf 8 n) low high)
       ∙ sameBytes-refl (replicate entrySize 0)
 
-  unused-number : isUnused bs k ≡ true → (at : ℕ) → at + 8 ≤ entrySize → numberAt 8 (recordStart k + at) bs ≡ numberAt 8 at (replicate entrySize 0)
+  unused-number : isUnused bs k ≡ true → (at : ℕ) → at + 8 ≤ entrySize
+      → numberAt 8 (recordStart k + at) bs ≡ numberAt 8 at (replicate entrySize 0)
   unfolding isUnused
   unused-number e at room = sym (recordAt-number bs k 8 at room) ∙ ap (numberAt 8 at) (sym (sameBytes-exact _ _ e))
 

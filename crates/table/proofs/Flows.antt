@@ -29,18 +29,22 @@ use Rattle.table.proofs.Seen.{Seen, seen-none, seen-mark, entriesBetwee
 ------------------------------------------------------------------------
 -- together
 
-together-tail : (e : Entry) (l : List Entry) → together (e ∷ l) ≡ true → together l ≡ true
-unfolding together
-together-tail e [] h = refl
-together-tail e (f ∷ l) h = and-r (sameFlow (e .cell) (f .cell) && over (e .cell) (f .cell) || none? (λ g. sameFlow (e .cell) (g .cell)) (f ∷ l)) (together (f ∷ l)) h
-
-together-append-r : (l m : List Entry) → together (l ++ m) ≡ true → together m ≡ true
-together-append-r [] m h = h
-together-append-r (e ∷ l) m h = together-append-r l m (together-tail e (l ++ m) h)
+abbrev inList : Entry → Bool
+inList e = isListed (e .place)
 
 -- of the same flow
 abbrev ofFlow : Entry → Entry → Bool
 ofFlow e g = sameFlow (e .cell) (g .cell)
+
+together-tail : (e : Entry) (l : List Entry) → together (e ∷ l) ≡ true → together l ≡ true
+unfolding together
+together-tail e [] h = refl
+together-tail e (f ∷ l) h =
+    and-r (ofFlow e f && over (e .cell) (f .cell) || none? (ofFlow e) (f ∷ l)) (together (f ∷ l)) h
+
+together-append-r : (l m : List Entry) → together (l ++ m) ≡ true → together m ≡ true
+together-append-r [] m h = h
+together-append-r (e ∷ l) m h = together-append-r l m (together-tail e (l ++ m) h)
 
 -- an entry before the first of a list, f
 module _ (e f : Entry) where
@@ -63,17 +67,25 @@ module _ (e f : Entry) where
       go false t h = inl t
       go true t h = inr (not-false-e follows h)
 
-  fits-at : (l : List Entry) → standsApart (some? (ofFlow e) (f ∷ l)) e f ≡ false → together (f ∷ l) ≡ true → together (e ∷ f ∷ l) ≡ true
-  fits-at l h good = together-cons l ∙ and-i (follows || none? (ofFlow e) (f ∷ l)) (together (f ∷ l)) (go (apart-false _ h)) good
+  fits-at : (l : List Entry) → standsApart (some? (ofFlow e) (f ∷ l)) e f ≡ false → together (f ∷ l) ≡ true
+      → together (e ∷ f ∷ l) ≡ true
+  fits-at l h good =
+      together-cons l
+      ∙ and-i (follows || none? (ofFlow e) (f ∷ l)) (together (f ∷ l)) (go (apart-false _ h)) good
     where
       go : (some? (ofFlow e) (f ∷ l) ≡ false) ⊎ (follows ≡ true) → (follows || none? (ofFlow e) (f ∷ l)) ≡ true
       go (inl t) = or-r follows (none? (ofFlow e) (f ∷ l)) (none?-by-some? (ofFlow e) (f ∷ l) t)
       go (inr t) = or-l follows (none? (ofFlow e) (f ∷ l)) t
 
   breaks-at : (l : List Entry) → standsApart (some? (ofFlow e) (f ∷ l)) e f ≡ true → together (e ∷ f ∷ l) ≡ false
-  breaks-at l h = by-fail _ (λ t. go (apart-e _ h) (or-cases follows (none? (ofFlow e) (f ∷ l)) (and-l (follows || none? (ofFlow e) (f ∷ l)) (together (f ∷ l)) (sym (together-cons l) ∙ t))))
+  breaks-at l h =
+      by-fail _
+      (λ t.
+      let first = and-l (follows || none? (ofFlow e) (f ∷ l)) (together (f ∷ l)) (sym (together-cons l) ∙ t) in
+      go (apart-e _ h) (or-cases follows (none? (ofFlow e) (f ∷ l)) first))
     where
-      go : (some? (ofFlow e) (f ∷ l) ≡ true) × (follows ≡ false) → (follows ≡ true) ⊎ (none? (ofFlow e) (f ∷ l) ≡ true) → ⊥
+      go : (some? (ofFlow e) (f ∷ l) ≡ true) × (follows ≡ false)
+          → (follows ≡ true) ⊎ (none? (ofFlow e) (f ∷ l) ≡ true) → ⊥
       go (some, no-follow) (inl t) = clash t no-follow
       go (some, no-follow) (inr t) = some?-clash (ofFlow e) (f ∷ l) some t
 
@@ -88,7 +100,9 @@ module _ (e f : Entry) (l : List Entry) (begins : Begins f l) where
     where
       go : Begins f l → together (e ∷ l) ≡ true
       go (inl none) = ap (λ l. together (e ∷ l)) none
-      go (inr (rest, is)) = ap (λ l. together (e ∷ l)) is ∙ fits-at e f rest (ap (λ l. standsApart (some? (ofFlow e) l) e f) (sym is) ∙ h) (ap together (sym is) ∙ good)
+      go (inr (rest, is)) =
+          let fits = ap (λ l. standsApart (some? (ofFlow e) l) e f) (sym is) ∙ h in
+          ap (λ l. together (e ∷ l)) is ∙ fits-at e f rest fits (ap together (sym is) ∙ good)
 
   together-breaks : standsApart (some? (ofFlow e) l) e f ≡ true → together (e ∷ l) ≡ false
   unfolding Begins some? standsApart
@@ -96,7 +110,9 @@ module _ (e f : Entry) (l : List Entry) (begins : Begins f l) where
     where
       go : Begins f l → together (e ∷ l) ≡ false
       go (inl none) = absurd (clash h (ap (λ l. standsApart (some? (ofFlow e) l) e f) none))
-      go (inr (rest, is)) = ap (λ l. together (e ∷ l)) is ∙ breaks-at e f rest (ap (λ l. standsApart (some? (ofFlow e) l) e f) (sym is) ∙ h)
+      go (inr (rest, is)) =
+          let breaks = ap (λ l. standsApart (some? (ofFlow e) l) e f) (sym is) ∙ h in
+          ap (λ l. together (e ∷ l)) is ∙ breaks-at e f rest breaks
 
 ------------------------------------------------------------------------
 -- the flows of an input by number
@@ -110,7 +126,9 @@ flow-number : (e g : Entry) → inRange e ≡ true → inRange g ≡ true → e 
 unfolding flowIs flowNumber
 flow-number e g he hg input =
     same (sameFlow (e .cell) (g .cell)) (eqb (flowNumber e) (flowNumber g))
-    (λ t. let f = flow-e (e .cell) (g .cell) t in eq-eqb (flowNumber e) (flowNumber g) (omega (arith, f .output, f .flow)))
+    (λ t.
+    let f = flow-e (e .cell) (g .cell) t in
+    eq-eqb (flowNumber e) (flowNumber g) (omega (arith, f .output, f .flow)))
     (λ t.
     let be = inRange-e e he in
     let bg = inRange-e g hg in
@@ -124,7 +142,8 @@ pub section-good : (bs : List ℕ) (from to : ℕ) → _≡_ {A = ℕ} (from % 6
 section-good bs from to start end ranges g m =
     let ofInput : Entry → Bool = λ e. eqb (e .cell .input) (from / 64) in
     let inputs : all? ofInput (entriesBetween bs from to) ≡ true =
-    all?-entriesBetween ofInput bs from to ∙ all?-i (λ k. ofInput (entryAt bs k)) (between from to) (λ k i. at k (between-mem from to i)) in
+    all?-entriesBetween ofInput bs from to
+    ∙ all?-i (λ k. ofInput (entryAt bs k)) (between from to) (λ k i. at k (between-mem from to i)) in
     (all?-e inRange ranges m, eqb-true (g .cell .input) (from / 64) (all?-e ofInput inputs m))
   where
     at : (k : ℕ) → (from ≤ k) × (k < to) → eqb (entryAt bs k .cell .input) (from / 64) ≡ true
@@ -135,7 +154,7 @@ section-good bs from to start end ranges g m =
 
 -- the listed entries from k on
 pub listedFrom : List ℕ → ℕ → ℕ → List Entry
-listedFrom bs k to = keep (λ e. isListed (e .place)) (entriesBetween bs k to)
+listedFrom bs k to = keep inList (entriesBetween bs k to)
 
 -- they stand together, their flows are marked, and next is the first of them
 pub record Flows (bs : List ℕ) (from to k : ℕ) (seen : List Bool) (next : ℕ) : Type 0 where
@@ -149,7 +168,7 @@ pub record Flows (bs : List ℕ) (from to k : ℕ) (seen : List Bool) (next : �
 pub flows-start : (bs : List ℕ) (from to : ℕ) → from ≤ to → Flows bs from to to (replicate 128 false) 0
 unfolding listedFrom keep together Begins
 flows-start bs from to h =
-    let none : listedFrom bs to to ≡ [] = ap (keep (λ e. isListed (e .place))) (entriesBetween-nil bs to to (le-refl to)) in
+    let none : listedFrom bs to to ≡ [] = ap (keep inList) (entriesBetween-nil bs to to (le-refl to)) in
     record {
       low = h;
       high = le-refl to;
@@ -160,7 +179,7 @@ flows-start bs from to h =
     }
 
 module _ (bs : List ℕ) (from to k : ℕ) (seen : List Bool) (next : ℕ) (w : Flows bs from to k seen next) where
-  pub flows-end : k ≤ from → true ≡ together (keep (λ e. isListed (e .place)) (entriesBetween bs from to))
+  pub flows-end : k ≤ from → true ≡ together (keep inList (entriesBetween bs from to))
   unfolding listedFrom
   flows-end h =
       let end : k ≡ from = omega (arith, w .low) in
@@ -177,7 +196,7 @@ module _ (bs : List ℕ) (from to k : ℕ) (seen : List Bool) (next : ℕ) (w : 
     unfolding listedFrom
     flows-pass h =
         let same : listedFrom bs k to ≡ listedFrom bs (k - 1) to =
-        sym (ap (keep (λ e. isListed (e .place))) back ∙ keep-fail (λ e. isListed (e .place)) this (entriesBetween bs k to) h) in
+        sym (ap (keep inList) back ∙ keep-fail inList this (entriesBetween bs k to) h) in
         record {
           low = omega arith;
           high = omega (arith, w .high);
@@ -189,7 +208,8 @@ module _ (bs : List ℕ) (from to k : ℕ) (seen : List Bool) (next : ℕ) (w : 
 
     -- an entry in the list, and those of its input from it on
     module _ (listed : isListed (this .place) ≡ true)
-        (good : (g : Entry) → List·Memᴰ g (entriesBetween bs from to) → (inRange g ≡ true) × (g .cell .input ≡ from / 64))
+        (good : (g : Entry) → List·Memᴰ g (entriesBetween bs from to)
+        → (inRange g ≡ true) × (g .cell .input ≡ from / 64))
         (n : ℕ) (number : n ≡ flowNumber this) (few : n < 128) where
       in-section : List·Memᴰ this (entriesBetween bs from to)
       in-section =
@@ -199,7 +219,7 @@ module _ (bs : List ℕ) (from to k : ℕ) (seen : List Bool) (next : ℕ) (w : 
 
       cons : listedFrom bs (k - 1) to ≡ this ∷ listedFrom bs k to
       unfolding listedFrom
-      cons = ap (keep (λ e. isListed (e .place))) back ∙ keep-pass (λ e. isListed (e .place)) this (entriesBetween bs k to) listed
+      cons = ap (keep inList) back ∙ keep-pass inList this (entriesBetween bs k to) listed
 
       -- the mark says whether a later one is of its flow
       marked : getD seen n false ≡ some? (ofFlow this) (listedFrom bs k to)
@@ -211,7 +231,8 @@ module _ (bs : List ℕ) (from to k : ℕ) (seen : List Bool) (next : ℕ) (w : 
           (λ g m.
           let whole = entriesBetween-split bs from k to (w .low) (w .high) in
           let inside : List·Memᴰ g (entriesBetween bs from to) =
-          subst (List·Memᴰ g) (sym whole) (Memᴰ·append-right (entriesBetween bs from k) (mem-keep-in (λ e. isListed (e .place)) (entriesBetween bs k to) m)) in
+          subst (List·Memᴰ g) (sym whole)
+          (Memᴰ·append-right (entriesBetween bs from k) (mem-keep-in inList (entriesBetween bs k to) m)) in
           sym
           (flow-number this g (good this in-section .0) (good g inside .0)
           (good this in-section .1 ∙ sym (good g inside .1))))
@@ -221,28 +242,31 @@ module _ (bs : List ℕ) (from to k : ℕ) (seen : List Bool) (next : ℕ) (w : 
       unfolding Begins flowIs
       flows-mark room h =
           let fits = ap (λ b. standsApart b this (entryAt bs next)) (sym marked) ∙ h in
-          let marks = seen-mark flowIs 128 seen this (listedFrom bs k to) (w .marks) n few (λ m. ap (eqb m) (sym number)) in
+          let others = listedFrom bs k to in
+          let marks = seen-mark flowIs 128 seen this others (w .marks) n few (λ m. ap (eqb m) (sym number)) in
           record {
             low = omega arith;
             high = omega (arith, w .high);
             within = omega (arith, w .high);
-            stand = ap together cons ∙ together-fits this (entryAt bs next) (listedFrom bs k to) (w .begins) fits (w .stand);
+            stand = ap together cons ∙ together-fits this (entryAt bs next) others (w .begins) fits (w .stand);
             marks = subst (Seen flowIs 128 (set seen n true)) (sym cons) marks;
             begins = inr (listedFrom bs k to, cons);
           }
 
       pub flows-stop : standsApart (getD seen n false) this (entryAt bs next) ≡ true
-          → false ≡ together (keep (λ e. isListed (e .place)) (entriesBetween bs from to))
+          → false ≡ together (keep inList (entriesBetween bs from to))
       unfolding listedFrom
       flows-stop h =
           let breaks = ap (λ b. standsApart b this (entryAt bs next)) (sym marked) ∙ h in
-          let broken = ap together cons ∙ together-breaks this (entryAt bs next) (listedFrom bs k to) (w .begins) breaks in
+          let others = listedFrom bs k to in
+          let broken = ap together cons ∙ together-breaks this (entryAt bs next) others (w .begins) breaks in
           sym (by-fail _ (λ all. clash (later all) broken))
         where
-          later : together (keep (λ e. isListed (e .place)) (entriesBetween bs from to)) ≡ true
+          later : together (keep inList (entriesBetween bs from to)) ≡ true
               → together (listedFrom bs (k - 1) to) ≡ true
           later all =
               let front = entriesBetween bs from (k - 1) in
               let whole = entriesBetween-split bs from (k - 1) to (omega arith) (omega (arith, w .high)) in
-              let parts = ap (keep (λ e. isListed (e .place))) whole ∙ keep-append (λ e. isListed (e .place)) front (entriesBetween bs (k - 1) to) in
-              together-append-r (keep (λ e. isListed (e .place)) front) (listedFrom bs (k - 1) to) (ap together (sym parts) ∙ all)
+              let rest = entriesBetween bs (k - 1) to in
+              let parts = ap (keep inList) whole ∙ keep-append inList front rest in
+              together-append-r (keep inList front) (keep inList rest) (ap together (sym parts) ∙ all)

@@ -1,5 +1,6 @@
 pub mod Accepted
 pub mod Answer
+pub mod Apart
 pub mod Arrivals
 pub mod Fields
 pub mod Flows

@@ -91,7 +91,8 @@ module _ (bs : List ℕ) where
       ap₂ _++_ (sameBytes-exact (f k) (recordAt bs k) here) (joined-i f (k + 1) n later) ∙ sym (recordsAt-suc k n)
 
   joined-e : (f : ℕ → List ℕ) (k n : ℕ) → ((j : ℕ) → length (f j) ≡ entrySize) → recordStart (k + n) ≤ length bs
-      → joined f (numbersFrom k n) ≡ recordsAt k n → all? (λ k. sameBytes (f k) (recordAt bs k)) (numbersFrom k n) ≡ true
+      → joined f (numbersFrom k n) ≡ recordsAt k n
+      → all? (λ k. sameBytes (f k) (recordAt bs k)) (numbersFrom k n) ≡ true
   unfolding joined numbersFrom all?
   joined-e f k zero size room e = refl
   joined-e f k (suc n) size room e =
@@ -154,9 +155,11 @@ module _ (bs : List ℕ) where
     unused : last - end ≡ cellLimit - countIn bs i
     unused = omega arith
 
-    sectionBytes-at : sectionBytes (sectionAt bs i) ≡ joined entryOf-at (between first end) ++ joined zeros (between end last)
+    sectionBytes-at : sectionBytes (sectionAt bs i)
+        ≡ joined entryOf-at (between first end) ++ joined zeros (between end last)
     unfolding sectionAt entriesBetween between
-    sectionBytes-at = rw (used, unused) (sectionBytes-joined first (countIn bs i) (cellLimit - countIn bs i) (omega arith))
+    sectionBytes-at =
+        rw (used, unused) (sectionBytes-joined first (countIn bs i) (cellLimit - countIn bs i) (omega arith))
 
     records-split : recordsAt first cellLimit ≡ recordsAt first (end - first) ++ recordsAt end (last - end)
     records-split =
@@ -252,7 +255,8 @@ module _ (ports clock : ℕ) (bs : List ℕ) (size : length bs ≡ tableSize) (i
   input-at k few m = let b = between-mem here next m in omega arith
 
   -- an entry is one of a table exactly if its bytes are its record and it is sound
-  entries-i : countIn bs i ≤ cellLimit → all? (λ k. sameBytes (entryOf-at bs k) (recordAt bs k)) (between here next) ≡ true
+  entries-i : countIn bs i ≤ cellLimit
+      → all? (λ k. sameBytes (entryOf-at bs k) (recordAt bs k)) (between here next) ≡ true
       → all? soundAt (between here next) ≡ true → all? (isEntry ports clock bs) (between here next) ≡ true
   unfolding isEntry
   entries-i few exact sounds =
@@ -325,11 +329,13 @@ module _ (ports clock : ℕ) (bs : List ℕ) (size : length bs ≡ tableSize) wh
       ap (take (suc n)) (drop-cons bs (16 + i) 0 within) ∙ ap (λ k. getD bs (16 + i) 0 ∷ take n (drop k bs)) next
 
   -- the records of an input, and those behind it
-  section-cons : (i : ℕ) → recordsAt bs (firstRecord i) cellLimit ++ drop (sectionStart (i + 1)) bs ≡ drop (sectionStart i) bs
+  section-cons : (i : ℕ)
+      → recordsAt bs (firstRecord i) cellLimit ++ drop (sectionStart (i + 1)) bs ≡ drop (sectionStart i) bs
   section-cons i =
       let start : recordStart (firstRecord i) ≡ sectionStart i = omega arith in
       let next : sectionStart i + sectionSize ≡ sectionStart (i + 1) = omega arith in
-      rw (start, ← next, ← drop-drop sectionSize (sectionStart i) bs) (take-append-drop sectionSize (drop (sectionStart i) bs))
+      rw (start, ← next, ← drop-drop sectionSize (sectionStart i) bs)
+      (take-append-drop sectionSize (drop (sectionStart i) bs))
 
   length-sectionAt : (i : ℕ) → length (sectionAt bs i) ≡ countIn bs i
   unfolding sectionAt
@@ -347,16 +353,19 @@ module _ (ports clock : ℕ) (bs : List ℕ) (size : length bs ≡ tableSize) wh
 
   -- the first of the sections, where an input that the switch does not have has no entries
   countsBytes-cons : (n i m : ℕ) → (_≡_ {A = ℕ} m 0 → _≡_ {A = ℕ} (countIn bs i) 0)
-      → countsBytes (suc n) (sectionsFrom i m) ≡ bytesOf 1 (countIn bs i) ++ countsBytes n (sectionsFrom (i + 1) (pred m))
+      → countsBytes (suc n) (sectionsFrom i m)
+      ≡ bytesOf 1 (countIn bs i) ++ countsBytes n (sectionsFrom (i + 1) (pred m))
   unfolding countsBytes numbersFrom
   countsBytes-cons n i zero empty = ap (λ c. bytesOf 1 c ++ countsBytes n []) (sym (empty refl))
-  countsBytes-cons n i (suc m) empty = ap (λ c. bytesOf 1 c ++ countsBytes n (sectionsFrom (i + 1) m)) (length-sectionAt i)
+  countsBytes-cons n i (suc m) empty =
+      ap (λ c. bytesOf 1 c ++ countsBytes n (sectionsFrom (i + 1) m)) (length-sectionAt i)
 
   sectionsBytes-cons : (n i m : ℕ) → (_≡_ {A = ℕ} m 0 → _≡_ {A = ℕ} (countIn bs i) 0)
       → sectionsBytes (suc n) (sectionsFrom i m)
       ≡ sectionBytes (sectionAt bs i) ++ sectionsBytes n (sectionsFrom (i + 1) (pred m))
   unfolding sectionsBytes numbersFrom
-  sectionsBytes-cons n i zero empty = ap (λ es. sectionBytes es ++ sectionsBytes n []) (sym (sectionAt-nil i (empty refl)))
+  sectionsBytes-cons n i zero empty =
+      ap (λ es. sectionBytes es ++ sectionsBytes n []) (sym (sectionAt-nil i (empty refl)))
   sectionsBytes-cons n i (suc m) empty = refl
 
   -- from the sections to the bytes
@@ -366,7 +375,8 @@ module _ (ports clock : ℕ) (bs : List ℕ) (size : length bs ≡ tableSize) wh
         let few : countIn bs i ≤ roomOf ports i = rows i port .few in
         omega (arith, roomOf-none ports i (omega arith))
 
-    pub counts-i : (n i m : ℕ) → i + n ≡ portLimit → m ≡ ports - i → countsBytes n (sectionsFrom i m) ≡ take n (drop (16 + i) bs)
+    pub counts-i : (n i m : ℕ) → i + n ≡ portLimit → m ≡ ports - i
+        → countsBytes n (sectionsFrom i m) ≡ take n (drop (16 + i) bs)
     unfolding countsBytes
     counts-i zero i m all rest = refl
     counts-i (suc n) i m all rest =
@@ -376,7 +386,8 @@ module _ (ports clock : ℕ) (bs : List ℕ) (size : length bs ≡ tableSize) wh
         ∙ ap₂ _++_ (byte-one (countIn bs i) few) (counts-i n (i + 1) (pred m) (omega arith) (omega arith))
         ∙ sym (count-cons i n port)
 
-    pub sections-i : (n i m : ℕ) → i + n ≡ portLimit → m ≡ ports - i → sectionsBytes n (sectionsFrom i m) ≡ drop (sectionStart i) bs
+    pub sections-i : (n i m : ℕ) → i + n ≡ portLimit → m ≡ ports - i
+        → sectionsBytes n (sectionsFrom i m) ≡ drop (sectionStart i) bs
     unfolding sectionsBytes
     sections-i zero i m all rest =
         let end : length bs ≤ sectionStart i = omega arith in
@@ -406,7 +417,8 @@ module _ (ports clock : ℕ) (bs : List ℕ) (size : length bs ≡ tableSize) wh
   unfolding soundSections numbersFrom
   few-e i zero empty rest sounds = omega (arith, empty refl)
   few-e i (suc m) empty rest sounds =
-      let few : length (sectionAt bs i) ≤ cellLimit = soundSection-size ports clock i (sectionAt bs i) (and-l _ _ sounds) in
+      let es = sectionAt bs i in
+      let few : length es ≤ cellLimit = soundSection-size ports clock i es (and-l _ _ sounds) in
       omega (arith, roomOf-port ports i (omega arith), length-sectionAt i)
 
   sound-e : (i m : ℕ) → (_≡_ {A = ℕ} m 0 → _≡_ {A = ℕ} (countIn bs i) 0)
@@ -421,7 +433,8 @@ module _ (ports clock : ℕ) (bs : List ℕ) (size : length bs ≡ tableSize) wh
   later-e i zero sounds = refl
   later-e i (suc m) sounds = and-r (soundSection ports clock i (sectionAt bs i)) _ sounds
 
-  pub rows-e : (n i m : ℕ) → i + n ≡ portLimit → m ≡ ports - i → countsBytes n (sectionsFrom i m) ≡ take n (drop (16 + i) bs)
+  pub rows-e : (n i m : ℕ) → i + n ≡ portLimit → m ≡ ports - i
+      → countsBytes n (sectionsFrom i m) ≡ take n (drop (16 + i) bs)
       → sectionsBytes n (sectionsFrom i m) ≡ drop (sectionStart i) bs
       → soundSections ports clock i (sectionsFrom i m) ≡ true → (j : ℕ) → i ≤ j → j < portLimit
       → Section ports clock bs j
@@ -431,10 +444,11 @@ module _ (ports clock : ℕ) (bs : List ℕ) (size : length bs ≡ tableSize) wh
       let empty : _≡_ {A = ℕ} m 0 → _≡_ {A = ℕ} (countIn bs i) 0 = none-e n i m port counts in
       let room : countIn bs i ≤ roomOf ports i = few-e i m empty rest sounds in
       let few : countIn bs i ≤ cellLimit = roomOf-le ports i (countIn bs i) room in
-      let length-here : length (sectionBytes (sectionAt bs i)) ≡ sectionSize = length-sectionBytes (sectionAt bs i) (omega (arith, length-sectionAt i)) in
+      let es = sectionAt bs i in
+      let whole : length (sectionBytes es) ≡ sectionSize = length-sectionBytes es (omega (arith, length-sectionAt i)) in
       let bytes =
       append-same (sectionBytes (sectionAt bs i)) (sectionsBytes n (sectionsFrom (i + 1) (pred m)))
-      (recordsAt bs (firstRecord i) cellLimit) (drop (sectionStart (i + 1)) bs) sectionSize length-here
+      (recordsAt bs (firstRecord i) cellLimit) (drop (sectionStart (i + 1)) bs) sectionSize whole
       (length-recordsAt bs (firstRecord i) cellLimit (omega arith))
       (sym (sectionsBytes-cons n i m empty) ∙ sections ∙ sym (section-cons i)) in
       let numbers =
@@ -443,7 +457,8 @@ module _ (ports clock : ℕ) (bs : List ℕ) (size : length bs ≡ tableSize) wh
       (sym (countsBytes-cons n i m empty) ∙ counts ∙ count-cons i n port) in
       let here : Section ports clock bs i = record { few = room; exact = bytes .0; sound = sound-e i m empty sounds } in
       let later : i + 1 ≤ j → Section ports clock bs j =
-      λ after. rows-e n (i + 1) (pred m) (omega arith) (omega arith) (numbers .1) (bytes .1) (later-e i m sounds) j after high in
+      λ after.
+      rows-e n (i + 1) (pred m) (omega arith) (omega arith) (numbers .1) (bytes .1) (later-e i m sounds) j after high in
       go here later (either (eqb i j))
     where
       go : Section ports clock bs i → (i + 1 ≤ j → Section ports clock bs j) → (eqb i j ≡ true) ⊎ (eqb i j ≡ false)

@@ -54,7 +54,8 @@ numberAt-part w at room start bs h =
 -- the fields of a record
 
 module _ (bs : List ℕ) (k : ℕ) where
-  pub recordAt-number : (w at : ℕ) → at + w ≤ entrySize → numberAt w at (recordAt bs k) ≡ numberAt w (recordStart k + at) bs
+  pub recordAt-number : (w at : ℕ) → at + w ≤ entrySize
+      → numberAt w at (recordAt bs k) ≡ numberAt w (recordStart k + at) bs
   unfolding recordAt
   recordAt-number w at h = numberAt-part w at entrySize (recordStart k) bs h
 
@@ -137,12 +138,14 @@ unfolding between
 between-mem from to m = let b = numbersFrom-mem from (to - from) m in (omega arith, omega arith)
 
 -- what holds of all of them holds of each
-numbersFrom-each : (p : ℕ → Bool) (n from k : ℕ) → all? p (numbersFrom from n) ≡ true → from ≤ k → k < from + n → p k ≡ true
+numbersFrom-each : (p : ℕ → Bool) (n from k : ℕ) → all? p (numbersFrom from n) ≡ true → from ≤ k → k < from + n
+    → p k ≡ true
 unfolding all? numbersFrom
 numbersFrom-each p zero from k h low high = absurd (omega arith)
 numbersFrom-each p (suc n) from k h low high =
-    go (and-l (p from) (all? p (numbersFrom (from + 1) n)) h)
-    (λ after. numbersFrom-each p n (from + 1) k (and-r (p from) (all? p (numbersFrom (from + 1) n)) h) after (omega arith))
+    let others = all? p (numbersFrom (from + 1) n) in
+    go (and-l (p from) others h)
+    (λ after. numbersFrom-each p n (from + 1) k (and-r (p from) others h) after (omega arith))
     (either (eqb from k))
   where
     go : p from ≡ true → (from + 1 ≤ k → p k ≡ true) → (eqb from k ≡ true) ⊎ (eqb from k ≡ false) → p k ≡ true
@@ -284,11 +287,13 @@ module _ (bs : List ℕ) where
   soundSections-few ports clock zero i sounds j low high = absurd (omega arith)
   soundSections-few ports clock (suc n) i sounds j low high =
       let es = entriesOf i (countIn bs i) (take sectionSize (drop (sectionStart i) bs)) in
-      let all : (soundSection ports clock i es && soundSections ports clock (i + 1) (sectionsOf (i + 1) n (drop (16 + (i + 1)) bs) (drop (sectionStart (i + 1)) bs))) ≡ true =
+      let others = sectionsOf (i + 1) n (drop (16 + (i + 1)) bs) (drop (sectionStart (i + 1)) bs) in
+      let all : (soundSection ports clock i es && soundSections ports clock (i + 1) others) ≡ true =
       ap (soundSections ports clock i) (sym (sectionsOf-cons i n)) ∙ sounds in
       let here : length es ≤ cellLimit = soundSection-size ports clock i es (and-l _ _ all) in
       go (omega (arith, length-entriesOf i (countIn bs i) (take sectionSize (drop (sectionStart i) bs))))
-      (λ after. soundSections-few ports clock n (i + 1) (and-r (soundSection ports clock i es) _ all) j after (omega arith))
+      (λ after.
+      soundSections-few ports clock n (i + 1) (and-r (soundSection ports clock i es) _ all) j after (omega arith))
       (either (eqb i j))
     where
       go : countIn bs i ≤ cellLimit → (i + 1 ≤ j → countIn bs j ≤ cellLimit) → (eqb i j ≡ true) ⊎ (eqb i j ≡ false)
@@ -305,7 +310,8 @@ module _ (bs : List ℕ) where
   pub stateOf-few : sound (stateOf bs) ≡ true → (i : ℕ) → i < word bs 4 → countIn bs i ≤ cellLimit
   unfolding stateOf
   stateOf-few good i port =
-      soundSections-few (word bs 4) (word bs 8) (word bs 4) 0 (sound-sections (stateOf bs) good) i (omega arith) (omega arith)
+      soundSections-few (word bs 4) (word bs 8) (word bs 4) 0 (sound-sections (stateOf bs) good) i (omega arith)
+      (omega arith)
 
   -- and their entries, one by one
   pub stateOf-entry : (i j : ℕ) (e : Entry) → ((i : ℕ) → i < word bs 4 → countIn bs i ≤ cellLimit) → i < word bs 4

@@ -5,7 +5,7 @@ use mathlib.Core.Path.{_≡_, sym, _∙_, ap}
 use mathlib.Core.List.{List}
 use borrow.Author.Tests.{ltb-true, eq-eqb, ne-eqb}
 use lib.Dec.{ltb}
-use Rattle.laws.specs.Lists.{all?, pairwise}
+use Rattle.laws.specs.Lists.{all?}
 use Rattle.laws.proofs.Tests.{and-l, and-r, and-false-l}
 use Rattle.cell.specs.Limits.{portLimit, flowLimit}
 use Rattle.cell.specs.Flow.{sameFlow}
@@ -13,10 +13,9 @@ use Rattle.cell.specs.Order.{over}
 use Rattle.model.specs.State.{Entry}
 use Rattle.model.specs.Sound.{otherSlot}
 use Rattle.table.specs.Entry.{entryAt}
-use Rattle.table.specs.Records.{between, entriesBetween}
-use Rattle.table.specs.Check.{inRange, standsApart}
-use Rattle.table.proofs.Records.{between-nil, between-cons, entriesBetween-nil, entriesBetween-cons}
-use Rattle.table.proofs.Records.{all?-entriesBetween}
+use Rattle.table.specs.Records.{between}
+use Rattle.table.specs.Check.{inRange, standsApart, sharesSlot}
+use Rattle.table.proofs.Records.{between-nil, between-cons}
 
 ------------------------------------------------------------------------
 -- whether a later entry of its flow stands apart
@@ -41,7 +40,8 @@ module _ (later : Bool) (e f : Entry) where
 module _ (p : ℕ → Bool) (k to : ℕ) (b : Bool) (left : b ≡ all? p (between k to)) where
   pub each-stop : k < to → p k ≡ false → false ≡ b
   unfolding all?
-  each-stop h fails = sym (left ∙ ap (all? p) (between-cons k to h) ∙ and-false-l (p k) (all? p (between (k + 1) to)) fails)
+  each-stop h fails =
+      sym (left ∙ ap (all? p) (between-cons k to h) ∙ and-false-l (p k) (all? p (between (k + 1) to)) fails)
 
   pub each-next : k < to → p k ≡ true → b ≡ all? p (between (k + 1) to)
   unfolding all?
@@ -56,30 +56,12 @@ module _ (p : ℕ → Bool) (k to : ℕ) (b : Bool) (left : b ≡ all? p (betwee
 
 pub inRange-e : (e : Entry) → inRange e ≡ true → (e .cell .output < portLimit) × (e .cell .flow < flowLimit)
 unfolding inRange
-inRange-e e h = (ltb-true _ _ (and-l (ltb (e .cell .output) portLimit) _ h), ltb-true _ _ (and-r (ltb (e .cell .output) portLimit) (ltb (e .cell .flow) flowLimit) h))
+inRange-e e h =
+    let output = ltb (e .cell .output) portLimit in
+    (ltb-true _ _ (and-l output _ h), ltb-true _ _ (and-r output (ltb (e .cell .flow) flowLimit) h))
 
 ------------------------------------------------------------------------
--- a test of each entry with every later one: b is the answer, k the entry to come
-
-module _ (r : Entry → Entry → Bool) (bs : List ℕ) (k to : ℕ) (b : Bool) (left : b ≡ pairwise r (entriesBetween bs k to))
-  where
-    pairs-cons : k < to → b ≡ all? (λ j. r (entryAt bs k) (entryAt bs j)) (between (k + 1) to) && pairwise r (entriesBetween bs (k + 1) to)
-    unfolding pairwise
-    pairs-cons h =
-        left
-        ∙ ap (pairwise r) (entriesBetween-cons bs k to h)
-        ∙ ap (λ t. t && pairwise r (entriesBetween bs (k + 1) to)) (all?-entriesBetween (r (entryAt bs k)) bs (k + 1) to)
-
-    pub pairs-stop : k < to → all? (λ j. r (entryAt bs k) (entryAt bs j)) (between (k + 1) to) ≡ false → false ≡ b
-    pairs-stop h fails = sym (pairs-cons h ∙ ap (λ t. t && pairwise r (entriesBetween bs (k + 1) to)) fails)
-
-    pub pairs-next : k < to → all? (λ j. r (entryAt bs k) (entryAt bs j)) (between (k + 1) to) ≡ true
-        → b ≡ pairwise r (entriesBetween bs (k + 1) to)
-    pairs-next h passes = pairs-cons h ∙ ap (λ t. t && pairwise r (entriesBetween bs (k + 1) to)) passes
-
-    pub pairs-end : to ≤ k → true ≡ b
-    unfolding pairwise
-    pairs-end h = sym (left ∙ ap (pairwise r) (entriesBetween-nil bs k to h))
+-- whether an entry behind has its slot
 
 pub otherSlot-same : (e f : Entry) → e .cell .slot ≡ f .cell .slot → otherSlot e f ≡ false
 unfolding otherSlot
@@ -88,3 +70,13 @@ otherSlot-same e f h = ap not (eq-eqb (e .cell .slot) (f .cell .slot) h)
 pub otherSlot-other : (e f : Entry) → (e .cell .slot ≡ f .cell .slot → ⊥) → otherSlot e f ≡ true
 unfolding otherSlot
 otherSlot-other e f h = ap not (ne-eqb (e .cell .slot) (f .cell .slot) h)
+
+module _ (may : Bool) (bs : List ℕ) (k to : ℕ) where
+  pub sharesSlot-none : may ≡ false → sharesSlot may bs k to ≡ false
+  unfolding sharesSlot
+  sharesSlot-none h = rw h
+
+  pub sharesSlot-asked : may ≡ true
+      → sharesSlot may bs k to ≡ not (all? (λ j. otherSlot (entryAt bs k) (entryAt bs j)) (between (k + 1) to))
+  unfolding sharesSlot
+  sharesSlot-asked h = rw h

@@ -41,6 +41,10 @@ flowNumber e = flowLimit * e .cell .output + e .cell .flow
 unfoldable pub standsApart : Bool → Entry → Entry → Bool
 standsApart later e f = later && not (sameFlow (e .cell) (f .cell) && over (e .cell) (f .cell))
 
+-- an entry has the slot of one behind it, of those that end before `to`; asked only if some entry may have it
+unfoldable pub sharesSlot : Bool → List ℕ → ℕ → ℕ → Bool
+sharesSlot may bs k to = may && not (all? (λ j. otherSlot (entryAt bs k) (entryAt bs j)) (between (k + 1) to))
+
 -- how many entries an input may have: none where the switch does not have it
 unfoldable pub roomOf : ℕ → ℕ → ℕ
 roomOf ports input = cond (ltb input ports) cellLimit 0

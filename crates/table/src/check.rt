@@ -7,14 +7,14 @@ ghost use mathlib.Core.Bool.{true};
 ghost use mathlib.Core.Path.{_≡_};
 ghost use Prim.Native.Nat.{_+_, _%_, _<_, _≤_};
 ghost use lib.ListN.{length};
-ghost use Rattle.laws.specs.Lists.{keep, all?, pairwise, upTo};
+ghost use Rattle.laws.specs.Lists.{keep, all?, pairwise};
 ghost use Rattle.model.specs.State.{isListed};
 ghost use Rattle.model.specs.Sound.{together, otherSlot, otherCrosspoint};
 ghost use Rattle.table.specs.Table.{tableSize};
 ghost use Rattle.table.specs.Entry.{entryAt};
 ghost use Rattle.table.specs.Records.{between, entriesBetween};
 ghost use Rattle.table.specs.Check.{isTable, isSection, isEntry, isUnused, roomOf, inRange, flowNumber};
-ghost use Rattle.table.specs.Check.{standsApart};
+ghost use Rattle.table.specs.Check.{standsApart, sharesSlot};
 
 // Whether the bytes are a table.
 pub fn is_table(bytes: &[u8]) -> bool
@@ -36,6 +36,7 @@ pub fn is_table(bytes: &[u8]) -> bool
     are_sections(bytes, ports, word::read_u32(bytes, 8))
 }
 
+// Whether each of the sixteen sections is one of a table.
 fn are_sections(bytes: &[u8], ports: u32, clock: u32) -> bool
     requires { ⌜ (length (now bytes) ≡ tableSize) × (ports ≤ 16) ⌝ }
     ensures { λ r. ⌜ r ≡ all? (isSection ports clock (now (bytes .entry))) (between 0 16) ⌝ }
@@ -50,6 +51,7 @@ fn are_sections(bytes: &[u8], ports: u32, clock: u32) -> bool
     true
 }
 
+// Whether the section of an input is one of a table. An input that the switch does not have has no entries.
 fn is_section(bytes: &[u8], ports: u32, clock: u32, input: usize) -> bool
     requires { ⌜ (length (now bytes) ≡ tableSize) × (ports ≤ 16) × (input < 16) ⌝ }
     ensures { λ r. ⌜ r ≡ isSection ports clock (now (bytes .entry)) input ⌝ }
@@ -82,6 +84,7 @@ fn room(ports: u32, input: usize) -> usize
     if input < ports as usize { 64 } else { 0 }
 }
 
+// Whether each of these records is an entry.
 fn are_entries(bytes: &[u8], ports: u32, clock: u32, from: usize, to: usize) -> bool
     requires { ⌜ (length (now bytes) ≡ tableSize) × (to ≤ 1024) ⌝ }
     ensures { λ r. ⌜ r ≡ all? (isEntry ports clock (now (bytes .entry))) (between from to) ⌝ }
@@ -96,6 +99,7 @@ fn are_entries(bytes: &[u8], ports: u32, clock: u32, from: usize, to: usize) -> 
     true
 }
 
+// Whether a record is an entry: its fields are in range, its place is one, its zero byte is zero.
 fn is_entry(bytes: &[u8], ports: u32, clock: u32, k: usize) -> bool
     requires { ⌜ (length (now bytes) ≡ tableSize) × (k < 1024) ⌝ }
     ensures { λ r. ⌜ r ≡ isEntry ports clock (now (bytes .entry)) k ⌝ }
@@ -103,7 +107,7 @@ fn is_entry(bytes: &[u8], ports: u32, clock: u32, k: usize) -> bool
     if ports <= entry::output_of(bytes, k) as u32 {
         return false;
     }
-    if 8 <= entry::flow_of(bytes, k) {
+    if !Switch::flow_in_range(entry::flow_of(bytes, k) as u32) {
         return false;
     }
     let place = entry::place_of(bytes, k);
@@ -119,6 +123,7 @@ fn is_entry(bytes: &[u8], ports: u32, clock: u32, k: usize) -> bool
     entry::slot_of(bytes, k) < clock
 }
 
+// Whether each of these records is zero.
 fn are_unused(bytes: &[u8], from: usize, to: usize) -> bool
     requires { ⌜ (length (now bytes) ≡ tableSize) × (to ≤ 1024) ⌝ }
     ensures { λ r. ⌜ r ≡ all? (isUnused (now (bytes .entry))) (between from to) ⌝ }
@@ -133,6 +138,7 @@ fn are_unused(bytes: &[u8], from: usize, to: usize) -> bool
     true
 }
 
+// Whether a record is zero.
 fn is_unused(bytes: &[u8], k: usize) -> bool
     requires { ⌜ (length (now bytes) ≡ tableSize) × (k < 1024) ⌝ }
     ensures { λ r. ⌜ r ≡ isUnused (now (bytes .entry)) k ⌝ }
@@ -169,6 +175,7 @@ fn flows_together(bytes: &[u8], from: usize, to: usize) -> bool
     true
 }
 
+// The flow of an entry among the 128 of its input.
 fn flow_number(bytes: &[u8], k: usize) -> usize
     requires { ⌜ (length (now bytes) ≡ tableSize) × (k < 1024) × (inRange (entryAt (now bytes) k) ≡ true) ⌝ }
     ensures { λ r. ⌜ (r ≡ flowNumber (entryAt (now (bytes .entry)) k)) × (r < 128) ⌝ }
@@ -192,35 +199,42 @@ fn stands_apart(bytes: &[u8], seen: bool, k: usize, next: usize) -> bool
     !cell::over(this, that)
 }
 
-// Whether no two entries have one slot.
+// Whether no two entries have one slot. From the last entry to the first; `seen` has the low bits of the slots passed,
+// so that only an entry which shares them is compared with those behind it.
 fn slots_differ(bytes: &[u8], from: usize, to: usize) -> bool
-    requires { ⌜ (length (now bytes) ≡ tableSize) × (to ≤ 1024) ⌝ }
+    requires { ⌜ (length (now bytes) ≡ tableSize) × (from ≤ to) × (to ≤ 1024) ⌝ }
     ensures { λ r. ⌜ r ≡ pairwise otherSlot (entriesBetween (now (bytes .entry)) from to) ⌝ }
 {
-    let mut k = from;
-    while k < to {
-        if !slot_differs(bytes, k, k + 1, to) {
+    let mut seen = [false; 256];
+    let mut k = to;
+    while from < k {
+        k -= 1;
+        let low = (entry::slot_of(bytes, k) % 256) as usize;
+        if shares_slot(bytes, seen[low], k, to) {
             return false;
         }
-        k += 1;
+        seen[low] = true;
     }
     true
 }
 
-// Whether an entry has another slot than each of these.
-fn slot_differs(bytes: &[u8], k: usize, from: usize, to: usize) -> bool
+// Whether an entry has the slot of one behind it, if one may have it.
+fn shares_slot(bytes: &[u8], may: bool, k: usize, to: usize) -> bool
     requires { ⌜ (length (now bytes) ≡ tableSize) × (k < 1024) × (to ≤ 1024) ⌝ }
-    ensures { λ r. ⌜ r ≡ all? (λ j. otherSlot (entryAt (now (bytes .entry)) k) (entryAt (now (bytes .entry)) j)) (between from to) ⌝ }
+    ensures { λ r. ⌜ r ≡ sharesSlot may (now (bytes .entry)) k to ⌝ }
 {
+    if !may {
+        return false;
+    }
     let slot = entry::slot_of(bytes, k);
-    let mut j = from;
+    let mut j = k + 1;
     while j < to {
         if entry::slot_of(bytes, j) == slot {
-            return false;
+            return true;
         }
         j += 1;
     }
-    true
+    false
 }
 
 // Whether no crosspoint holds two cells. From the last entry to the first; `seen` has the outputs of the crossed ones

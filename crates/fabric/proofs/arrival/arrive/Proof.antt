@@ -28,17 +28,25 @@ write-u32-requires : tie.Need-write-u32-requires Inv-loop μ-loop
 write-u32-requires c κs = omega (arith, table-length _ (c .before .before .before .before .before .pre .0))
 
 -- the slot, where the loop begins
-slot : (c : tie.After-slice-known2 Inv-loop μ-loop)
-    → Slot (c .before .before .before .before .before .before .before .before .args .table .now) (c .before .before .before .before .before .before .before .before .args .arrivals .now) (c .before .before .before .before .read-u32 .result) (c .before .before .write-u32 .last .0)
+abbrev Begun : tie.After-slice-known2 Inv-loop μ-loop → Type 0
+Begun c =
+    let written = c .before .before in
+    let read = written .before .before in
+    let start = read .before .before .before .before in
+    Slot (start .args .table .now) (start .args .arrivals .now) (read .read-u32 .result) (written .write-u32 .last .0)
+
+slot : (c : tie.After-slice-known2 Inv-loop μ-loop) → Begun c
 slot c =
-    let start = c .before .before .before .before .before .before .before .before in
+    let written = c .before .before in
+    let read = written .before .before in
+    let start = read .before .before .before .before in
     record {
       isTable = start .pre .0;
       clear = start .pre .1 .0;
       early = start .pre .1 .1;
-      bytes = bytes?-i _ (λ i. c .before .before .before .before .before .before .shared-slice-known .given i .fits);
-      clock-read = c .before .before .before .before .read-u32 .ensures;
-      clock-raised = c .before .before .write-u32 .ensures;
+      bytes = bytes?-i _ (λ i. read .before .before .shared-slice-known .given i .fits);
+      clock-read = read .read-u32 .ensures;
+      clock-raised = written .write-u32 .ensures;
     }
 
 loop-holds : tie.Need-loop-holds Inv-loop μ-loop
@@ -49,8 +57,9 @@ record-at-requires c κs = omega arith
 
 enter-requires : tie.Need-enter-requires Inv-loop μ-loop
 enter-requires c κs =
-    let at = c .before .before .before .loop in
-    slot-enters _ _ _ _ (slot (c .before .before .before .before)) (at .n) _ (at .inv .2) (omega arith) _ (c .before .record-at .ensures)
+    let at = c .before .before .before in
+    slot-enters _ _ _ _ (slot (at .before)) (at .loop .n) _ (at .loop .inv .2) (omega arith) _
+    (c .before .record-at .ensures)
 
 add-n : tie.Need-add-n Inv-loop μ-loop
 add-n c = omega arith
@@ -60,11 +69,13 @@ loop-less c = omega arith
 
 loop-again : tie.Need-loop-again Inv-loop μ-loop
 loop-again c =
-    let at = c .before .before .before .before .before .before .loop in
-    let new = c .before .before .enter in (
+    let new = c .before .before in
+    let read = new .before .before in
+    let at = read .before .before in (
       omega arith,
-      omega (arith, new .kept .0),
-      slot-next _ _ _ _ (slot (c .before .before .before .before .before .before .before)) (at .n) _ (at .inv .2) (omega arith) _ (c .before .before .before .before .record-at .ensures) (new .last .0) (new .ensures),
+      omega (arith, new .enter .kept .0),
+      slot-next _ _ _ _ (slot (at .before)) (at .loop .n) _ (at .loop .inv .2) (omega arith) _ (read .record-at .ensures)
+          (new .enter .last .0) (new .enter .ensures),
     )
 
 same-length : tie.Need-same-length Inv-loop μ-loop

@@ -22,8 +22,9 @@ no-such-flow-requires c κs = search needs
 returns-2 : tie.Need-returns-2
 unfolding faultAt
 returns-2 c =
+    let port = c .before .before in
     λ before e. sym (ap (faultAt _) (fault-flow _ _ before _
-    (sym (c .before .before .before .no-such-port .ensures) ∙ c .before .before .if1 .left)
+    (sym (port .before .no-such-port .ensures) ∙ port .if1 .left)
     (sym (c .before .no-such-flow .ensures) ∙ c .if2 .taken)))
 
 out-of-turn-requires : tie.Need-out-of-turn-requires
@@ -32,48 +33,61 @@ out-of-turn-requires c κs = search needs
 returns-3 : tie.Need-returns-3
 unfolding faultAt
 returns-3 c =
+    let flow = c .before .before in
+    let port = flow .before .before in
     λ before e. sym (ap (faultAt _) (fault-turn _ _ before _
-    (sym (c .before .before .before .before .before .no-such-port .ensures) ∙ c .before .before .before .before .if1 .left)
-    (sym (c .before .before .before .no-such-flow .ensures) ∙ c .before .before .if2 .left)
+    (sym (port .before .no-such-port .ensures) ∙ port .if1 .left)
+    (sym (flow .before .no-such-flow .ensures) ∙ flow .if2 .left)
     (sym (c .before .out-of-turn .ensures before e) ∙ c .if3 .taken)))
 
 falling-rank-requires : tie.Need-falling-rank-requires
 falling-rank-requires c κs =
-    let start = c .before .before .before .before .before .before .before in
-    (start .pre, port-input _ _ (sym (c .before .before .before .before .before .no-such-port .ensures) ∙ c .before .before .before .before .if1 .left))
+    let port = c .before .before .before .before in
+    (port .before .before .before .pre, port-input _ _ (sym (port .before .no-such-port .ensures) ∙ port .if1 .left))
 
 returns-4 : tie.Need-returns-4
 unfolding faultAt
 returns-4 c =
+    let turn = c .before .before in
+    let flow = turn .before .before in
+    let port = flow .before .before in
     λ before e. sym (ap (faultAt _) (fault-rank _ _ before _
-    (sym (c .before .before .before .before .before .before .before .no-such-port .ensures) ∙ c .before .before .before .before .before .before .if1 .left)
-    (sym (c .before .before .before .before .before .no-such-flow .ensures) ∙ c .before .before .before .before .if2 .left)
-    (sym (c .before .before .before .out-of-turn .ensures before e) ∙ c .before .before .if3 .left)
+    (sym (port .before .no-such-port .ensures) ∙ port .if1 .left)
+    (sym (flow .before .no-such-flow .ensures) ∙ flow .if2 .left)
+    (sym (turn .before .out-of-turn .ensures before e) ∙ turn .if3 .left)
     (sym (c .before .falling-rank .ensures) ∙ c .if4 .taken)))
 
 input-full-requires : tie.Need-input-full-requires
 input-full-requires c κs =
-    let start = c .before .before .before .before .before .before .before .before .before in
-    (start .pre, port-input _ _ (sym (c .before .before .before .before .before .before .before .no-such-port .ensures) ∙ c .before .before .before .before .before .before .if1 .left))
+    let port = c .before .before .before .before .before .before in
+    (port .before .before .before .pre, port-input _ _ (sym (port .before .no-such-port .ensures) ∙ port .if1 .left))
 
 returns-5 : tie.Need-returns-5
 unfolding faultAt
 returns-5 c =
+    let rank = c .before .before in
+    let turn = rank .before .before in
+    let flow = turn .before .before in
+    let port = flow .before .before in
     λ before e. sym (ap (faultAt _) (fault-full _ _ before _
-    (sym (c .before .before .before .before .before .before .before .before .before .no-such-port .ensures) ∙ c .before .before .before .before .before .before .before .before .if1 .left)
-    (sym (c .before .before .before .before .before .before .before .no-such-flow .ensures) ∙ c .before .before .before .before .before .before .if2 .left)
-    (sym (c .before .before .before .before .before .out-of-turn .ensures before e) ∙ c .before .before .before .before .if3 .left)
-    (sym (c .before .before .before .falling-rank .ensures) ∙ c .before .before .if4 .left)
+    (sym (port .before .no-such-port .ensures) ∙ port .if1 .left)
+    (sym (flow .before .no-such-flow .ensures) ∙ flow .if2 .left)
+    (sym (turn .before .out-of-turn .ensures before e) ∙ turn .if3 .left)
+    (sym (rank .before .falling-rank .ensures) ∙ rank .if4 .left)
     (sym (c .before .input-full .ensures) ∙ c .if5 .taken)))
 
 returns-6 : tie.Need-returns-6
 unfolding faultAt
 returns-6 c =
+    let rank = c .before .before in
+    let turn = rank .before .before in
+    let flow = turn .before .before in
+    let port = flow .before .before in
     λ before e. sym (ap (faultAt _) (fault-none _ _ before _
-    (sym (c .before .before .before .before .before .before .before .before .before .no-such-port .ensures) ∙ c .before .before .before .before .before .before .before .before .if1 .left)
-    (sym (c .before .before .before .before .before .before .before .no-such-flow .ensures) ∙ c .before .before .before .before .before .before .if2 .left)
-    (sym (c .before .before .before .before .before .out-of-turn .ensures before e) ∙ c .before .before .before .before .if3 .left)
-    (sym (c .before .before .before .falling-rank .ensures) ∙ c .before .before .if4 .left)
+    (sym (port .before .no-such-port .ensures) ∙ port .if1 .left)
+    (sym (flow .before .no-such-flow .ensures) ∙ flow .if2 .left)
+    (sym (turn .before .out-of-turn .ensures before e) ∙ turn .if3 .left)
+    (sym (rank .before .falling-rank .ensures) ∙ rank .if4 .left)
     (sym (c .before .input-full .ensures) ∙ c .if5 .left)))
 
 pub check-record-spec : {M : Type 1} → statement M

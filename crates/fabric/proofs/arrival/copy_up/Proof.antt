@@ -37,17 +37,18 @@ same-length c = search needs
 
 returns : tie.Need-returns
 returns c =
-    let start = c .before .before .before .before .before .before .before .before .before .before .before .before .before .before .before in
-    let from = c .before .before .before .before .before .before .before .before .before .before .before .before .before .start-of in
-    let to = c .before .before .before .before .before .before .before .before .before .before .before .before .start-of2 in
-    let low = c .before .before .before .before .before .before .before .before .before .before .read-u64 in
-    let high = c .before .before .before .before .before .before .before .before .read-u642 in
-    let first = c .before .before .before .before .before .before .write-u64 in
-    let second = c .before .before .write-u642 in
-    let bytes = bytes?-i _ (λ i. c .before .before .before .before .before .before .before .before .before .before .before .before .before .before .slice-known .given i .fits) in
-    copied-up (start .args .k) (from .result) (to .result) (low .result) (high .result) (start .args .table .now)
-    (first .last .0) (second .last .0) bytes (start .pre .0) (start .pre .1) (from .ensures) (to .ensures)
-    (low .ensures) (high .ensures) (first .ensures) (second .ensures)
+    let second = c .before .before in
+    let first = second .before .before .before .before in
+    let high = first .before .before in
+    let low = high .before .before in
+    let to = low .before .before in
+    let from = to .before in
+    let start = from .before .before in
+    copied-up (start .args .k) (from .start-of .result) (to .start-of2 .result) (low .read-u64 .result)
+    (high .read-u642 .result) (start .args .table .now) (first .write-u64 .last .0) (second .write-u642 .last .0)
+    (bytes?-i _ (λ i. from .before .slice-known .given i .fits)) (start .pre .0) (start .pre .1) (from .start-of .ensures)
+    (to .start-of2 .ensures) (low .read-u64 .ensures) (high .read-u642 .ensures) (first .write-u64 .ensures)
+    (second .write-u642 .ensures)
 
 pub copy-up-spec : {M : Type 1} → statement M
 copy-up-spec =

@@ -27,21 +27,26 @@ add-move-up c = search needs
 
 move-up-requires : tie.Need-move-up-requires
 move-up-requires c κs =
-    let start = c .before .before .before .before .before .before .before in (
+    let at = c .before in
+    let count = at .before .before in
+    let start = count .before .before .before .before in
+    let input = start .pre .1 .0 in
+    let below = place-within _ (start .pre .0) (start .args .c) (input .0) (input .1) in
+    let ports = ports-below _ (start .pre .0) in (
       table-length _ (start .pre .0),
-      omega (arith, c .before .before .before .count-of .ensures, c .before .new-place .ensures, place-within _ (start .pre .0) (start .args .c) (start .pre .1 .0 .0) (start .pre .1 .0 .1)),
-      omega (arith, c .before .before .before .count-of .ensures, start .pre .1 .0 .0, start .pre .1 .0 .1, ports-below _ (start .pre .0)),
+      omega (arith, count .count-of .ensures, at .new-place .ensures),
+      omega (arith, count .count-of .ensures),
     )
 
 put-entry-requires : tie.Need-put-entry-requires
 put-entry-requires c κs =
-    let start = c .before .before .before .before .before .before .before .before .before .before .before in (
-      (
-        c .before .before .before .move-up .kept .0 ∙ table-length _ (start .pre .0),
-        omega (arith, c .before .before .before .before .before .new-place .ensures, place-within _ (start .pre .0) (start .args .c) (start .pre .1 .0 .0) (start .pre .1 .0 .1), start .pre .1 .0 .0, start .pre .1 .0 .1, ports-below _ (start .pre .0)),
-      ),
-      start .pre .1 .1,
-    )
+    let moved = c .before .before .before in
+    let at = moved .before .before in
+    let start = at .before .before .before .before .before .before in
+    let input = start .pre .1 .0 in
+    let below = place-within _ (start .pre .0) (start .args .c) (input .0) (input .1) in
+    let ports = ports-below _ (start .pre .0) in
+    ((moved .move-up .kept .0 ∙ table-length _ (start .pre .0), omega (arith, at .new-place .ensures)), start .pre .1 .1)
 
 add-table : tie.Need-add-table
 add-table c = search needs
@@ -54,21 +59,29 @@ add-table-2 c = search needs
 
 slice-write-table : tie.Need-slice-write-table
 slice-write-table c =
-    let start = c .before .before .before .before .before .before .before .before .before .before .before .before .before .before in
-    omega (arith, c .before .before .put-entry .kept .0, c .before .before .before .before .before .before .move-up .kept .0, table-length _ (start .pre .0), start .pre .1 .0 .0, ports-below _ (start .pre .0))
+    let new = c .before .before in
+    let moved = new .before .before .before .before in
+    let start = moved .before .before .before .before .before .before .before .before in
+    let size = table-length _ (start .pre .0) in
+    let ports = ports-below _ (start .pre .0) in
+    omega (arith, new .put-entry .kept .0, moved .move-up .kept .0, start .pre .1 .0 .0)
 
 same-length : tie.Need-same-length
-same-length c = simp length-set (c .before .before .put-entry .kept .0 ∙ c .before .before .before .before .before .before .move-up .kept .0)
+same-length c =
+    let new = c .before .before in
+    let moved = new .before .before .before .before in
+    simp length-set (new .put-entry .kept .0 ∙ moved .move-up .kept .0)
 
 returns : tie.Need-returns
 returns c =
-    let start = c .before .before .before .before .before .before .before .before .before .before .before .before .before .before in
-    let at = c .before .before .before .before .before .before .before .before .new-place in
-    let count = c .before .before .before .before .before .before .before .before .before .before .count-of in
-    let moved = c .before .before .before .before .before .before .move-up in
-    let new = c .before .before .put-entry in
-    entered-bytes _ (start .pre .0) _ (start .pre .1 .0 .0) (start .pre .1 .0 .1) (at .result) (count .result) (moved .last .0)
-    (new .last .0) (at .ensures) (count .ensures) (moved .ensures) (new .ensures)
+    let new = c .before .before in
+    let moved = new .before .before .before .before in
+    let at = moved .before .before in
+    let count = at .before .before in
+    let start = count .before .before .before .before in
+    entered-bytes _ (start .pre .0) _ (start .pre .1 .0 .0) (start .pre .1 .0 .1) (at .new-place .result)
+    (count .count-of .result) (moved .move-up .last .0) (new .put-entry .last .0) (at .new-place .ensures)
+    (count .count-of .ensures) (moved .move-up .ensures) (new .put-entry .ensures)
 
 pub enter-spec : {M : Type 1} → statement M
 enter-spec =

@@ -31,7 +31,9 @@ count-of-requires c κs =
 add-end : tie.Need-add-end Inv-loop μ-loop
 add-end c =
     let start = c .before .before .before in
-    omega (arith, start .pre, ports-below _ (start .pre .0), c .count-of .ensures, count-below _ (start .pre .0) _ (start .pre .1))
+    let ports = ports-below _ (start .pre .0) in
+    let few = count-below _ (start .pre .0) _ (start .pre .1) in
+    omega (arith, start .pre, c .count-of .ensures)
 
 mul-k : tie.Need-mul-k Inv-loop μ-loop
 mul-k c =
@@ -43,27 +45,25 @@ loop-holds c = (omega arith, λ j a b. absurd (omega arith))
 
 outranked-requires : tie.Need-outranked-requires Inv-loop μ-loop
 outranked-requires c κs =
-    let start = c .before .before .before .before .before in (
-      table-length _ (start .pre .0),
-      omega (
-        arith,
-        start .pre,
-        ports-below _ (start .pre .0),
-        c .before .before .count-of .ensures,
-        count-below _ (start .pre .0) _ (start .pre .1),
-      ),
-    )
+    let start = c .before .before .before .before .before in
+    let ports = ports-below _ (start .pre .0) in
+    let few = count-below _ (start .pre .0) _ (start .pre .1) in
+    (table-length _ (start .pre .0), omega (arith, start .pre, c .before .before .count-of .ensures))
 
 returns : tie.Need-returns Inv-loop μ-loop
 returns c =
-    let start = c .before .before .before .before .before .before .before in
-    let at = c .before .before .before .loop in
-    sym (rank-falls _ (start .pre .0) _ (start .pre .1) (at .k) (at .inv .0) (omega (arith, c .before .before .before .before .count-of .ensures)) (sym (c .before .outranked .ensures) ∙ c .if1 .taken))
+    let at = c .before .before .before in
+    let start = at .before .before .before .before in
+    sym (rank-falls _ (start .pre .0) _ (start .pre .1) (at .loop .k) (at .loop .inv .0)
+    (omega (arith, at .before .count-of .ensures)) (sym (c .before .outranked .ensures) ∙ c .if1 .taken))
 
 add-k : tie.Need-add-k Inv-loop μ-loop
 add-k c =
-    let start = c .before .before .before .before .before .before .before in
-    omega (arith, start .pre, ports-below _ (start .pre .0), c .before .before .before .before .count-of .ensures, count-below _ (start .pre .0) _ (start .pre .1))
+    let at = c .before .before .before in
+    let start = at .before .before .before .before in
+    let ports = ports-below _ (start .pre .0) in
+    let few = count-below _ (start .pre .0) _ (start .pre .1) in
+    omega (arith, start .pre, at .before .count-of .ensures)
 
 loop-less : tie.Need-loop-less Inv-loop μ-loop
 loop-less c = omega arith
@@ -75,9 +75,10 @@ loop-again c =
 
 returns-2 : tie.Need-returns-2 Inv-loop μ-loop
 returns-2 c =
-    let start = c .before .before .before .before .before in
-    let at = c .before .loop in
-    sym (rank-holds _ (start .pre .0) _ (start .pre .1) (λ j a b. at .inv .1 j (omega (arith, c .before .before .count-of .ensures)) a))
+    let at = c .before in
+    let start = at .before .before .before .before in
+    sym (rank-holds _ (start .pre .0) _ (start .pre .1)
+    (λ j a b. at .loop .inv .1 j (omega (arith, at .before .count-of .ensures)) a))
 
 pub falling-rank-spec : {M : Type 1} → statement M
 falling-rank-spec =

@@ -39,23 +39,26 @@ enum-told-2 c = search needs
 
 returns : tie.Need-returns Inv-loop μ-loop
 returns c =
-    let start = c .before .before .before .before .before .before .before .before .before in
-    let at = c .before .before .before .before .before .loop in
-    let read = c .before .before .before .record-at in
-    let found = c .before .before .check-record in
-    let came = coming-read _ _ _ (at .n) (read .result) (c .before .before .before .before .before .before .read-u32 .ensures) (read .ensures) in
-    looked-fault _ _ (start .pre) (at .turn) (at .n) (at .inv .1) (omega arith) (read .result) came (found .result)
-    (found .ensures) (c .enum-told2 .given .1)
+    let found = c .before .before in
+    let read = found .before in
+    let at = read .before .before in
+    let start = at .before .before .before .before in
+    let came = coming-read _ _ _ (at .loop .n) (read .record-at .result) (at .before .read-u32 .ensures)
+    (read .record-at .ensures) in
+    looked-fault _ _ (start .pre) (at .loop .turn) (at .loop .n) (at .loop .inv .1) (omega arith) (read .record-at .result)
+    came (found .check-record .result) (found .check-record .ensures) (c .enum-told2 .given .1)
 
 add-turn : tie.Need-add-turn Inv-loop μ-loop
 add-turn c =
-    let start = c .before .before .before .before .before .before .before .before .before .before in
-    let at = c .before .before .before .before .before .before .loop in
-    let read = c .before .before .before .before .record-at in
-    let found = c .before .before .before .check-record in
-    let came = coming-read _ _ _ (at .n) (read .result) (c .before .before .before .before .before .before .before .read-u32 .ensures) (read .ensures) in
-    let looked = looked-next _ _ (start .pre) (at .turn) (at .n) (at .inv .1) (omega arith) (read .result) came
-    (found .result) (found .ensures) (c .before .enum-told .given .1) in
+    let found = c .before .before .before in
+    let read = found .before in
+    let at = read .before .before in
+    let start = at .before .before .before .before in
+    let came = coming-read _ _ _ (at .loop .n) (read .record-at .result) (at .before .read-u32 .ensures)
+    (read .record-at .ensures) in
+    let looked = looked-next _ _ (start .pre) (at .loop .turn) (at .loop .n) (at .loop .inv .1) (omega arith)
+    (read .record-at .result) came (found .check-record .result) (found .check-record .ensures)
+    (c .before .enum-told .given .1) in
     omega (arith, looked .low)
 
 loop-less : tie.Need-loop-less Inv-loop μ-loop
@@ -63,14 +66,15 @@ loop-less c = omega arith
 
 loop-again : tie.Need-loop-again Inv-loop μ-loop
 loop-again c =
-    let start = c .before .before .before .before .before .before .before .before .before .before in
-    let at = c .before .before .before .before .before .before .loop in
-    let read = c .before .before .before .before .record-at in
-    let found = c .before .before .before .check-record in
-    let came = coming-read _ _ _ (at .n) (read .result) (c .before .before .before .before .before .before .before .read-u32 .ensures) (read .ensures) in (
+    let found = c .before .before .before in
+    let read = found .before in
+    let at = read .before .before in
+    let start = at .before .before .before .before in
+    let came = coming-read _ _ _ (at .loop .n) (read .record-at .result) (at .before .read-u32 .ensures)
+    (read .record-at .ensures) in (
       omega arith,
-      looked-next _ _ (start .pre) (at .turn) (at .n) (at .inv .1) (omega arith) (read .result) came (found .result)
-          (found .ensures) (c .before .enum-told .given .1),
+      looked-next _ _ (start .pre) (at .loop .turn) (at .loop .n) (at .loop .inv .1) (omega arith) (read .record-at .result)
+          came (found .check-record .result) (found .check-record .ensures) (c .before .enum-told .given .1),
     )
 
 returns-2 : tie.Need-returns-2 Inv-loop μ-loop

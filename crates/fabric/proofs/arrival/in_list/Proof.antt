@@ -18,7 +18,11 @@ same-flow-requires : tie.Need-same-flow-requires
 same-flow-requires c κs = search needs
 
 returns-2 : tie.Need-returns-2
-returns-2 c = c .same-flow .ensures ∙ in-list-flow _ _ (c .before .before .before .place-of .result) _ (c .before .before .before .place-of .ensures .1) (c .before .before .if1 .left) (c .before .cell-of .ensures)
+returns-2 c =
+    let place = c .before .before .before in
+    c .same-flow .ensures
+    ∙ in-list-flow _ _ (place .place-of .result) _ (place .place-of .ensures .1) (c .before .before .if1 .left)
+    (c .before .cell-of .ensures)
 
 pub in-list-spec : {M : Type 1} → statement M
 in-list-spec =

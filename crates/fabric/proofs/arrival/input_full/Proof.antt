@@ -27,7 +27,9 @@ input-full-requires c κs = search needs
 returns : tie.Need-returns
 returns c =
     let start = c .before .before .before .before in
-    c .input-full .ensures ∙ ap inputFull (c .before .count-of .ensures) ∙ sym (full-count _ (start .pre .0) _ (start .pre .1))
+    c .input-full .ensures
+    ∙ ap inputFull (c .before .count-of .ensures)
+    ∙ sym (full-count _ (start .pre .0) _ (start .pre .1))
 
 pub input-full-spec : {M : Type 1} → statement M
 input-full-spec =

@@ -12,7 +12,8 @@ use Rattle.fabric.proofs.arrival.move_up.Tie as tie
 
 abbrev Inv-loop : tie.InvT-loop
 Inv-loop table₀ at end k₀ table k =
-    (at ≤ k) × (k ≤ end) × (length table ≡ length table₀) × (table ≡ movedUp (recordStart k) (recordStart end) entrySize table₀)
+    (at ≤ k) × (k ≤ end) × (length table ≡ length table₀)
+    × (table ≡ movedUp (recordStart k) (recordStart end) entrySize table₀)
 
 abbrev μ-loop : tie.MeasureT-loop
 μ-loop table₀ at end k₀ table k = k
@@ -32,18 +33,18 @@ loop-less c = omega arith
 loop-again : tie.Need-loop-again Inv-loop μ-loop
 unfolding recordAt
 loop-again c =
-    let start = c .before .before .before .before .before .before .before in
-    let at = c .before .before .before .before .before .loop in
-    let copy = c .before .before .copy-up in
-    let back : at .k ≡ at .k - 1 + 1 = omega arith in
-    let cur : at .table ≡ movedUp (recordStart (at .k - 1 + 1)) (recordStart (start .args .end)) entrySize (start .args .table .now) =
-    at .inv .3 ∙ ap (λ n. movedUp (recordStart n) (recordStart (start .args .end)) entrySize (start .args .table .now)) back in (
+    let copy = c .before .before in
+    let at = copy .before .before .before in
+    let start = at .before .before in
+    let back : at .loop .k ≡ at .loop .k - 1 + 1 = omega arith in
+    let next = ap (λ n. movedUp (recordStart n) (recordStart (start .args .end)) entrySize (start .args .table .now)) back in (
       omega arith,
       omega arith,
-      omega (arith, copy .kept .0),
-      copy .ensures
-          ∙ movedUp-more (recordStart (at .k - 1)) (recordStart (at .k - 1 + 1)) (recordStart (start .args .end)) entrySize
-          (start .args .table .now) (at .table) (omega arith) (omega arith) (omega arith) cur,
+      omega (arith, copy .copy-up .kept .0),
+      copy .copy-up .ensures
+          ∙ movedUp-more (recordStart (at .loop .k - 1)) (recordStart (at .loop .k - 1 + 1)) (recordStart (start .args .end))
+          entrySize (start .args .table .now) (at .loop .table) (omega arith) (omega arith) (omega arith)
+          (at .loop .inv .3 ∙ next),
     )
 
 same-length : tie.Need-same-length Inv-loop μ-loop
@@ -51,10 +52,11 @@ same-length c = c .before .loop .inv .2
 
 returns : tie.Need-returns Inv-loop μ-loop
 returns c =
-    let start = c .before .before .before in
-    let at = c .before .loop in
-    let end : at .k ≡ start .args .at = omega arith in
-    at .inv .3 ∙ ap (λ n. movedUp (recordStart n) (recordStart (start .args .end)) entrySize (start .args .table .now)) end
+    let at = c .before in
+    let start = at .before .before in
+    let end : at .loop .k ≡ start .args .at = omega arith in
+    at .loop .inv .3
+    ∙ ap (λ n. movedUp (recordStart n) (recordStart (start .args .end)) entrySize (start .args .table .now)) end
 
 pub move-up-spec : {M : Type 1} → statement M
 move-up-spec =

@@ -12,7 +12,8 @@ use Rattle.fabric.proofs.arrival.new_place.Tie as tie
 
 abbrev Inv-loop : tie.InvT-loop
 Inv-loop table c input first end k₀ k =
-    (64 * c .input ≤ k) × (k ≤ 64 * c .input + countIn table (c .input)) × ((j : ℕ) → k ≤ j → j < 64 * c .input + countIn table (c .input) → inListOf c (entryAt table j) ≡ false)
+    (64 * c .input ≤ k) × (k ≤ 64 * c .input + countIn table (c .input))
+    × ((j : ℕ) → k ≤ j → j < 64 * c .input + countIn table (c .input) → inListOf c (entryAt table j) ≡ false)
 
 abbrev μ-loop : tie.MeasureT-loop
 μ-loop table c input first end k₀ k = k
@@ -30,7 +31,9 @@ count-of-requires c κs =
 add-end : tie.Need-add-end Inv-loop μ-loop
 add-end c =
     let start = c .before .before .before in
-    omega (arith, start .pre, ports-below _ (start .pre .0), c .count-of .ensures, count-below _ (start .pre .0) _ (start .pre .1))
+    let ports = ports-below _ (start .pre .0) in
+    let few = count-below _ (start .pre .0) _ (start .pre .1) in
+    omega (arith, start .pre, c .count-of .ensures)
 
 loop-holds : tie.Need-loop-holds Inv-loop μ-loop
 loop-holds c = (omega arith, omega (arith, c .count-of .ensures), λ j a b. absurd (omega (arith, c .count-of .ensures)))
@@ -41,13 +44,16 @@ sub-in-list c = omega arith
 in-list-requires : tie.Need-in-list-requires Inv-loop μ-loop
 in-list-requires c κs =
     let start = c .before .before .before .before .before in
-    (table-length _ (start .pre .0), omega (arith, start .pre, ports-below _ (start .pre .0), count-below _ (start .pre .0) _ (start .pre .1)))
+    let ports = ports-below _ (start .pre .0) in
+    let few = count-below _ (start .pre .0) _ (start .pre .1) in
+    (table-length _ (start .pre .0), omega (arith, start .pre))
 
 returns : tie.Need-returns Inv-loop μ-loop
 returns c =
-    let start = c .before .before .before .before .before .before .before in
-    let at = c .before .before .before .loop in
-    place-found _ (start .pre .0) _ (start .pre .1) (at .k) (c .before .before .loop-test .taken) (at .inv .1) (sym (c .before .in-list .ensures) ∙ c .if1 .taken) (at .inv .2)
+    let at = c .before .before .before in
+    let start = at .before .before .before .before in
+    place-found _ (start .pre .0) _ (start .pre .1) (at .loop .k) (c .before .before .loop-test .taken) (at .loop .inv .1)
+    (sym (c .before .in-list .ensures) ∙ c .if1 .taken) (at .loop .inv .2)
 
 sub-k : tie.Need-sub-k Inv-loop μ-loop
 sub-k c = omega arith

@@ -57,22 +57,28 @@ add-write-u32-3 c = search needs
 
 write-u32-requires-3 : tie.Need-write-u32-requires-3
 write-u32-requires-3 c κs =
-    omega (arith, c .before .before .before .write-u322 .kept .0, simp length-set at (c .before .before .before .before .before .before .before .write-u32 .kept .0))
+    let two = c .before .before .before in
+    let one = two .before .before .before .before in
+    omega (arith, two .write-u322 .kept .0, simp length-set at (one .write-u32 .kept .0))
 
 same-length : tie.Need-same-length
 same-length c =
-    c .before .before .write-u323 .kept .0 ∙ c .before .before .before .before .before .before .write-u322 .kept .0 ∙ simp length-set at (c .before .before .before .before .before .before .before .before .before .before .write-u32 .kept .0)
+    let three = c .before .before in
+    let two = three .before .before .before .before in
+    let one = two .before .before .before .before in
+    three .write-u323 .kept .0 ∙ two .write-u322 .kept .0 ∙ simp length-set at (one .write-u32 .kept .0)
 
 returns : tie.Need-returns
 returns c =
-    let start = c .before .before .before .before .before .before .before .before .before .before .before .before .before .before .before .before in
-    let at = c .before .before .before .before .before .before .before .before .before .before .before .before .before .before .start-of in
-    let one = c .before .before .before .before .before .before .before .before .before .before .write-u32 in
-    let two = c .before .before .before .before .before .before .write-u322 in
-    let three = c .before .before .write-u323 in
-    new-record (at .result) (start .args .c) (start .args .table .now) (omega arith) (start .pre .1 .0) (start .pre .1 .1)
-    (one .last .0) (two .last .0) (three .last .0) (one .ensures) (two .ensures) (three .ensures)
-    ∙ ap (λ n. put n (entryBytes (newEntry (start .args .c))) (start .args .table .now)) (at .ensures)
+    let three = c .before .before in
+    let two = three .before .before .before .before in
+    let one = two .before .before .before .before in
+    let at = one .before .before .before .before in
+    let start = at .before .before in
+    new-record (at .start-of .result) (start .args .c) (start .args .table .now) (omega arith) (start .pre .1 .0)
+    (start .pre .1 .1) (one .write-u32 .last .0) (two .write-u322 .last .0) (three .write-u323 .last .0)
+    (one .write-u32 .ensures) (two .write-u322 .ensures) (three .write-u323 .ensures)
+    ∙ ap (λ n. put n (entryBytes (newEntry (start .args .c))) (start .args .table .now)) (at .start-of .ensures)
 
 pub put-entry-spec : {M : Type 1} → statement M
 put-entry-spec =

@@ -12,7 +12,8 @@ use Rattle.table.proofs.check.are_entries.Statement.{statement}
 use Rattle.table.proofs.check.are_entries.Tie as tie
 
 abbrev Inv-loop : tie.InvT-loop
-Inv-loop bytes ports clock from to k₀ k = all? (isEntry ports clock bytes) (between from to) ≡ all? (isEntry ports clock bytes) (between k to)
+Inv-loop bytes ports clock from to k₀ k =
+    all? (isEntry ports clock bytes) (between from to) ≡ all? (isEntry ports clock bytes) (between k to)
 
 abbrev μ-loop : tie.MeasureT-loop
 μ-loop bytes ports clock from to k₀ k = to - k
@@ -25,10 +26,12 @@ is-entry-requires c κs = search needs
 
 returns : tie.Need-returns Inv-loop μ-loop
 returns c =
-    let a = c .before .before .before .before .before .args in
-    let l = c .before .before .before .loop in
-    each-stop (isEntry (a .ports) (a .clock) (a .bytes .now)) (l .k) (a .to) _ (l .inv) (c .before .before .loop-test .taken)
-    (sym (c .before .is-entry .ensures) ∙ not-e (c .before .is-entry .result) (c .if1 .taken))
+    let in-loop = c .before .before in
+    let l = in-loop .before .loop in
+    let a = in-loop .before .before .before .args in
+    let asked = c .before .is-entry in
+    each-stop (isEntry (a .ports) (a .clock) (a .bytes .now)) (l .k) (a .to) _ (l .inv)
+    (in-loop .loop-test .taken) (sym (asked .ensures) ∙ not-e (asked .result) (c .if1 .taken))
 
 add-k : tie.Need-add-k Inv-loop μ-loop
 add-k c = omega arith
@@ -38,10 +41,12 @@ loop-less c = omega arith
 
 loop-again : tie.Need-loop-again Inv-loop μ-loop
 loop-again c =
-    let a = c .before .before .before .before .before .args in
-    let l = c .before .before .before .loop in
-    each-next (isEntry (a .ports) (a .clock) (a .bytes .now)) (l .k) (a .to) _ (l .inv) (c .before .before .loop-test .taken)
-    (sym (c .before .is-entry .ensures) ∙ not-false-e (c .before .is-entry .result) (c .if1 .left))
+    let in-loop = c .before .before in
+    let l = in-loop .before .loop in
+    let a = in-loop .before .before .before .args in
+    let asked = c .before .is-entry in
+    each-next (isEntry (a .ports) (a .clock) (a .bytes .now)) (l .k) (a .to) _ (l .inv)
+    (in-loop .loop-test .taken) (sym (asked .ensures) ∙ not-false-e (asked .result) (c .if1 .left))
 
 returns-2 : tie.Need-returns-2 Inv-loop μ-loop
 returns-2 c =

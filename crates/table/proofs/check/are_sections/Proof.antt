@@ -12,7 +12,8 @@ use Rattle.table.proofs.check.are_sections.Statement.{statement}
 use Rattle.table.proofs.check.are_sections.Tie as tie
 
 abbrev Inv-loop : tie.InvT-loop
-Inv-loop bytes ports clock i₀ i = all? (isSection ports clock bytes) (between 0 16) ≡ all? (isSection ports clock bytes) (between i 16)
+Inv-loop bytes ports clock i₀ i =
+    all? (isSection ports clock bytes) (between 0 16) ≡ all? (isSection ports clock bytes) (between i 16)
 
 abbrev μ-loop : tie.MeasureT-loop
 μ-loop bytes ports clock i₀ i = 16 - i
@@ -25,10 +26,12 @@ is-section-requires c κs = search needs
 
 returns : tie.Need-returns Inv-loop μ-loop
 returns c =
-    let a = c .before .before .before .before .before .args in
-    let l = c .before .before .before .loop in
-    each-stop (isSection (a .ports) (a .clock) (a .bytes .now)) (l .i) 16 _ (l .inv) (c .before .before .loop-test .taken)
-    (sym (c .before .is-section .ensures) ∙ not-e (c .before .is-section .result) (c .if1 .taken))
+    let in-loop = c .before .before in
+    let l = in-loop .before .loop in
+    let a = in-loop .before .before .before .args in
+    let asked = c .before .is-section in
+    each-stop (isSection (a .ports) (a .clock) (a .bytes .now)) (l .i) 16 _ (l .inv)
+    (in-loop .loop-test .taken) (sym (asked .ensures) ∙ not-e (asked .result) (c .if1 .taken))
 
 add-i : tie.Need-add-i Inv-loop μ-loop
 add-i c = omega arith
@@ -38,10 +41,12 @@ loop-less c = omega arith
 
 loop-again : tie.Need-loop-again Inv-loop μ-loop
 loop-again c =
-    let a = c .before .before .before .before .before .args in
-    let l = c .before .before .before .loop in
-    each-next (isSection (a .ports) (a .clock) (a .bytes .now)) (l .i) 16 _ (l .inv) (c .before .before .loop-test .taken)
-    (sym (c .before .is-section .ensures) ∙ not-false-e (c .before .is-section .result) (c .if1 .left))
+    let in-loop = c .before .before in
+    let l = in-loop .before .loop in
+    let a = in-loop .before .before .before .args in
+    let asked = c .before .is-section in
+    each-next (isSection (a .ports) (a .clock) (a .bytes .now)) (l .i) 16 _ (l .inv)
+    (in-loop .loop-test .taken) (sym (asked .ensures) ∙ not-false-e (asked .result) (c .if1 .left))
 
 returns-2 : tie.Need-returns-2 Inv-loop μ-loop
 returns-2 c =

@@ -1,4 +1,4 @@
--- The entries passed are at crosspoints of their own, whose outputs are marked (proofs/Seen).
+-- The entries passed are at crosspoints of their own, whose outputs are marked (proofs/Apart).
 use Prim.Native.Nat.{_-_, _<_}
 use mathlib.Core.Bool.{true}
 use mathlib.Core.Path.{_≡_, sym, _∙_, ap}
@@ -6,12 +6,14 @@ use native.Mathlib.Omega.{arith}
 use borrow.Author.Needs.{needs}
 use borrow.Author.Tests.{eq-eqb, ne-eqb}
 use Rattle.model.specs.State.{isCrossed}
+use Rattle.model.specs.Sound.{otherCrosspoint}
 use Rattle.table.specs.Entry.{entryAt}
 use Rattle.table.specs.Check.{inRange}
 use Rattle.table.proofs.Fields.{placeOf-crossed}
 use Rattle.table.proofs.Records.{entriesBetween-each}
 use Rattle.table.proofs.Walks.{inRange-e}
-use Rattle.table.proofs.Seen.{Crossed, crossed-start, crossed-pass, crossed-mark, crossed-stop, crossed-end}
+use Rattle.table.proofs.Seen.{passed-start, passed-end}
+use Rattle.table.proofs.Apart.{crossedTo, Crossed, crossed-skip, crossed-mark, crossed-stop}
 use Rattle.table.proofs.check.crosspoints_differ.Statement.{statement}
 use Rattle.table.proofs.check.crosspoints_differ.Tie as tie
 
@@ -23,22 +25,28 @@ abbrev μ-loop : tie.MeasureT-loop
 
 -- the entry at hand is at a crosspoint
 crossed : (c : tie.Else1 Inv-loop μ-loop)
-    → isCrossed (entryAt (c .before .before .before .before .before .args .bytes .now) (c .before .before .before .loop .k - 1) .place) ≡ true
+    → let at-loop = c .before .before .before in
+    isCrossed (entryAt (at-loop .before .before .args .bytes .now) (at-loop .loop .k - 1) .place) ≡ true
 crossed c =
-    ap isCrossed (sym (c .before .place-of .ensures .1))
-    ∙ placeOf-crossed (c .before .place-of .result)
-    ∙ eq-eqb (c .before .place-of .result) 2 (c .if1 .left)
+    let place = c .before .place-of in
+    ap isCrossed (sym (place .ensures .1)) ∙ placeOf-crossed (place .result) ∙ eq-eqb (place .result) 2 (c .if1 .left)
 
 -- and goes to an output that there can be
 port : (c : tie.After-output-of Inv-loop μ-loop) → c .output-of .result < 16
 port c =
-    let start = c .before .before .before .before .before .before in
-    let l = c .before .before .before .before .loop in
-    let here = entriesBetween-each inRange (start .args .bytes .now) (start .args .from) (start .args .to) (l .k - 1) (start .pre .1) (omega (arith, l .inv .low)) (omega (arith, l .inv .high)) in
-    omega (arith, inRange-e (entryAt (start .args .bytes .now) (l .k - 1)) here .0, c .output-of .ensures)
+    let at-loop = c .before .before .before .before in
+    let start = at-loop .before .before in
+    let a = start .args in
+    let l = at-loop .loop in
+    let range =
+    entriesBetween-each inRange (a .bytes .now) (a .from) (a .to) (l .k - 1) (start .pre .1) (omega (arith, l .inv .low))
+    (omega (arith, l .inv .high)) in
+    omega (arith, inRange-e (entryAt (a .bytes .now) (l .k - 1)) range .0, c .output-of .ensures)
 
 loop-holds : tie.Need-loop-holds Inv-loop μ-loop
-loop-holds c = crossed-start (c .before .args .bytes .now) (c .before .args .from) (c .before .args .to) (c .before .pre .0 .1)
+loop-holds c =
+    let a = c .before .args in
+    passed-start otherCrosspoint crossedTo 16 (a .bytes .now) (a .from) (a .to) (c .before .pre .0 .1)
 
 sub-k : tie.Need-sub-k Inv-loop μ-loop
 sub-k c = omega arith
@@ -51,12 +59,12 @@ loop-less c = omega arith
 
 loop-again : tie.Need-loop-again Inv-loop μ-loop
 loop-again c =
-    let a = c .before .before .before .before .before .args in
-    let l = c .before .before .before .loop in
-    crossed-pass (a .bytes .now) (a .from) (a .to) (l .k) (l .seen) (l .inv) (c .before .before .loop-test .taken)
-    (ap isCrossed (sym (c .before .place-of .ensures .1))
-    ∙ placeOf-crossed (c .before .place-of .result)
-    ∙ ne-eqb (c .before .place-of .result) 2 (c .if1 .taken))
+    let in-loop = c .before .before in
+    let l = in-loop .before .loop in
+    let a = in-loop .before .before .before .args in
+    let place = c .before .place-of in
+    crossed-skip (a .bytes .now) (a .from) (a .to) (l .k) (l .seen) (l .inv) (in-loop .loop-test .taken)
+    (ap isCrossed (sym (place .ensures .1)) ∙ placeOf-crossed (place .result) ∙ ne-eqb (place .result) 2 (c .if1 .taken))
 
 output-of-requires : tie.Need-output-of-requires Inv-loop μ-loop
 output-of-requires c κs = search needs
@@ -69,10 +77,12 @@ array-read-if2 c = port c
 
 returns : tie.Need-returns Inv-loop μ-loop
 returns c =
-    let a = c .before .before .before .before .before .before .before .args in
-    let l = c .before .before .before .before .before .loop in
-    crossed-stop (a .bytes .now) (a .from) (a .to) (l .k) (l .seen) (l .inv) (c .before .before .before .before .loop-test .taken)
-    (crossed (c .before .before)) (c .before .output-of .result) (c .before .output-of .ensures) (port (c .before)) (c .if2 .taken)
+    let output = c .before in
+    let in-loop = output .before .before .before in
+    let l = in-loop .before .loop in
+    let a = in-loop .before .before .before .args in
+    crossed-stop (a .bytes .now) (a .from) (a .to) (l .k) (l .seen) (l .inv) (in-loop .loop-test .taken)
+    (crossed (output .before)) (output .output-of .result) (output .output-of .ensures) (port output) (c .if2 .taken)
 
 array-write-seen : tie.Need-array-write-seen Inv-loop μ-loop
 array-write-seen c = port (c .before)
@@ -82,16 +92,19 @@ loop-less-2 c = omega arith
 
 loop-again-2 : tie.Need-loop-again-2 Inv-loop μ-loop
 loop-again-2 c =
-    let a = c .before .before .before .before .before .before .before .args in
-    let l = c .before .before .before .before .before .loop in
-    crossed-mark (a .bytes .now) (a .from) (a .to) (l .k) (l .seen) (l .inv) (c .before .before .before .before .loop-test .taken)
-    (crossed (c .before .before)) (c .before .output-of .result) (c .before .output-of .ensures) (port (c .before)) (c .if2 .left)
+    let output = c .before in
+    let in-loop = output .before .before .before in
+    let l = in-loop .before .loop in
+    let a = in-loop .before .before .before .args in
+    crossed-mark (a .bytes .now) (a .from) (a .to) (l .k) (l .seen) (l .inv) (in-loop .loop-test .taken)
+    (crossed (output .before)) (output .output-of .result) (output .output-of .ensures) (port output) (c .if2 .left)
 
 returns-2 : tie.Need-returns-2 Inv-loop μ-loop
 returns-2 c =
-    let a = c .before .before .before .args in
     let l = c .before .loop in
-    crossed-end (a .bytes .now) (a .from) (a .to) (l .k) (l .seen) (l .inv) (c .loop-test .left)
+    let a = c .before .before .before .args in
+    passed-end otherCrosspoint crossedTo 16 (a .bytes .now) (a .from) (a .to) (l .k) (l .seen) (l .inv)
+    (c .loop-test .left)
 
 pub crosspoints-differ-spec : {M : Type 1} → statement M
 crosspoints-differ-spec =

@@ -31,10 +31,12 @@ returns : tie.Need-returns
 unfolding flowNumber
 returns c =
     let start = c .before .before .before in
-    let bounds = inRange-e (entryAt (start .args .bytes .now) (start .args .k)) (start .pre .2) in
-    let number : 8 * c .before .output-of .result + c .flow-of .result ≡ flowNumber (entryAt (start .args .bytes .now) (start .args .k)) =
-    omega (arith, c .before .output-of .ensures, c .flow-of .ensures) in
-    (number, omega (arith, bounds .0, bounds .1, c .before .output-of .ensures, c .flow-of .ensures))
+    let e = entryAt (start .args .bytes .now) (start .args .k) in
+    let output = c .before .output-of in
+    let flow = c .flow-of in
+    let bounds = inRange-e e (start .pre .2) in
+    let number : 8 * output .result + flow .result ≡ flowNumber e = omega (arith, output .ensures, flow .ensures) in
+    (number, omega (arith, bounds .0, bounds .1, output .ensures, flow .ensures))
 
 pub flow-number-spec : {M : Type 1} → statement M
 flow-number-spec =

@@ -23,28 +23,37 @@ abbrev μ-loop : tie.MeasureT-loop
 μ-loop bytes from to seen₀ next₀ k₀ seen next k = k
 
 -- the entries are of one section
-good : (c : tie.Start Inv-loop μ-loop) (g : Entry) → List·Memᴰ g (entriesBetween (c .args .bytes .now) (c .args .from) (c .args .to))
+good : (c : tie.Start Inv-loop μ-loop) (g : Entry)
+    → List·Memᴰ g (entriesBetween (c .args .bytes .now) (c .args .from) (c .args .to))
     → (inRange g ≡ true) × (g .cell .input ≡ c .args .from / 64)
-good c = section-good (c .args .bytes .now) (c .args .from) (c .args .to) (c .pre .1 .0 .0) (c .pre .1 .0 .1) (c .pre .1 .1)
+good c =
+    let a = c .args in
+    section-good (a .bytes .now) (a .from) (a .to) (c .pre .1 .0 .0) (c .pre .1 .0 .1) (c .pre .1 .1)
 
 -- the entry at hand is in the list
 listed : (c : tie.Else1 Inv-loop μ-loop)
-    → isListed (entryAt (c .before .before .before .before .before .args .bytes .now) (c .before .before .before .loop .k - 1) .place) ≡ true
+    → let at-loop = c .before .before .before in
+    isListed (entryAt (at-loop .before .before .args .bytes .now) (at-loop .loop .k - 1) .place) ≡ true
 listed c =
-    ap isListed (sym (c .before .place-of .ensures .1))
-    ∙ placeOf-listed (c .before .place-of .result)
-    ∙ eq-eqb (c .before .place-of .result) 1 (c .if1 .left)
+    let place = c .before .place-of in
+    ap isListed (sym (place .ensures .1)) ∙ placeOf-listed (place .result) ∙ eq-eqb (place .result) 1 (c .if1 .left)
 
 -- and its fields are in range
-range : (c : tie.Else1 Inv-loop μ-loop) → inRange (entryAt (c .before .before .before .before .before .args .bytes .now) (c .before .before .before .loop .k - 1)) ≡ true
+range : (c : tie.Else1 Inv-loop μ-loop)
+    → let at-loop = c .before .before .before in
+    inRange (entryAt (at-loop .before .before .args .bytes .now) (at-loop .loop .k - 1)) ≡ true
 range c =
-    let start = c .before .before .before .before .before in
-    let l = c .before .before .before .loop in
-    entriesBetween-each inRange (start .args .bytes .now) (start .args .from) (start .args .to) (l .k - 1) (start .pre .1 .1)
-    (omega (arith, l .inv .low)) (omega (arith, l .inv .high))
+    let at-loop = c .before .before .before in
+    let start = at-loop .before .before in
+    let a = start .args in
+    let l = at-loop .loop in
+    entriesBetween-each inRange (a .bytes .now) (a .from) (a .to) (l .k - 1) (start .pre .1 .1) (omega (arith, l .inv .low))
+    (omega (arith, l .inv .high))
 
 loop-holds : tie.Need-loop-holds Inv-loop μ-loop
-loop-holds c = flows-start (c .before .args .bytes .now) (c .before .args .from) (c .before .args .to) (c .before .pre .0 .1)
+loop-holds c =
+    let a = c .before .args in
+    flows-start (a .bytes .now) (a .from) (a .to) (c .before .pre .0 .1)
 
 sub-k : tie.Need-sub-k Inv-loop μ-loop
 sub-k c = omega arith
@@ -57,12 +66,12 @@ loop-less c = omega arith
 
 loop-again : tie.Need-loop-again Inv-loop μ-loop
 loop-again c =
-    let a = c .before .before .before .before .before .args in
-    let l = c .before .before .before .loop in
-    flows-pass (a .bytes .now) (a .from) (a .to) (l .k) (l .seen) (l .next) (l .inv) (c .before .before .loop-test .taken)
-    (ap isListed (sym (c .before .place-of .ensures .1))
-    ∙ placeOf-listed (c .before .place-of .result)
-    ∙ ne-eqb (c .before .place-of .result) 1 (c .if1 .taken))
+    let in-loop = c .before .before in
+    let l = in-loop .before .loop in
+    let a = in-loop .before .before .before .args in
+    let place = c .before .place-of in
+    flows-pass (a .bytes .now) (a .from) (a .to) (l .k) (l .seen) (l .next) (l .inv) (in-loop .loop-test .taken)
+    (ap isListed (sym (place .ensures .1)) ∙ placeOf-listed (place .result) ∙ ne-eqb (place .result) 1 (c .if1 .taken))
 
 flow-number-requires : tie.Need-flow-number-requires Inv-loop μ-loop
 flow-number-requires c κs = (c .before .before .before .before .before .pre .0 .0, omega arith, range c)
@@ -75,11 +84,14 @@ stands-apart-requires c κs = search needs
 
 returns : tie.Need-returns Inv-loop μ-loop
 returns c =
-    let a = c .before .before .before .before .before .before .before .before .args in
-    let l = c .before .before .before .before .before .before .loop in
-    let number = c .before .before .flow-number in
-    flows-stop (a .bytes .now) (a .from) (a .to) (l .k) (l .seen) (l .next) (l .inv) (c .before .before .before .before .before .loop-test .taken)
-    (listed (c .before .before .before)) (good (c .before .before .before .before .before .before .before .before)) (number .result) (number .ensures .0) (number .ensures .1)
+    let number = c .before .before in
+    let flow = number .flow-number in
+    let in-loop = number .before .before .before in
+    let l = in-loop .before .loop in
+    let start = in-loop .before .before .before in
+    let a = start .args in
+    flows-stop (a .bytes .now) (a .from) (a .to) (l .k) (l .seen) (l .next) (l .inv) (in-loop .loop-test .taken)
+    (listed (number .before)) (good start) (flow .result) (flow .ensures .0) (flow .ensures .1)
     (sym (c .before .stands-apart .ensures) ∙ c .if2 .taken)
 
 array-write-seen : tie.Need-array-write-seen Inv-loop μ-loop
@@ -90,11 +102,14 @@ loop-less-2 c = omega arith
 
 loop-again-2 : tie.Need-loop-again-2 Inv-loop μ-loop
 loop-again-2 c =
-    let a = c .before .before .before .before .before .before .before .before .args in
-    let l = c .before .before .before .before .before .before .loop in
-    let number = c .before .before .flow-number in
-    flows-mark (a .bytes .now) (a .from) (a .to) (l .k) (l .seen) (l .next) (l .inv) (c .before .before .before .before .before .loop-test .taken)
-    (listed (c .before .before .before)) (good (c .before .before .before .before .before .before .before .before)) (number .result) (number .ensures .0) (number .ensures .1) (c .before .before .before .before .before .before .before .before .pre .0 .2)
+    let number = c .before .before in
+    let flow = number .flow-number in
+    let in-loop = number .before .before .before in
+    let l = in-loop .before .loop in
+    let start = in-loop .before .before .before in
+    let a = start .args in
+    flows-mark (a .bytes .now) (a .from) (a .to) (l .k) (l .seen) (l .next) (l .inv) (in-loop .loop-test .taken)
+    (listed (number .before)) (good start) (flow .result) (flow .ensures .0) (flow .ensures .1) (start .pre .0 .2)
     (sym (c .before .stands-apart .ensures) ∙ c .if2 .left)
 
 returns-2 : tie.Need-returns-2 Inv-loop μ-loop

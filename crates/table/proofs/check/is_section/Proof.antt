@@ -17,26 +17,33 @@ use Rattle.table.proofs.check.is_section.Tie as tie
 
 fails : (c : tie.Start)
     → let a = c .args in
-    (Asked (a .ports) (a .clock) (a .bytes .now) (a .input) → ⊥) → false ≡ isSection (a .ports) (a .clock) (a .bytes .now) (a .input)
+    (Asked (a .ports) (a .clock) (a .bytes .now) (a .input) → ⊥)
+    → false ≡ isSection (a .ports) (a .clock) (a .bytes .now) (a .input)
 fails c broken =
     let a = c .args in
     sym (by-fail _ (λ t. broken (isSection-asked (a .ports) (a .clock) (a .bytes .now) (a .input) t)))
 
 -- it has at most 64 entries
-few : (c : tie.Else1) → getD (c .before .before .before .before .args .bytes .now) (16 + c .before .before .before .before .args .input) 0 ≤ 64
+few : (c : tie.Else1)
+    → let a = c .before .before .before .before .args in
+    getD (a .bytes .now) (16 + a .input) 0 ≤ 64
 few c =
     let a = c .before .before .before .before .args in
-    roomOf-le (a .ports) (a .input) (getD (a .bytes .now) (16 + a .input) 0) (omega (arith, c .if1 .left, c .before .room .ensures))
+    roomOf-le (a .ports) (a .input) (getD (a .bytes .now) (16 + a .input) 0)
+    (omega (arith, c .if1 .left, c .before .room .ensures))
 
 -- and they are in range
 ranges : (c : tie.Else2)
     → let a = c .before .before .before .before .before .before .args in
-    all? inRange (entriesBetween (a .bytes .now) (64 * a .input) (64 * a .input + getD (a .bytes .now) (16 + a .input) 0)) ≡ true
+    let first = 64 * a .input in
+    all? inRange (entriesBetween (a .bytes .now) first (first + getD (a .bytes .now) (16 + a .input) 0)) ≡ true
 ranges c =
-    let a = c .before .before .before .before .before .before .args in
-    let end = 64 * a .input + getD (a .bytes .now) (16 + a .input) 0 in
-    entries-inRange (a .ports) (a .clock) (a .bytes .now) (64 * a .input) end (c .before .before .before .before .before .before .pre .1)
-    (sym (c .before .are-entries .ensures) ∙ not-false-e (c .before .are-entries .result) (c .if2 .left))
+    let start = c .before .before .before .before .before .before in
+    let a = start .args in
+    let first = 64 * a .input in
+    let asked = c .before .are-entries in
+    entries-inRange (a .ports) (a .clock) (a .bytes .now) first (first + getD (a .bytes .now) (16 + a .input) 0)
+    (start .pre .1) (sym (asked .ensures) ∙ not-false-e (asked .result) (c .if2 .left))
 
 add-count : tie.Need-add-count
 add-count c = search needs
@@ -65,56 +72,90 @@ are-entries-requires c κs = (c .before .before .before .before .pre .0, omega (
 
 returns-2 : tie.Need-returns-2
 unfolding sectionAt countIn
-returns-2 c = fails (c .before .before .before .before .before .before) (λ q. clash (q .entries) (sym (c .before .are-entries .ensures) ∙ not-e (c .before .are-entries .result) (c .if2 .taken)))
+returns-2 c =
+    let asked = c .before .are-entries in
+    fails (c .before .before .before .before .before .before)
+    (λ q. clash (q .entries) (sym (asked .ensures) ∙ not-e (asked .result) (c .if2 .taken)))
 
 add-are-unused : tie.Need-add-are-unused
 add-are-unused c = search needs
 
 are-unused-requires : tie.Need-are-unused-requires
-are-unused-requires c κs = (c .before .before .before .before .before .before .pre .0, omega (arith, few (c .before .before)))
+are-unused-requires c κs =
+    let else1 = c .before .before in
+    (else1 .before .before .before .before .pre .0, omega (arith, few else1))
 
 returns-3 : tie.Need-returns-3
 unfolding sectionAt countIn
-returns-3 c = fails (c .before .before .before .before .before .before .before .before) (λ q. clash (q .unused) (sym (c .before .are-unused .ensures) ∙ not-e (c .before .are-unused .result) (c .if3 .taken)))
+returns-3 c =
+    let asked = c .before .are-unused in
+    fails (c .before .before .before .before .before .before .before .before)
+    (λ q. clash (q .unused) (sym (asked .ensures) ∙ not-e (asked .result) (c .if3 .taken)))
 
 flows-together-requires : tie.Need-flows-together-requires
 flows-together-requires c κs =
-    let small = few (c .before .before .before .before) in
-    ((c .before .before .before .before .before .before .before .before .pre .0, omega arith, omega arith), ((omega arith, omega arith), ranges (c .before .before)))
+    let else2 = c .before .before in
+    let else1 = else2 .before .before in
+    let small = few else1 in
+    let start = else1 .before .before .before .before in
+    ((start .pre .0, omega arith, omega arith), ((omega arith, omega arith), ranges else2))
 
 returns-4 : tie.Need-returns-4
 unfolding sectionAt countIn
-returns-4 c = fails (c .before .before .before .before .before .before .before .before .before .before) (λ q. clash (q .lists) (sym (c .before .flows-together .ensures) ∙ not-e (c .before .flows-together .result) (c .if4 .taken)))
+returns-4 c =
+    let asked = c .before .flows-together in
+    fails (c .before .before .before .before .before .before .before .before .before .before)
+    (λ q. clash (q .lists) (sym (asked .ensures) ∙ not-e (asked .result) (c .if4 .taken)))
 
 slots-differ-requires : tie.Need-slots-differ-requires
-slots-differ-requires c κs = (c .before .before .before .before .before .before .before .before .before .before .pre .0, omega (arith, few (c .before .before .before .before .before .before)))
+slots-differ-requires c κs =
+    let else1 = c .before .before .before .before .before .before in
+    let small = few else1 in
+    (else1 .before .before .before .before .pre .0, omega arith, omega arith)
 
 returns-5 : tie.Need-returns-5
 unfolding sectionAt countIn
-returns-5 c = fails (c .before .before .before .before .before .before .before .before .before .before .before .before) (λ q. clash (q .slots) (sym (c .before .slots-differ .ensures) ∙ not-e (c .before .slots-differ .result) (c .if5 .taken)))
+returns-5 c =
+    let asked = c .before .slots-differ in
+    fails (c .before .before .before .before .before .before .before .before .before .before .before .before)
+    (λ q. clash (q .slots) (sym (asked .ensures) ∙ not-e (asked .result) (c .if5 .taken)))
 
 crosspoints-differ-requires : tie.Need-crosspoints-differ-requires
 crosspoints-differ-requires c κs =
-    let small = few (c .before .before .before .before .before .before .before .before) in
-    ((c .before .before .before .before .before .before .before .before .before .before .before .before .pre .0, omega arith, omega arith), ranges (c .before .before .before .before .before .before))
+    let else2 = c .before .before .before .before .before .before in
+    let else1 = else2 .before .before in
+    let small = few else1 in
+    let start = else1 .before .before .before .before in
+    ((start .pre .0, omega arith, omega arith), ranges else2)
 
 returns-6 : tie.Need-returns-6
 unfolding sectionAt countIn
 returns-6 c =
-    let a = c .before .before .before .before .before .before .before .before .before .before .before .before .before .args in
+    let else5 = c .before in
+    let slots = else5 .before in
+    let else4 = slots .before in
+    let flows = else4 .before in
+    let else3 = flows .before in
+    let unused = else3 .before in
+    let else2 = unused .before in
+    let entries = else2 .before in
+    let else1 = entries .before in
+    let start = else1 .before .before .before .before in
+    let a = start .args in
+    let bs = a .bytes .now in
     let last = c .crosspoints-differ in
-    same (last .result) (isSection (a .ports) (a .clock) (a .bytes .now) (a .input))
+    same (last .result) (isSection (a .ports) (a .clock) bs (a .input))
     (λ t.
-    asked-isSection (a .ports) (a .clock) (a .bytes .now) (a .input)
+    asked-isSection (a .ports) (a .clock) bs (a .input)
     (record {
-      count = omega (arith, c .before .before .before .before .before .before .before .before .before .before .room .ensures, c .before .before .before .before .before .before .before .before .before .if1 .left);
-      entries = sym (c .before .before .before .before .before .before .before .before .are-entries .ensures) ∙ not-false-e (c .before .before .before .before .before .before .before .before .are-entries .result) (c .before .before .before .before .before .before .before .if2 .left);
-      unused = sym (c .before .before .before .before .before .before .are-unused .ensures) ∙ not-false-e (c .before .before .before .before .before .before .are-unused .result) (c .before .before .before .before .before .if3 .left);
-      lists = sym (c .before .before .before .before .flows-together .ensures) ∙ not-false-e (c .before .before .before .before .flows-together .result) (c .before .before .before .if4 .left);
-      slots = sym (c .before .before .slots-differ .ensures) ∙ not-false-e (c .before .before .slots-differ .result) (c .before .if5 .left);
+      count = omega (arith, else1 .before .room .ensures, else1 .if1 .left);
+      entries = sym (entries .are-entries .ensures) ∙ not-false-e (entries .are-entries .result) (else2 .if2 .left);
+      unused = sym (unused .are-unused .ensures) ∙ not-false-e (unused .are-unused .result) (else3 .if3 .left);
+      lists = sym (flows .flows-together .ensures) ∙ not-false-e (flows .flows-together .result) (else4 .if4 .left);
+      slots = sym (slots .slots-differ .ensures) ∙ not-false-e (slots .slots-differ .result) (else5 .if5 .left);
       crosspoints = sym (last .ensures) ∙ t;
     }))
-    (λ t. last .ensures ∙ isSection-asked (a .ports) (a .clock) (a .bytes .now) (a .input) t .crosspoints)
+    (λ t. last .ensures ∙ isSection-asked (a .ports) (a .clock) bs (a .input) t .crosspoints)
 
 pub is-section-spec : {M : Type 1} → statement M
 is-section-spec =

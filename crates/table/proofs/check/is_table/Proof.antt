@@ -41,29 +41,49 @@ read-u32-requires-3 : tie.Need-read-u32-requires-3
 read-u32-requires-3 c κs = search needs
 
 returns-4 : tie.Need-returns-4
-returns-4 c = fails (c .before .before .before .before .before .before .before .before .before) (λ t. c .if4 .taken (c .before .read-u323 .ensures ∙ t .zeros))
+returns-4 c =
+    fails (c .before .before .before .before .before .before .before .before .before) (λ t. c .if4 .taken (c .before .read-u323 .ensures ∙ t .zeros))
 
 read-u32-requires-4 : tie.Need-read-u32-requires-4
 read-u32-requires-4 c κs = search needs
 
 are-sections-requires : tie.Need-are-sections-requires
 are-sections-requires c κs =
-    let good = sym (c .before .before .before .before .ports-in-range .ensures) ∙ not-false-e (c .before .before .before .before .ports-in-range .result) (c .before .before .before .if3 .left) in
-    (c .before .before .before .before .before .before .before .before .if1 .left, portsInRange-e (c .before .before .before .before .before .read-u322 .result) good)
+    let else3 = c .before .before .before in
+    let asked = else3 .before .ports-in-range in
+    let ports = else3 .before .before in (
+      ports .before .before .before .if1 .left,
+      portsInRange-e (ports .read-u322 .result)
+          (sym (asked .ensures) ∙ not-false-e (asked .result) (else3 .if3 .left)),
+    )
 
 returns-5 : tie.Need-returns-5
 returns-5 c =
-    let bs = c .before .before .before .before .before .before .before .before .before .before .before .args .bytes .now in
-    let r = c .are-sections .result in
-    let whole = c .are-sections .ensures ∙ ap₂ (λ ports clock. all? (isSection ports clock bs) (between 0 16)) (c .before .before .before .before .before .before .read-u322 .ensures) (c .before .read-u324 .ensures) in
-    same r (isTable bs)
+    let clock = c .before in
+    let else4 = clock .before in
+    let zeros = else4 .before in
+    let else3 = zeros .before in
+    let asked = else3 .before .ports-in-range in
+    let ports = else3 .before .before in
+    let else2 = ports .before in
+    let layout = else2 .before in
+    let else1 = layout .before in
+    let bs = else1 .before .before .args .bytes .now in
+    let whole =
+    c .are-sections .ensures
+    ∙ ap₂ (λ ports clock. all? (isSection ports clock bs) (between 0 16)) (ports .read-u322 .ensures)
+    (clock .read-u324 .ensures) in
+    same (c .are-sections .result) (isTable bs)
     (λ t.
-    isTable-i bs (known-bytes bs (c .before .before .before .before .before .before .before .before .before .before .shared-slice-known .given))
+    isTable-i bs (known-bytes bs (else1 .before .shared-slice-known .given))
     (record {
-      size = c .before .before .before .before .before .before .before .before .before .if1 .left;
-      layout = sym (c .before .before .before .before .before .before .before .before .read-u32 .ensures) ∙ c .before .before .before .before .before .before .before .if2 .left;
-      ports = ap portsInRange (sym (c .before .before .before .before .before .before .read-u322 .ensures)) ∙ sym (c .before .before .before .before .before .ports-in-range .ensures) ∙ not-false-e (c .before .before .before .before .before .ports-in-range .result) (c .before .before .before .before .if3 .left);
-      zeros = sym (c .before .before .before .read-u323 .ensures) ∙ c .before .before .if4 .left;
+      size = else1 .if1 .left;
+      layout = sym (layout .read-u32 .ensures) ∙ else2 .if2 .left;
+      ports =
+          ap portsInRange (sym (ports .read-u322 .ensures))
+          ∙ sym (asked .ensures)
+          ∙ not-false-e (asked .result) (else3 .if3 .left);
+      zeros = sym (zeros .read-u323 .ensures) ∙ else4 .if4 .left;
       sections = sym whole ∙ t;
     }))
     (λ t. whole ∙ isTable-e bs t .sections)

@@ -19,11 +19,15 @@ read-u64-requires c κs = search needs
 
 returns : tie.Need-returns
 returns c =
-    let a = c .before .before .before .before .args in
-    let bs = a .bytes .now in
-    let bytes = known-bytes bs (c .before .before .before .shared-slice-known .given) in
-    let low = c .before .read-u64 .ensures ∙ ap (λ n. numberAt 8 n bs) (c .before .before .start-of .ensures) in
-    sym (by-fail _ (λ t. c .if1 .taken (low ∙ isUnused-low bs bytes (c .before .before .before .before .pre .0) (a .k) (c .before .before .before .before .pre .1) t)))
+    let at = c .before .before in
+    let known = at .before in
+    let start = known .before in
+    let bs = start .args .bytes .now in
+    let bytes = known-bytes bs (known .shared-slice-known .given) in
+    let low = c .before .read-u64 .ensures ∙ ap (λ n. numberAt 8 n bs) (at .start-of .ensures) in
+    sym
+    (by-fail _
+    (λ t. c .if1 .taken (low ∙ isUnused-low bs bytes (start .pre .0) (start .args .k) (start .pre .1) t)))
 
 start-of-requires-2 : tie.Need-start-of-requires-2
 start-of-requires-2 c κs = search needs
@@ -36,16 +40,19 @@ read-u64-requires-2 c κs = search needs
 
 returns-2 : tie.Need-returns-2
 returns-2 c =
-    let a = c .before .before .before .before .before .before .args in
-    let bs = a .bytes .now in
-    let bytes = known-bytes bs (c .before .before .before .before .before .shared-slice-known .given) in
-    let low = c .before .before .before .read-u64 .ensures ∙ ap (λ n. numberAt 8 n bs) (c .before .before .before .before .start-of .ensures) in
+    let else1 = c .before .before in
+    let at = else1 .before .before in
+    let known = at .before in
+    let start = known .before in
+    let bs = start .args .bytes .now in
+    let k = start .args .k in
+    let bytes = known-bytes bs (known .shared-slice-known .given) in
+    let low = else1 .before .read-u64 .ensures ∙ ap (λ n. numberAt 8 n bs) (at .start-of .ensures) in
     let high = c .read-u642 .ensures ∙ ap (λ n. numberAt 8 (n + 8) bs) (c .before .start-of2 .ensures) in
-    same (eqb (c .read-u642 .result) 0) (isUnused bs (a .k))
+    same (eqb (c .read-u642 .result) 0) (isUnused bs k)
     (λ t.
-    isUnused-i bs bytes (c .before .before .before .before .before .before .pre .0) (a .k) (c .before .before .before .before .before .before .pre .1) (sym low ∙ c .before .before .if1 .left)
-    (sym high ∙ eqb-true _ 0 t))
-    (λ t. eq-eqb _ 0 (high ∙ isUnused-high bs bytes (c .before .before .before .before .before .before .pre .0) (a .k) (c .before .before .before .before .before .before .pre .1) t))
+    isUnused-i bs bytes (start .pre .0) k (start .pre .1) (sym low ∙ else1 .if1 .left) (sym high ∙ eqb-true _ 0 t))
+    (λ t. eq-eqb _ 0 (high ∙ isUnused-high bs bytes (start .pre .0) k (start .pre .1) t))
 
 pub is-unused-spec : {M : Type 1} → statement M
 is-unused-spec =

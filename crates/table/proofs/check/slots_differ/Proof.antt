@@ -1,56 +1,71 @@
--- What is left to be looked at has the answer of the whole.
-use Prim.Native.Nat.{_-_}
-use mathlib.Core.Path.{_≡_, refl, sym, _∙_}
+-- The entries passed have slots of their own, whose low bits are marked (proofs/Apart).
+use Prim.Native.Nat.{_%_}
+use mathlib.Core.Path.{sym, _∙_, ap}
 use native.Mathlib.Omega.{arith}
 use borrow.Author.Needs.{needs}
-use Rattle.laws.specs.Lists.{pairwise}
-use Rattle.laws.proofs.Tests.{not-e, not-false-e}
 use Rattle.model.specs.Sound.{otherSlot}
-use Rattle.table.specs.Records.{entriesBetween}
-use Rattle.table.proofs.Walks.{pairs-stop, pairs-next, pairs-end}
+use Rattle.table.proofs.Seen.{passed-start, passed-end}
+use Rattle.table.proofs.Apart.{slotIs, Slots, slots-mark, slots-stop}
 use Rattle.table.proofs.check.slots_differ.Statement.{statement}
 use Rattle.table.proofs.check.slots_differ.Tie as tie
 
 abbrev Inv-loop : tie.InvT-loop
-Inv-loop bytes from to k₀ k = pairwise otherSlot (entriesBetween bytes from to) ≡ pairwise otherSlot (entriesBetween bytes k to)
+Inv-loop bytes from to seen₀ k₀ seen k = Slots bytes from to k seen
 
 abbrev μ-loop : tie.MeasureT-loop
-μ-loop bytes from to k₀ k = to - k
+μ-loop bytes from to seen₀ k₀ seen k = k
 
 loop-holds : tie.Need-loop-holds Inv-loop μ-loop
-loop-holds c = refl
+loop-holds c =
+    let a = c .before .args in
+    passed-start otherSlot slotIs 256 (a .bytes .now) (a .from) (a .to) (c .before .pre .1)
 
-add-slot-differs : tie.Need-add-slot-differs Inv-loop μ-loop
-add-slot-differs c = omega arith
+sub-k : tie.Need-sub-k Inv-loop μ-loop
+sub-k c = omega arith
 
-slot-differs-requires : tie.Need-slot-differs-requires Inv-loop μ-loop
-slot-differs-requires c κs = search needs
+slot-of-requires : tie.Need-slot-of-requires Inv-loop μ-loop
+slot-of-requires c κs = search needs
+
+cast-low : tie.Need-cast-low Inv-loop μ-loop
+cast-low c = search needs
+
+array-read-shares-slot : tie.Need-array-read-shares-slot Inv-loop μ-loop
+array-read-shares-slot c = omega arith
+
+shares-slot-requires : tie.Need-shares-slot-requires Inv-loop μ-loop
+shares-slot-requires c κs = search needs
 
 returns : tie.Need-returns Inv-loop μ-loop
 returns c =
-    let a = c .before .before .before .before .before .args in
-    let l = c .before .before .before .loop in
-    pairs-stop otherSlot (a .bytes .now) (l .k) (a .to) _ (l .inv) (c .before .before .loop-test .taken)
-    (sym (c .before .slot-differs .ensures) ∙ not-e (c .before .slot-differs .result) (c .if1 .taken))
+    let in-loop = c .before .before .before in
+    let l = in-loop .before .loop in
+    let a = in-loop .before .before .before .args in
+    let slot = c .before .before .slot-of in
+    slots-stop (a .bytes .now) (a .from) (a .to) (l .k) (l .seen) (l .inv) (in-loop .loop-test .taken)
+    (slot .result % 256) (ap (λ n. n % 256) (slot .ensures)) (omega arith)
+    (sym (c .before .shares-slot .ensures) ∙ c .if1 .taken)
 
-add-k : tie.Need-add-k Inv-loop μ-loop
-add-k c = omega arith
+array-write-seen : tie.Need-array-write-seen Inv-loop μ-loop
+array-write-seen c = omega arith
 
 loop-less : tie.Need-loop-less Inv-loop μ-loop
 loop-less c = omega arith
 
 loop-again : tie.Need-loop-again Inv-loop μ-loop
 loop-again c =
-    let a = c .before .before .before .before .before .args in
-    let l = c .before .before .before .loop in
-    pairs-next otherSlot (a .bytes .now) (l .k) (a .to) _ (l .inv) (c .before .before .loop-test .taken)
-    (sym (c .before .slot-differs .ensures) ∙ not-false-e (c .before .slot-differs .result) (c .if1 .left))
+    let in-loop = c .before .before .before in
+    let l = in-loop .before .loop in
+    let a = in-loop .before .before .before .args in
+    let slot = c .before .before .slot-of in
+    slots-mark (a .bytes .now) (a .from) (a .to) (l .k) (l .seen) (l .inv) (in-loop .loop-test .taken)
+    (slot .result % 256) (ap (λ n. n % 256) (slot .ensures)) (omega arith)
+    (sym (c .before .shares-slot .ensures) ∙ c .if1 .left)
 
 returns-2 : tie.Need-returns-2 Inv-loop μ-loop
 returns-2 c =
     let a = c .before .before .before .args in
     let l = c .before .loop in
-    pairs-end otherSlot (a .bytes .now) (l .k) (a .to) _ (l .inv) (c .loop-test .left)
+    passed-end otherSlot slotIs 256 (a .bytes .now) (a .from) (a .to) (l .k) (l .seen) (l .inv) (c .loop-test .left)
 
 pub slots-differ-spec : {M : Type 1} → statement M
 slots-differ-spec =
@@ -59,10 +74,13 @@ slots-differ-spec =
     Inv-loop
     μ-loop
     loop-holds
-    add-slot-differs
-    slot-differs-requires
+    sub-k
+    slot-of-requires
+    cast-low
+    array-read-shares-slot
+    shares-slot-requires
     returns
-    add-k
+    array-write-seen
     loop-less
     loop-again
     returns-2)

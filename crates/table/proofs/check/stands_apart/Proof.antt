@@ -28,26 +28,32 @@ same-flow-requires c κs = search needs
 
 returns-2 : tie.Need-returns-2
 returns-2 c =
-    let a = c .before .before .before .before .before .before .args in
-    let same = c .before .same-flow .ensures ∙ ap₂ sameFlow (c .before .before .before .cell-of .ensures) (c .before .before .cell-of2 .ensures) in
+    let same = c .before in
+    let that = same .before in
+    let this = that .before in
+    let else1 = this .before in
+    let a = else1 .before .before .args in
+    let flow = same .same-flow .ensures ∙ ap₂ sameFlow (this .cell-of .ensures) (that .cell-of2 .ensures) in
     sym
     (standsApart-other (a .seen) (entryAt (a .bytes .now) (a .k)) (entryAt (a .bytes .now) (a .next))
-    (not-false-e (a .seen) (c .before .before .before .before .if1 .left)) (sym same ∙ not-e (c .before .same-flow .result) (c .if2 .taken)))
+    (not-false-e (a .seen) (else1 .if1 .left)) (sym flow ∙ not-e (same .same-flow .result) (c .if2 .taken)))
 
 over-requires : tie.Need-over-requires
 over-requires c κs = search needs
 
 returns-3 : tie.Need-returns-3
 returns-3 c =
-    let a = c .before .before .before .before .before .before .before .args in
-    let this = c .before .before .before .before .cell-of .ensures in
-    let that = c .before .before .before .cell-of2 .ensures in
-    let same = c .before .before .same-flow .ensures ∙ ap₂ sameFlow this that in
-    ap not (c .over .ensures ∙ ap₂ over this that)
+    let else2 = c .before in
+    let same = else2 .before in
+    let that = same .before in
+    let this = that .before in
+    let else1 = this .before in
+    let a = else1 .before .before .args in
+    let flow = same .same-flow .ensures ∙ ap₂ sameFlow (this .cell-of .ensures) (that .cell-of2 .ensures) in
+    ap not (c .over .ensures ∙ ap₂ over (this .cell-of .ensures) (that .cell-of2 .ensures))
     ∙ sym
     (standsApart-flow (a .seen) (entryAt (a .bytes .now) (a .k)) (entryAt (a .bytes .now) (a .next))
-    (not-false-e (a .seen) (c .before .before .before .before .before .if1 .left))
-    (sym same ∙ not-false-e (c .before .before .same-flow .result) (c .before .if2 .left)))
+    (not-false-e (a .seen) (else1 .if1 .left)) (sym flow ∙ not-false-e (same .same-flow .result) (else2 .if2 .left)))
 
 pub stands-apart-spec : {M : Type 1} → statement M
 stands-apart-spec =

@@ -1,0 +1,27 @@
+-- `crossbar::check` meets its contract.
+-- Assumes nothing.
+use mathlib.Core.Path.{sym, _∙_}
+use Rattle.crossbar.proofs.Fresh.{check-passes, check-refuses}
+use borrow.Author.Needs.{needs}
+use Rattle.crossbar.proofs.check.Statement.{statement}
+use Rattle.crossbar.proofs.check.Tie as tie
+use Rattle.crossbar.proofs.check.Reads as reads
+use Rattle.crossbar.proofs.check.Lts as lts
+use Rattle.cell.proofs.Refusal.number.Reads as number-reads
+use Rattle.table.proofs.check.is_table.Reads as is-table-reads
+
+is-table-requires : tie.Need-is-table-requires
+is-table-requires c κs = search needs
+
+returns : tie.Need-returns
+returns c = check-passes _ (sym (c .before .is-table .ensures) ∙ c .if1 .taken)
+
+number-requires : tie.Need-number-requires
+number-requires c κs = search needs
+
+returns-2 : tie.Need-returns-2
+returns-2 c =
+    check-refuses _ _ (sym (c .before .before .is-table .ensures) ∙ c .before .if1 .left) (c .number .ensures)
+
+pub check-spec : {M : Type 1} → statement M
+check-spec = tie.close (tie.spec is-table-requires returns number-requires returns-2)
