@@ -233,7 +233,8 @@ module _ {table : List ℕ} (r : Readable table) where
     row : i < 16
     row = let b = r .ports in let c = entry .input in omega arith
 
-    pub agrees-send : crossedAt places k ≡ false → 1024 ≤ crosspointAt cross i o → Agrees table (set places k 2) (put cross i o k)
+    pub agrees-send : crossedAt places k ≡ false → 1024 ≤ crosspointAt cross i o
+        → Agrees table (set places k 2) (put cross i o k)
     agrees-send out empty = agrees-i r (set places k 2) (put cross i o k) filled real
       where
         filled : Filled r (set places k 2) (put cross i o k)
@@ -283,7 +284,8 @@ module _ {table : List ℕ} (r : Readable table) where
             go : (eqb j k ≡ true) ⊎ (eqb j k ≡ false)
                 → crosspointAt (put cross i o nowhere) (j / cellLimit) (outputAt table j) ≡ j
             go (inl s) =
-                absurd (clash h (ap (crossedAt (set places k 3)) (eqb-true j k s) ∙ crossed-same places k 3 inside ∙ buffered-byte))
+                absurd (clash h
+                (ap (crossedAt (set places k 3)) (eqb-true j k s) ∙ crossed-same places k 3 inside ∙ buffered-byte))
             go (inr s) =
                 let old : crosspointAt cross (j / cellLimit) (outputAt table j) ≡ j =
                 agrees-filled r places cross a j e (sym (crossed-other places k 3 j (eqb-false j k s)) ∙ h) in
@@ -347,7 +349,8 @@ module _ {table : List ℕ} (r : Readable table) where
             → Agrees table (set (written f 2 n places) (f n) 2)
             (put (sending table f n cross) (f n / cellLimit) (outputAt table (f n)) (f n))
         go (inl t) rec =
-            agrees-send (written f 2 n places) (sending table f n cross) (length-now 2 n) (square-sending table f cross square n) rec
+            agrees-send (written f 2 n places) (sending table f n cross) (length-now 2 n)
+            (square-sending table f cross square n) rec
             (w .0) (crossed-miss f 2 n places (f n) miss ∙ w .2)
             (rw (sending-row table f cross square n (f n / cellLimit) (outputAt table (f n)) other, w .1) (w .3))
           where

@@ -93,6 +93,10 @@ module _ (output : ℕ) where
 -- the best of the crosspoints of the first inputs
 
 module _ (table : List ℕ) (cross : List (List ℕ)) (output : ℕ) where
+  -- the cell at the crosspoint of an input
+  abbrev pub row : ℕ → Cell
+  row input = entryAt table (crosspointAt cross input output) .cell
+
   -- r is the number at the crosspoint of `holder`, and its cell is over all others of the first n inputs
   pub record Best (n r : ℕ) : Type 0 where
     pub some : r < nowhere
@@ -100,7 +104,7 @@ module _ (table : List ℕ) (cross : List (List ℕ)) (output : ℕ) where
     pub early : holder < n
     pub held : crosspointAt cross holder output ≡ r
     pub upper : (i : ℕ) → i < n → crosspointAt cross i output < nowhere
-        → (i ≡ holder) ⊎ (over (entryAt table r .cell) (entryAt table (crosspointAt cross i output) .cell) ≡ true)
+        → (i ≡ holder) ⊎ (over (entryAt table r .cell) (row i) ≡ true)
 
   -- r is the choice among the first n inputs, or there is none
   pub data BestUpTo (n r : ℕ) : Type 0 where
@@ -120,18 +124,11 @@ module _ (table : List ℕ) (cross : List (List ℕ)) (output : ℕ) where
 
     -- of two crosspoints of an output, the cell of one is over the other's
     row-over : (i j : ℕ) → i < 16 → j < 16 → crosspointAt cross i output < nowhere
-        → crosspointAt cross j output < nowhere → (i ≡ j → ⊥)
-        → over (entryAt table (crosspointAt cross i output) .cell) (entryAt table (crosspointAt cross j output) .cell) ≡ false
-        → over (entryAt table (crosspointAt cross j output) .cell) (entryAt table (crosspointAt cross i output) .cell) ≡ true
-    row-over i j li lj ki kj d f = go (over-total x y (inl (λ e. d (sym (row-input i li ki) ∙ e ∙ row-input j lj kj))))
+        → crosspointAt cross j output < nowhere → (i ≡ j → ⊥) → over (row i) (row j) ≡ false → over (row j) (row i) ≡ true
+    row-over i j li lj ki kj d f =
+        go (over-total (row i) (row j) (inl (λ e. d (sym (row-input i li ki) ∙ e ∙ row-input j lj kj))))
       where
-        x : Cell
-        x = entryAt table (crosspointAt cross i output) .cell
-
-        y : Cell
-        y = entryAt table (crosspointAt cross j output) .cell
-
-        go : (over x y ≡ true) ⊎ (over y x ≡ true) → over y x ≡ true
+        go : (over (row i) (row j) ≡ true) ⊎ (over (row j) (row i) ≡ true) → over (row j) (row i) ≡ true
         go (inl t) = absurd (clash t f)
         go (inr t) = t
 
@@ -152,7 +149,7 @@ module _ (table : List ℕ) (cross : List (List ℕ)) (output : ℕ) where
     })
       where
         go : (i : ℕ) → Compared i n → i < n + 1 → crosspointAt cross i output < nowhere
-            → (i ≡ b .holder) ⊎ (over (entryAt table r .cell) (entryAt table (crosspointAt cross i output) .cell) ≡ true)
+            → (i ≡ b .holder) ⊎ (over (entryAt table r .cell) (row i) ≡ true)
         go i (below l) _ m = b .upper i l m
         go i (equal e) _ m = absurd (let z : crosspointAt cross n output < nowhere = rw e at m in omega arith)
         go i (above l) t m = absurd (omega arith)
@@ -169,15 +166,14 @@ module _ (table : List ℕ) (cross : List (List ℕ)) (output : ℕ) where
     })
       where
         go : (i : ℕ) → Compared i n → i < n + 1 → crosspointAt cross i output < nowhere
-            → (i ≡ n) ⊎ (over (entryAt table (crosspointAt cross n output) .cell) (entryAt table (crosspointAt cross i output) .cell) ≡ true)
+            → (i ≡ n) ⊎ (over (row n) (row i) ≡ true)
         go i (below l) _ m = absurd (omega (arith, f i l))
         go i (equal e) _ m = inl e
         go i (above l) t m = absurd (omega arith)
 
     -- the next crosspoint's cell is over the best so far
     best-win : (n r : ℕ) → crosspointAt cross n output < nowhere → Best n r
-        → over (entryAt table (crosspointAt cross n output) .cell) (entryAt table r .cell) ≡ true
-        → BestUpTo (n + 1) (crosspointAt cross n output)
+        → over (row n) (entryAt table r .cell) ≡ true → BestUpTo (n + 1) (crosspointAt cross n output)
     best-win n r k b t = best (record {
       some = k;
       holder = n;
@@ -186,27 +182,20 @@ module _ (table : List ℕ) (cross : List (List ℕ)) (output : ℕ) where
       upper = λ i l m. go i (compare i n) l m;
     })
       where
-        new : Cell
-        new = entryAt table (crosspointAt cross n output) .cell
-
-        than : ℕ → Cell
-        than i = entryAt table (crosspointAt cross i output) .cell
-
-        old : (i : ℕ) → (i ≡ b .holder) ⊎ (over (entryAt table r .cell) (than i) ≡ true) → over new (than i) ≡ true
+        old : (i : ℕ) → (i ≡ b .holder) ⊎ (over (entryAt table r .cell) (row i) ≡ true) → over (row n) (row i) ≡ true
         old i (inl e) =
-            subst (λ c. over new c ≡ true)
-            (ap (λ k. entryAt table k .cell) (sym (b .held)) ∙ ap than (sym e)) t
-        old i (inr u) = over-trans new (entryAt table r .cell) (than i) t u
+            subst (λ c. over (row n) c ≡ true) (ap (λ k. entryAt table k .cell) (sym (b .held)) ∙ ap row (sym e)) t
+        old i (inr u) = over-trans (row n) (entryAt table r .cell) (row i) t u
 
         go : (i : ℕ) → Compared i n → i < n + 1 → crosspointAt cross i output < nowhere
-            → (i ≡ n) ⊎ (over new (than i) ≡ true)
+            → (i ≡ n) ⊎ (over (row n) (row i) ≡ true)
         go i (below l) _ m = inr (old i (b .upper i l m))
         go i (equal e) _ m = inl e
         go i (above l) t m = absurd (omega arith)
 
     -- the best so far is over the next crosspoint's cell
     best-stay : (n r : ℕ) → n < 16 → crosspointAt cross n output < nowhere → Best n r
-        → over (entryAt table (crosspointAt cross n output) .cell) (entryAt table r .cell) ≡ false
+        → over (row n) (entryAt table r .cell) ≡ false
         → BestUpTo (n + 1) r
     best-stay n r s k b f = best (record {
       some = b .some;
@@ -216,10 +205,7 @@ module _ (table : List ℕ) (cross : List (List ℕ)) (output : ℕ) where
       upper = λ i l m. go i (compare i n) l m;
     })
       where
-        than : ℕ → Cell
-        than i = entryAt table (crosspointAt cross i output) .cell
-
-        mine : than (b .holder) ≡ entryAt table r .cell
+        mine : row (b .holder) ≡ entryAt table r .cell
         mine = ap (λ k. entryAt table k .cell) (b .held)
 
         small : b .holder < 16
@@ -231,15 +217,15 @@ module _ (table : List ℕ) (cross : List (List ℕ)) (output : ℕ) where
         other : n ≡ b .holder → ⊥
         other e = omega (arith, b .early)
 
-        next : over (entryAt table r .cell) (than n) ≡ true
+        next : over (entryAt table r .cell) (row n) ≡ true
         next =
-            subst (λ c. over c (than n) ≡ true) mine
-            (row-over n (b .holder) s small k full other (ap (over (than n)) mine ∙ f))
+            subst (λ c. over c (row n) ≡ true) mine
+            (row-over n (b .holder) s small k full other (ap (over (row n)) mine ∙ f))
 
         go : (i : ℕ) → Compared i n → i < n + 1 → crosspointAt cross i output < nowhere
-            → (i ≡ b .holder) ⊎ (over (entryAt table r .cell) (than i) ≡ true)
+            → (i ≡ b .holder) ⊎ (over (entryAt table r .cell) (row i) ≡ true)
         go i (below l) _ m = b .upper i l m
-        go i (equal e) _ m = inr (subst (λ j. over (entryAt table r .cell) (than j) ≡ true) (sym e) next)
+        go i (equal e) _ m = inr (subst (λ j. over (entryAt table r .cell) (row j) ≡ true) (sym e) next)
         go i (above l) t m = absurd (omega arith)
 
     pub best-more : (n r : ℕ) → n < 16 → BestUpTo n r
@@ -271,13 +257,16 @@ module _ (table : List ℕ) (cross : List (List ℕ)) (output : ℕ) where
     -- a cell at a crosspoint is of a port
     port : {e : Waiting} → List·Memᴰ e cells → e .cell .input < portsIn table
     port {e} m =
-        let i : e .at / cellLimit ≡ e .cell .input = sym (ap (λ c. c .input) (h .cell e m) ∙ entryAt-input table (e .at)) in
+        let i : e .at / cellLimit ≡ e .cell .input =
+        sym (ap (λ c. c .input) (h .cell e m) ∙ entryAt-input table (e .at)) in
         omega (arith, h .inside e m .input)
 
     pub best-of : (r : ℕ) → portsIn table ≤ 16 → BestUpTo (portsIn table) r → r ≡ bestOf cells output
     unfolding bestOf
     best-of r ports (empty e f) =
-        e ∙ sym (numberOf-none (toOutput output (least beats cells)) (λ c m. none c (toOutput-in output _ m) (toOutput-output output _ m)))
+        e
+        ∙ sym (numberOf-none (toOutput output (least beats cells))
+        (λ c m. none c (toOutput-in output _ m) (toOutput-output output _ m)))
       where
         none : (c : Waiting) → List·Memᴰ c (least beats cells) → c .cell .output ≡ output → ⊥
         none c m q =
@@ -314,7 +303,7 @@ module _ (table : List ℕ) (cross : List (List ℕ)) (output : ℕ) where
             stands = rw q at (h .filled f m)
 
             go : (f .cell .input ≡ b .holder)
-                ⊎ (over (entryAt table r .cell) (entryAt table (crosspointAt cross (f .cell .input) output) .cell) ≡ true)
+                ⊎ (over (entryAt table r .cell) (row (f .cell .input)) ≡ true)
                 → (f .at ≡ r) ⊎ (over (w .0 .cell) (f .cell) ≡ true)
             go (inl e) = inl (sym stands ∙ ap (λ i. crosspointAt cross i output) e ∙ b .held)
             go (inr t) =
@@ -328,10 +317,11 @@ module _ (table : List ℕ) (cross : List (List ℕ)) (output : ℕ) where
             go : (f : Waiting) → List·Memᴰ f cells → beats f (w .0) ≡ true
                 → (f .at ≡ r) ⊎ (over (w .0 .cell) (f .cell) ≡ true) → ⊥
             go f m t (inl e) =
-                clash (ap (λ c. over c (w .0 .cell)) (sym mine ∙ ap (λ k. entryAt table k .cell) (sym e) ∙ sym (h .cell f m)) ∙ beats-over f (w .0) t)
-                (over-irrefl (w .0 .cell))
+                let same = sym mine ∙ ap (λ k. entryAt table k .cell) (sym e) ∙ sym (h .cell f m) in
+                clash (ap (λ c. over c (w .0 .cell)) same ∙ beats-over f (w .0) t) (over-irrefl (w .0 .cell))
             go f m t (inr u) =
-                clash (over-trans (w .0 .cell) (f .cell) (w .0 .cell) u (beats-over f (w .0) t)) (over-irrefl (w .0 .cell))
+                clash (over-trans (w .0 .cell) (f .cell) (w .0 .cell) u (beats-over f (w .0) t))
+                (over-irrefl (w .0 .cell))
 
         only : (g : Waiting) → List·Memᴰ g (least beats cells) → g .cell .output ≡ output → g .at ≡ r
         only g m q = go (rank g (mem-least-in beats cells m) q)

@@ -1,5 +1,6 @@
--- Rule 4: the candidates of an input, where some cell is urgent: its scheduled cell alone where that stands first in the
--- list, and otherwise its urgent cells.
+-- Rule 4: the candidates of an input, where some cell is urgent: its scheduled cell alone where that stands first in
+-- the list, and otherwise its urgent cells.
+--     candidates-count      they are some of the waiting cells
 --     among-keep            what is among a kept list passes
 --     candidates-first, candidates-urgent   the two cases
 --     candidates-none       where no cell is urgent
@@ -17,7 +18,7 @@ use Rattle.laws.proofs.Lists.{mem-keep-passes}
 use Rattle.laws.proofs.Count.{count-nil, count-keep-le}
 use Rattle.laws.proofs.Least.{least-keeps}
 use Rattle.model.specs.State.{isListed}
-use Rattle.model.specs.Phase.{Waiting, ahead, among, takesPart, candidates, Phase, phase}
+use Rattle.model.specs.Phase.{Waiting, ahead, among, takesPart, candidates, phase}
 use Rattle.model.proofs.PhaseFacts.{lists, lists-listed, head-listed, urgent-head, urgent-ahead, scheduled-head}
 use Rattle.model.proofs.WaitingOrder.{among-i, input-i}
 use Rattle.fabric.specs.Choices.{ofInput, candidatesOf}
@@ -25,7 +26,8 @@ use Rattle.fabric.specs.Walk.{isReady, isPressing, urgentOf}
 use Rattle.fabric.proofs.Scan.{scheduled-ready, urgent-pressing, foremost}
 
 -- where some cell is urgent
-candidates-some : (ls us ss : List Waiting) {u : Waiting} → List·Memᴰ u us → candidates ls us ss ≡ keep (takesPart ls us ss) ls
+candidates-some : (ls us ss : List Waiting) {u : Waiting} → List·Memᴰ u us
+    → candidates ls us ss ≡ keep (takesPart ls us ss) ls
 unfolding candidates
 candidates-some ls [] ss m = absurd (List·Memᴰ·not-nil m)
 candidates-some ls (u ∷ us) ss m = refl
@@ -49,10 +51,8 @@ candidates-count all q =
       count-keep-le (λ e. isListed (e .place)) q all,
     )
 
-module _ (all : List Waiting) (unique : (e f : Waiting) → List·Memᴰ e all → List·Memᴰ f all → e .at ≡ f .at → e ≡ f) where
-  p : Phase
-  p = phase all
-
+module _ (all : List Waiting)
+    (unique : (e f : Waiting) → List·Memᴰ e all → List·Memᴰ f all → e .at ≡ f .at → e ≡ f) where
   -- what is among a kept list passes
   among-keep : (q : Waiting → Bool) (l : List Waiting) → l ≡ keep q all → {e : Waiting} → List·Memᴰ e all
       → among l e ≡ q e
@@ -116,7 +116,8 @@ module _ (all : List Waiting) (unique : (e f : Waiting) → List·Memᴰ e all �
         → List·Memᴰ e (ofInput input (phase all .scheduled))
     unfolding ofInput is
     is-scheduled {e} m t =
-        keep-mem is (subst (List·Memᴰ e) (sym scheduled-kept) (keep-mem isFirst (member m .0) t)) (mem-keep-passes is all m)
+        keep-mem is (subst (List·Memᴰ e) (sym scheduled-kept) (keep-mem isFirst (member m .0) t))
+        (mem-keep-passes is all m)
 
     is-urgent : {e : Waiting} → List·Memᴰ e all → isUrgentHere e ≡ true → List·Memᴰ e (phase all .urgent)
     unfolding isUrgentHere
@@ -132,10 +133,13 @@ module _ (all : List Waiting) (unique : (e f : Waiting) → List·Memᴰ e all �
         ∙ keep-ext takes isUrgentHere (ofInput input all) same-test
         ∙ sym (ap (keep is) (urgent-pressing all) ∙ keep-comm isUrgentHere is all))
       where
-        no-scheduled : (e : Waiting) → List·Memᴰ e (ofInput input all) → (among (phase all .scheduled) e && stands e) ≡ false
+        no-scheduled : (e : Waiting) → List·Memᴰ e (ofInput input all)
+            → (among (phase all .scheduled) e && stands e) ≡ false
         no-scheduled e m =
             by-fail (among (phase all .scheduled) e && stands e) (λ t.
-            absent e (is-scheduled m (sym (among-scheduled (member m .0)) ∙ and-l (among (phase all .scheduled) e) (stands e) t))
+            absent e
+            (is-scheduled m
+            (sym (among-scheduled (member m .0)) ∙ and-l (among (phase all .scheduled) e) (stands e) t))
             (and-r (among (phase all .scheduled) e) (stands e) t))
 
         listed-too : (e : Waiting) → List·Memᴰ e all → isUrgentHere e ≡ true → isListed (e .place) ≡ true
@@ -186,12 +190,16 @@ module _ (all : List Waiting) (unique : (e f : Waiting) → List·Memᴰ e all �
             ∙ same (isListed (e .place) && (isFirst e && stands e)) (isFirst e)
             (λ t. and-l (isFirst e) (stands e) (and-r (isListed (e .place)) (isFirst e && stands e) t))
             (λ t. and-i (isListed (e .place)) (isFirst e && stands e)
-            (lists-listed all (head-listed all (scheduled-head all (mem-keep-in is (phase all .scheduled) (is-scheduled m t)))))
+            (lists-listed all (head-listed all (scheduled-head all
+            (mem-keep-in is (phase all .scheduled) (is-scheduled m t)))))
             (and-i (isFirst e) (stands e) t (subst (λ x. stands x ≡ true) (sym (only e m t)) first)))
 
 -- where no cell is urgent, none is matched
 pub candidates-none : (all : List Waiting) (input : ℕ) → phase all .urgent ≡ [] → candidatesOf (phase all) input ≡ []
-unfolding candidatesOf ofInput phase keep
+unfolding candidatesOf ofInput phase lists keep
 candidates-none all input h =
-    ap (λ us. map (λ e. e .at) (keep (λ e. eqb (e .cell .input) input) (candidates (keep (λ e. isListed (e .place)) all) us (phase all .scheduled)))) h
-    ∙ ap (λ l. map (λ e. e .at) (keep (λ e. eqb (e .cell .input) input) l)) (candidates-nil (keep (λ e. isListed (e .place)) all) (phase all .scheduled))
+    ap (λ us. numbers (candidates (lists all) us (phase all .scheduled))) h
+    ∙ ap numbers (candidates-nil (lists all) (phase all .scheduled))
+  where
+    numbers : List Waiting → List ℕ
+    numbers l = map (λ e. e .at) (keep (λ e. eqb (e .cell .input) input) l)

@@ -17,7 +17,8 @@ use lib.ListN.{length, getD, set, length-map, length-set}
 use lib.Seq.{getD-set-same, getD-set-other}
 use Rattle.laws.specs.Lists.{keep, none?, count, pairwise, least, first?, numbersFrom}
 use Rattle.laws.proofs.Tests.{clash, by-fail, same}
-use Rattle.laws.proofs.Lists.{Passing, some?-i, some?-e, some?-false, none?-i, none?-clash, keep-nil, keep-mem, mem-keep-in, mem-keep-passes}
+use Rattle.laws.proofs.Lists.{Passing, some?-i, some?-e, some?-false, none?-i, none?-clash, keep-nil, keep-mem}
+use Rattle.laws.proofs.Lists.{mem-keep-in, mem-keep-passes}
 use Rattle.laws.proofs.Count.{length-keep, count-keep-le}
 use Rattle.laws.proofs.Least.{least-nil}
 use Rattle.laws.proofs.Pairwise.{pairwise-nil, pairwise-keep}
@@ -32,12 +33,14 @@ use Rattle.table.specs.Entry.{portsIn, countIn}
 use Rattle.fabric.specs.View.{waitingAt, inTable, InTable, Agrees}
 use Rattle.fabric.specs.Choices.{nowhere, numberOf, ofInput, scheduledOf, candidatesOf, bestOf}
 use Rattle.fabric.specs.Scan.{Readable, Column, Written, Scheduled, Holds, Chosen, someUrgent}
-use Rattle.fabric.specs.Walk.{Scanned, Elsewhere, Any, some-counted, none-counted, Sound, Walkable, urgentOf, isPressing, isReady}
+use Rattle.fabric.specs.Walk.{Scanned, Elsewhere, Any, some-counted, none-counted, Sound, Walkable, urgentOf}
+use Rattle.fabric.specs.Walk.{isPressing, isReady}
 use Rattle.fabric.specs.declared.choosing.Found.{Found}
 use Rattle.fabric.proofs.Best.{numberOf-nil, numberOf-one}
 use Rattle.fabric.proofs.Candidates.{candidates-count, candidates-first, candidates-urgent, candidates-none}
 use Rattle.fabric.proofs.Scan.{ofInput-scheduled, ofInput-urgent, urgent-pressing, least-ordered, foremost}
-use Rattle.fabric.proofs.Window.{waitingAt-at, inTable-e, inTable-i, inTable-below, inTable-input, ofInput-window, ofInput-none}
+use Rattle.fabric.proofs.Window.{waitingAt-at, inTable-e, inTable-i, inTable-below, inTable-input}
+use Rattle.fabric.proofs.Window.{ofInput-window, ofInput-none}
 use Rattle.fabric.proofs.Window.{length-window, window-ordered, agrees-holds}
 use Rattle.fabric.proofs.Window.{waitingAt-input, numbersFrom-i, numbersFrom-e}
 use Rattle.fabric.proofs.Walk.{listed-byte}
@@ -104,7 +107,8 @@ module _ (table places : List ℕ) (r : Readable table) where
 
       go : Compared input (portsIn table) → count (is input) all ≤ cellLimit
       go (below l) =
-          let n = ap length (ofInput-window table places r input l) ∙ length-window table places input (countIn table input) in
+          let n =
+          ap length (ofInput-window table places r input l) ∙ length-window table places input (countIn table input) in
           omega (arith, size, n, r .counts input (omega (arith, r .ports)))
       go (equal l) = beyond (omega arith)
       go (above l) = beyond (omega arith)
@@ -136,8 +140,11 @@ module _ (table places : List ℕ) (r : Readable table) where
       → getD (candidatesOf (phase all) input) m 0 < 1024
   unfolding candidatesOf ofInput is
   candidate-number input m h =
-      let w = Memᴰ·of-map (λ e. e .at) (keep (is input) (phase all .candidates)) (at-mem (candidatesOf (phase all) input) m h) in
-      let e = inTable-e table places r (lists-all all (candidate-listed all (mem-keep-in (is input) (phase all .candidates) (w .1)))) in
+      let w =
+      Memᴰ·of-map (λ e. e .at) (keep (is input) (phase all .candidates))
+      (at-mem (candidatesOf (phase all) input) m h) in
+      let listed = candidate-listed all (mem-keep-in (is input) (phase all .candidates) (w .1)) in
+      let e = inTable-e table places r (lists-all all listed) in
       subst (λ n. n < 1024) (w .2) (inTable-below table places r (w .0 .at) (e .1))
 
   ------------------------------------------------------------------------
@@ -171,9 +178,11 @@ module _ (table places : List ℕ) (r : Readable table) where
           (ofInput-scheduled all input
           ∙ ap (least ahead) e
           ∙ least-ordered ahead ahead-strict s l
-          (subst (λ k. pairwise ahead k ≡ true) e (pairwise-keep ahead (isReady all) (ofInput input all) (ordered input))))
+          (subst (λ k. pairwise ahead k ≡ true) e
+          (pairwise-keep ahead (isReady all) (ofInput input all) (ordered input))))
 
-  scheduledOf-nothing : (input : ℕ) → ofInput input (phase all .scheduled) ≡ [] → scheduledOf (phase all) input ≡ nowhere
+  scheduledOf-nothing : (input : ℕ) → ofInput input (phase all .scheduled) ≡ []
+      → scheduledOf (phase all) input ≡ nowhere
   unfolding scheduledOf
   scheduledOf-nothing input h = ap (λ l. numberOf (first? l)) h ∙ numberOf-nil
 
@@ -231,16 +240,19 @@ module _ (table places : List ℕ) (r : Readable table) where
   }
 
   -- one input more
-  scanned-step : (n s u : ℕ) (scheduled counts numbers new : List ℕ) → n < 16 → ScannedTo table places n scheduled counts numbers
-      → s ≡ scheduledOf (phase all) n → u ≡ length (urgentOf (phase all) n) → Column new (cellLimit * n) (urgentOf (phase all) n)
-      → Elsewhere n numbers new → length new ≡ length numbers → ScannedTo table places (n + 1) (set scheduled n s) (set counts n u) new
+  scanned-step : (n s u : ℕ) (scheduled counts numbers new : List ℕ) → n < 16
+      → ScannedTo table places n scheduled counts numbers → s ≡ scheduledOf (phase all) n
+      → u ≡ length (urgentOf (phase all) n) → Column new (cellLimit * n) (urgentOf (phase all) n) → Elsewhere n numbers new
+      → length new ≡ length numbers → ScannedTo table places (n + 1) (set scheduled n s) (set counts n u) new
   scanned-step n s u scheduled counts numbers new l w es eu column else same-size =
       let room : n < length scheduled = omega (arith, w .size) in
       let counted : n < length counts = omega (arith, w .counted) in
       record {
         schedules = record { at = set-below scheduled (scheduledOf (phase all)) n s room (w .schedules .at) es };
-        urgents = written-join (urgentOf (phase all)) n (set counts n u) new (getD-set-same counts n u 0 counted ∙ eu) column
-            (written-other (urgentOf (phase all)) few-urgent 0 n n u counts numbers new (inr (omega arith)) else (w .urgents));
+        urgents = written-join (urgentOf (phase all)) n (set counts n u) new
+            (getD-set-same counts n u 0 counted ∙ eu) column
+            (written-other (urgentOf (phase all)) few-urgent 0 n n u counts numbers new (inr (omega arith)) else
+            (w .urgents));
         size = length-set scheduled n s ∙ w .size;
         counted = length-set counts n u ∙ w .counted;
         long = same-size ∙ w .long;
@@ -248,7 +260,8 @@ module _ (table places : List ℕ) (r : Readable table) where
 
   -- an input that the switch does not have
   pub scanned-beyond : (n : ℕ) {scheduled counts numbers : List ℕ} → n < 16 → portsIn table ≤ n
-      → ScannedTo table places n scheduled counts numbers → ScannedTo table places (n + 1) (set scheduled n nowhere) (set counts n 0) numbers
+      → ScannedTo table places n scheduled counts numbers
+      → ScannedTo table places (n + 1) (set scheduled n nowhere) (set counts n 0) numbers
   scanned-beyond n {scheduled} {counts} {numbers} l b w =
       let nil = beyond-urgent n b in
       scanned-step n nowhere 0 scheduled counts numbers numbers l w (beyond-scheduled n b) (sym (ap length nil))
@@ -256,17 +269,18 @@ module _ (table places : List ℕ) (r : Readable table) where
 
   -- what the walk found
   pub scanned-more : (n : ℕ) {scheduled counts numbers new : List ℕ} {found : Found} → n < 16
-      → Scanned table places n numbers new found → length new ≡ length numbers → ScannedTo table places n scheduled counts numbers
+      → Scanned table places n numbers new found → length new ≡ length numbers
+      → ScannedTo table places n scheduled counts numbers
       → ScannedTo table places (n + 1) (set scheduled n (found .scheduled)) (set counts n (found .urgent)) new
   scanned-more n {scheduled} {counts} {numbers} {new} {found} l f e w =
-      scanned-step n (found .scheduled) (found .urgent) scheduled counts numbers new l w (f .scheduled) (f .count) (f .numbers)
-      (f .others) e
+      scanned-step n (found .scheduled) (found .urgent) scheduled counts numbers new l w (f .scheduled) (f .count)
+      (f .numbers) (f .others) e
 
   ------------------------------------------------------------------------
   -- whether some cell is urgent
 
-  pub any-urgent : {counts numbers : List ℕ} {b : Bool} → Written 0 16 (urgentOf (phase all)) counts numbers → Any counts b
-      → b ≡ someUrgent (phase all)
+  pub any-urgent : {counts numbers : List ℕ} {b : Bool} → Written 0 16 (urgentOf (phase all)) counts numbers
+      → Any counts b → b ≡ someUrgent (phase all)
   unfolding someUrgent urgentOf ofInput is
   any-urgent w (some-counted i l h) =
       let size = w .count i (omega arith) l in
@@ -275,7 +289,8 @@ module _ (table places : List ℕ) (r : Readable table) where
       let e = Memᴰ·of-map (λ e. e .at) (keep (is i) (phase all .urgent)) m in
       sym (some?-i (λ e. true) (mem-keep-in (is i) (phase all .urgent) (e .1)) refl)
   any-urgent w (none-counted h) =
-      sym (some?-false (λ e. true) (phase all .urgent) (none?-i (λ e. true) (phase all .urgent) (λ e m. absurd (go e m))))
+      sym (some?-false (λ e. true) (phase all .urgent)
+      (none?-i (λ e. true) (phase all .urgent) (λ e m. absurd (go e m))))
     where
       go : (e : Waiting) → List·Memᴰ e (phase all .urgent) → ⊥
       go e m =
@@ -284,14 +299,17 @@ module _ (table places : List ℕ) (r : Readable table) where
           omega (arith, inTable-input table places r t, inTable-e table places r t .1 .input, r .ports) in
           let size = w .count (e .cell .input) (omega arith) port in
           let zero-size = h (e .cell .input) port in
-          let k = Memᴰ·map (λ e. e .at) (keep-mem (is (e .cell .input)) m (eq-eqb (e .cell .input) (e .cell .input) refl)) in
+          let own = eq-eqb (e .cell .input) (e .cell .input) refl in
+          let k = Memᴰ·map (λ e. e .at) (keep-mem (is (e .cell .input)) m own) in
           let longer = mem-positive (urgentOf (phase all) (e .cell .input)) k in
           omega arith
 
   -- a member, where some cell is urgent
   someUrgent-member : someUrgent (phase all) ≡ true → (u : Waiting) × List·Memᴰ u (phase all .urgent)
   unfolding someUrgent
-  someUrgent-member t = let w : Passing (λ e. true) (phase all .urgent) = some?-e (λ e. true) (phase all .urgent) t in (w .0, w .1)
+  someUrgent-member t =
+      let w : Passing (λ e. true) (phase all .urgent) = some?-e (λ e. true) (phase all .urgent) t in
+      (w .0, w .1)
 
   urgentOf-none : (i : ℕ) → phase all .urgent ≡ [] → urgentOf (phase all) i ≡ []
   unfolding urgentOf ofInput
@@ -300,8 +318,8 @@ module _ (table places : List ℕ) (r : Readable table) where
       ∙ ap (map (λ e. e .at)) (keep-nil (λ e. eqb (e .cell .input) i))
 
   -- where no cell is urgent, the candidates are the urgent cells: none
-  pub none-urgent : {counts numbers : List ℕ} → someUrgent (phase all) ≡ false → Written 0 16 (urgentOf (phase all)) counts numbers
-      → Written 0 16 (candidatesOf (phase all)) counts numbers
+  pub none-urgent : {counts numbers : List ℕ} → someUrgent (phase all) ≡ false
+      → Written 0 16 (urgentOf (phase all)) counts numbers → Written 0 16 (candidatesOf (phase all)) counts numbers
   unfolding someUrgent
   none-urgent {counts} {numbers} f w = go (phase all .urgent) refl
     where
@@ -310,7 +328,8 @@ module _ (table places : List ℕ) (r : Readable table) where
           absurd (clash (some?-i (λ e. true) (subst (List·Memᴰ u) (sym e) (List·Memᴰ·head refl)) refl) f)
       go [] e = record {
         count = λ i a b. w .count i a b ∙ ap length (nil i ∙ sym (candidates-none all i e));
-        column = λ i a b. subst (Column numbers (cellLimit * i)) (nil i ∙ sym (candidates-none all i e)) (w .column i a b);
+        column = λ i a b.
+            subst (Column numbers (cellLimit * i)) (nil i ∙ sym (candidates-none all i e)) (w .column i a b);
       }
         where
           nil : (i : ℕ) → urgentOf (phase all) i ≡ []
@@ -342,9 +361,12 @@ module _ (table places : List ℕ) (r : Readable table) where
       run = numbersFrom (cellLimit * input) (s .at - cellLimit * input)
 
       out : none? (λ f. ahead f s) (lists all) ≡ true → none? test run ≡ true
-      out n = none?-i test run (λ m k. by-fail (test m) (λ t. go m (numbersFrom-e (cellLimit * input) (s .at - cellLimit * input) k) t))
+      out n =
+          none?-i test run (λ m k. by-fail (test m) (λ t.
+          go m (numbersFrom-e (cellLimit * input) (s .at - cellLimit * input) k) t))
         where
-          go : (m : ℕ) → (cellLimit * input ≤ m) × (m < cellLimit * input + (s .at - cellLimit * input)) → test m ≡ true → ⊥
+          go : (m : ℕ) → (cellLimit * input ≤ m) × (m < cellLimit * input + (s .at - cellLimit * input))
+              → test m ≡ true → ⊥
           go m (a, b) t =
               let low : cellLimit * input ≤ s .at = omega (arith, own) in
               let below-s : m < s .at = omega arith in
@@ -367,7 +389,12 @@ module _ (table places : List ℕ) (r : Readable table) where
           go : (f : Waiting) → List·Memᴰ f (lists all) → ahead f s ≡ true → ⊥
           go f m t =
               let low : cellLimit * input ≤ f .at =
-              omega (arith, inTable-input table places r (lists-all all m), ahead-input f s t, one-member input s h .1) in
+              omega (
+                arith,
+                inTable-input table places r (lists-all all m),
+                ahead-input f s t,
+                one-member input s h .1,
+              ) in
               let below-s : f .at < s .at = ahead-at f s t in
               let here : f ≡ waitingAt table places (f .at) = inTable-e table places r (lists-all all m) .0 in
               none?-clash test n
@@ -387,7 +414,8 @@ module _ (table places : List ℕ) (r : Readable table) where
           let n : k ≡ s .at = e ∙ scheduledOf-one input s h in
           omega arith
 
-  module _ (some-urgent : someUrgent (phase all) ≡ true) (input k : ℕ) (is-scheduled : k ≡ scheduledOf (phase all) input) where
+  module _ (some-urgent : someUrgent (phase all) ≡ true) (input k : ℕ)
+      (is-scheduled : k ≡ scheduledOf (phase all) input) where
     -- it stands first
     pub enter-first : k < 1024 → unlisted (cellLimit * input) k ≡ true → candidatesOf (phase all) input ≡ k ∷ []
     enter-first l f = go (schedule input)
@@ -403,7 +431,8 @@ module _ (table places : List ℕ) (r : Readable table) where
     -- it does not, or there is none
     pub enter-urgent : (k < 1024 → unlisted (cellLimit * input) k ≡ false)
         → candidatesOf (phase all) input ≡ urgentOf (phase all) input
-    enter-urgent f = candidates-urgent all unique input (someUrgent-member some-urgent .1) (λ s m t. go (schedule input) s m t)
+    enter-urgent f =
+        candidates-urgent all unique input (someUrgent-member some-urgent .1) (λ s m t. go (schedule input) s m t)
       where
         go : Schedule input → (s : Waiting) → List·Memᴰ s (ofInput input (phase all .scheduled))
             → none? (λ f. ahead f s) (lists all) ≡ true → ⊥
@@ -411,7 +440,8 @@ module _ (table places : List ℕ) (r : Readable table) where
         go (one x h) s m t =
             let q : s ≡ x = List·Memᴰ·eq-of-singleton (subst (List·Memᴰ s) h m) in
             let n : k ≡ x .at = is-scheduled ∙ scheduledOf-one input x h in
-            let small : x .at < 1024 = inTable-below table places r (x .at) (inTable-e table places r (one-member input x h .0) .1) in
+            let inside = inTable-e table places r (one-member input x h .0) .1 in
+            let small : x .at < 1024 = inTable-below table places r (x .at) inside in
             clash (sym (stands-unlisted input x h) ∙ subst (λ y. none? (λ f. ahead f y) (lists all) ≡ true) q t)
             (subst (λ j. unlisted (cellLimit * input) j ≡ false) n (f (omega arith)))
 
@@ -419,7 +449,8 @@ module _ (table places : List ℕ) (r : Readable table) where
   pub entered-same : (n : ℕ) {counts numbers : List ℕ} → n < 16 → candidatesOf (phase all) n ≡ urgentOf (phase all) n
       → EnteredTo table places n counts numbers → EnteredTo table places (n + 1) counts numbers
   entered-same n {counts} {numbers} l e w = record {
-    done = written-join (candidatesOf (phase all)) n counts numbers (w .rest .count n (omega arith) l ∙ ap length (sym e))
+    done = written-join (candidatesOf (phase all)) n counts numbers
+        (w .rest .count n (omega arith) l ∙ ap length (sym e))
         (subst (Column numbers (cellLimit * n)) (sym e) (w .rest .column n (omega arith) l)) (w .done);
     rest = written-less (urgentOf (phase all)) n 16 counts numbers (w .rest);
     counted = w .counted;
@@ -428,35 +459,40 @@ module _ (table places : List ℕ) (r : Readable table) where
 
   -- an input whose candidate is its scheduled cell
   pub entered-one : (n k : ℕ) {counts numbers : List ℕ} → n < 16 → candidatesOf (phase all) n ≡ k ∷ []
-      → EnteredTo table places n counts numbers → EnteredTo table places (n + 1) (set counts n 1) (set numbers (cellLimit * n) k)
+      → EnteredTo table places n counts numbers
+      → EnteredTo table places (n + 1) (set counts n 1) (set numbers (cellLimit * n) k)
   entered-one n k {counts} {numbers} l e w =
       let counted : n < length counts = omega (arith, w .counted) in
       let room : cellLimit * n < length numbers = omega (arith, w .long) in
       record {
-        done = written-join (candidatesOf (phase all)) n (set counts n 1) (set numbers (cellLimit * n) k)
+        done = written-join (candidatesOf (phase all)) n (set counts n 1) new
             (getD-set-same counts n 1 0 counted ∙ ap length (sym e))
-            (subst (Column (set numbers (cellLimit * n) k) (cellLimit * n)) (sym e) (here room))
-            (written-other (candidatesOf (phase all)) few-candidates 0 n n 1 counts numbers (set numbers (cellLimit * n) k)
-            (inr (omega arith)) elsewhere (w .done));
-        rest = written-other (urgentOf (phase all)) few-urgent (n + 1) 16 n 1 counts numbers (set numbers (cellLimit * n) k)
-            (inl (omega arith)) elsewhere (written-less (urgentOf (phase all)) n 16 counts numbers (w .rest));
+            (subst (Column new (cellLimit * n)) (sym e) (here room))
+            (written-other (candidatesOf (phase all)) few-candidates 0 n n 1 counts numbers new (inr (omega arith))
+            elsewhere (w .done));
+        rest = written-other (urgentOf (phase all)) few-urgent (n + 1) 16 n 1 counts numbers new (inl (omega arith))
+            elsewhere (written-less (urgentOf (phase all)) n 16 counts numbers (w .rest));
         counted = length-set counts n 1 ∙ w .counted;
         long = length-set numbers (cellLimit * n) k ∙ w .long;
       }
     where
-      here : cellLimit * n < length numbers → Column (set numbers (cellLimit * n) k) (cellLimit * n) (k ∷ [])
-      here room zero h = ap (λ i. getD (set numbers (cellLimit * n) k) i 0) (add-zero (cellLimit * n)) ∙ getD-set-same numbers (cellLimit * n) k 0 room
+      new : List ℕ
+      new = set numbers (cellLimit * n) k
+
+      here : cellLimit * n < length numbers → Column new (cellLimit * n) (k ∷ [])
+      here room zero h = ap (λ i. getD new i 0) (add-zero (cellLimit * n)) ∙ getD-set-same numbers (cellLimit * n) k 0 room
       here room (suc m) h = absurd (omega arith)
 
       away : (m : ℕ) → (m < cellLimit * n) ⊎ (cellLimit * n + cellLimit ≤ m) → m ≢ cellLimit * n
       away m (inl o) = omega arith
       away m (inr o) = omega arith
 
-      elsewhere : Elsewhere n numbers (set numbers (cellLimit * n) k)
+      elsewhere : Elsewhere n numbers new
       elsewhere m o = getD-set-other numbers (cellLimit * n) m k 0 (away m o)
 
   -- the candidates are as many as a section has at most, and entries of the table
-  pub candidates-sound : {counts numbers : List ℕ} → Written 0 16 (candidatesOf (phase all)) counts numbers → Sound counts numbers
+  pub candidates-sound : {counts numbers : List ℕ} → Written 0 16 (candidatesOf (phase all)) counts numbers
+      → Sound counts numbers
   candidates-sound {counts} {numbers} w = record {
     few = λ i l. let size = w .count i (omega arith) l in omega (arith, few-candidates i);
     entries = λ i m l h. let size = w .count i (omega arith) l in
@@ -468,7 +504,8 @@ module _ (table places : List ℕ) (r : Readable table) where
 
   -- what the walks ask
   pub walkable : (cross : List (List ℕ)) (best : List ℕ) → length places ≡ 1024 → Agrees table places cross
-      → ((cells : List Waiting) → Holds table cross cells → (output : ℕ) → output < 16 → getD best output 0 ≡ bestOf cells output)
+      → ((cells : List Waiting) → Holds table cross cells → (output : ℕ) → output < 16
+      → getD best output 0 ≡ bestOf cells output)
       → Walkable table places cross best
   walkable cross best long a b = record {
     readable = r;
@@ -477,14 +514,15 @@ module _ (table places : List ℕ) (r : Readable table) where
     bests = b (crosspoints all) (agrees-holds table places r cross a);
   }
 
-  uncounted : {counts : List ℕ} {b : Bool} → Any counts b → b ≡ false → (i : ℕ) → i < 16 → _≡_ {A = ℕ} (getD counts i 0) 0
+  uncounted : {counts : List ℕ} {b : Bool} → Any counts b → b ≡ false → (i : ℕ) → i < 16
+      → _≡_ {A = ℕ} (getD counts i 0) 0
   uncounted (some-counted i l h) e = absurd (clash refl e)
   uncounted (none-counted h) e = h
 
   -- no cell is urgent
   pub chosen-none : {scheduled counts numbers : List ℕ} (outputs ranks slots : List ℕ) {b : Bool}
-      → Scheduled (phase all) 16 scheduled → Written 0 16 (urgentOf (phase all)) counts numbers → Any counts b → b ≡ false
-      → Chosen table places scheduled counts numbers outputs ranks slots false
+      → Scheduled (phase all) 16 scheduled → Written 0 16 (urgentOf (phase all)) counts numbers → Any counts b
+      → b ≡ false → Chosen table places scheduled counts numbers outputs ranks slots false
   chosen-none outputs ranks slots schedules urgents some f =
       let none : false ≡ someUrgent (phase all) = sym f ∙ any-urgent urgents some in
       record {

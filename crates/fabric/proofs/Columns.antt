@@ -100,7 +100,8 @@ module _ (lists : ℕ → List ℕ) where
 
   -- one input more
   pub written-join : (n : ℕ) (counts numbers : List ℕ) → getD counts n 0 ≡ length (lists n)
-      → Column numbers (cellLimit * n) (lists n) → Written 0 n lists counts numbers → Written 0 (n + 1) lists counts numbers
+      → Column numbers (cellLimit * n) (lists n) → Written 0 n lists counts numbers
+      → Written 0 (n + 1) lists counts numbers
   written-join n counts numbers c k w = record {
     count = λ i a b. counts-too i (compare i n) a b;
     column = λ i a b. columns-too i (compare i n) a b;
@@ -151,7 +152,8 @@ pub described-more : (f : ℕ → ℕ) (n : ℕ) {counts numbers : List ℕ} (ol
     → Described f (n + 1) counts new
 described-more f n {counts} old new small s h d = record { at = λ i m a b. go i m b (compare i n) a }
   where
-    go : (i m : ℕ) → m < getD counts i 0 → Compared i n → i < n + 1 → getD new (cellLimit * i + m) 0 ≡ f (cellLimit * i + m)
+    go : (i m : ℕ) → m < getD counts i 0 → Compared i n → i < n + 1
+        → getD new (cellLimit * i + m) 0 ≡ f (cellLimit * i + m)
     go i m b (below c) a =
         let few : getD counts i 0 ≤ cellLimit = s .few i (omega arith) in
         h .outside (cellLimit * i + m) (inl (omega arith)) ∙ d .at i m c b

@@ -227,7 +227,8 @@ staying-same : (table other places numbers : List ℕ) (from n : ℕ)
     → ((k : ℕ) → from ≤ k → k < from + n → entryAt other k ≡ entryAt table k)
     → staying other places numbers from n ≡ staying table places numbers from n
 unfolding stays entryPlaced
-staying-same table other places numbers from zero h = staying-none other places numbers from ∙ sym (staying-none table places numbers from)
+staying-same table other places numbers from zero h =
+    staying-none other places numbers from ∙ sym (staying-none table places numbers from)
 staying-same table other places numbers from (suc n) h =
     let here : entryAt other from ≡ entryAt table from = h from (omega arith) (omega arith) in
     let rest : staying other places numbers (from + 1) n ≡ staying table places numbers (from + 1) n =
@@ -235,7 +236,9 @@ staying-same table other places numbers from (suc n) h =
     staying-first other places numbers from n
     ∙ ap₂
     (λ e l.
-    cond (not (eqb (getD numbers (e .cell .output) 0) from)) (record { cell = e .cell; place = placeOf (getD places from 0) } ∷ l) l)
+    cond (not (eqb (getD numbers (e .cell .output) 0) from))
+    (record { cell = e .cell; place = placeOf (getD places from 0) } ∷ l)
+    l)
     here rest
     ∙ sym (staying-first table places numbers from n)
 
@@ -435,7 +438,8 @@ module _ {table places : List ℕ} (r : Ready table places) {numbers : List ℕ}
         count-own : countIn now i ≡ length (getD (partly table places i .sections) i [])
         count-own = ap (λ bs. countIn bs i) e ∙ encode-count (partly table places i) i port (short i)
 
-        zeros : sectionSize - length (entriesBytes (getD (partly table places i .sections) i [])) ≡ sectionSize - entrySize * countIn now i
+        zeros : sectionSize - length (entriesBytes (getD (partly table places i .sections) i []))
+            ≡ sectionSize - entrySize * countIn now i
         zeros = omega (arith, count-own, length-entriesBytes (getD (partly table places i .sections) i []))
 
         rest : drop (recordStart (cellLimit * i + countIn now i)) now
@@ -458,8 +462,8 @@ module _ {table places : List ℕ} (r : Ready table places) {numbers : List ℕ}
         (length es))
         kept e
         ∙ sym
-        (encode-set (partly table places i) i (getD after i []) short port (length-mixed after (state .sections) lengths i within)
-        (fresh-short i))
+        (encode-set (partly table places i) i (getD after i []) short port
+        (length-mixed after (state .sections) lengths i within) (fresh-short i))
         ∙ ap (λ l. encode (record { ports = portsIn table; clock = clockIn table; sections = l }))
         (mixed-next after (state .sections) lengths i within)
       where

@@ -77,7 +77,8 @@ module _ {table places : List ℕ} (r : Ready table places) (output : ℕ) where
       mem : (j : ℕ) → Buffered table places output j → List·Memᴰ (waitingAt table places j) (inTable table places)
       mem j b = Window.inTable-i table places (ready-readable r) j (b .entry)
 
-      go : (waitingAt table places k ≡ waitingAt table places n) ⊎ ((beats (waitingAt table places k) (waitingAt table places n) ≡ true)
+      go : (waitingAt table places k ≡ waitingAt table places n)
+          ⊎ ((beats (waitingAt table places k) (waitingAt table places n) ≡ true)
           ⊎ (beats (waitingAt table places n) (waitingAt table places k) ≡ true))
           → (k ≡ n) ⊎ ((over (entryAt table k .cell) (entryAt table n .cell) ≡ true)
           ⊎ (over (entryAt table n .cell) (entryAt table k .cell) ≡ true))
@@ -86,8 +87,8 @@ module _ {table places : List ℕ} (r : Ready table places) (output : ℕ) where
       go (inr (inr p)) = inr (inr (beats-over _ _ p))
 
   -- no other entry of the output up to a later end
-  pub best-wider : (end later n : ℕ) → ((k : ℕ) → end ≤ k → k < later → Buffered table places output k → ⊥) → end ≤ later
-      → BestBelow table places output end n → BestBelow table places output later n
+  pub best-wider : (end later n : ℕ) → ((k : ℕ) → end ≤ k → k < later → Buffered table places output k → ⊥)
+      → end ≤ later → BestBelow table places output end n → BestBelow table places output later n
   best-wider end later n none l (empty e f) = empty e (λ k h b. go k h b (compare k end))
     where
       go : (k : ℕ) → k < later → Buffered table places output k → Compared k end → ⊥

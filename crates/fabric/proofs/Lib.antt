@@ -8,11 +8,11 @@ pub mod Columns
 pub mod Departing
 pub mod Faults
 pub mod Insert
+pub mod Known
 pub mod Leaving
 pub mod Moved
 pub mod OneByOne
 pub mod Output
-pub mod Phases
 pub mod Placed
 pub mod Ports
 pub mod Positions

@@ -24,25 +24,29 @@ use Rattle.model.proofs.PhaseFacts.{crosspoints, crosspoints-i, crosspoints-all
 use Rattle.model.proofs.PhaseFacts.{scheduled-empty}
 use Rattle.model.proofs.PhaseFacts.{sent-i, sent-scheduled, sent-free, pulled-free}
 use Rattle.model.proofs.PhaseMatching.{straight-all, sent-all, pulled-all}
+use Rattle.model.proofs.PhaseLimits.{phase-orderly, phase-crosspoint}
 use Rattle.model.proofs.PhasePlaces.{straight-listed, sent-listed, listed-not-crossed}
-use Rattle.table.specs.Entry.{portsIn}
+use Rattle.table.specs.Entry.{entryAt, portsIn}
 use Rattle.table.specs.Table.{placeOf}
 use Rattle.fabric.specs.View.{waitingAt, inTable, crosspointAt, InTable, Agrees}
 use Rattle.fabric.specs.Scan.{Readable}
 use Rattle.fabric.specs.Loading.{InPlace}
-use Rattle.fabric.specs.Choices.{nowhere, numberOf, toOutput, scheduledOf, bestOf}
-use Rattle.fabric.specs.Moves.{written, markOf, sendOf, takeOf, crossedIn, straightOf, sentOf, pulledOf, Square}
-use Rattle.fabric.specs.Moves.{Straightened, Sent, Pulled}
-use Rattle.fabric.proofs.Window.{inTable-e, inTable-i, waitingAt-at, waitingAt-cell, waitingAt-input, waitingAt-place}
+use Rattle.fabric.specs.Choices.{nowhere, numberOf, toOutput, bestOf}
+use Rattle.fabric.specs.Moves.{written, markOf, sendOf, takeOf, crossedIn, sentOf, pulledOf, Square}
+use Rattle.fabric.specs.Moves.{straightTo, Straightened, Sent, Pulled}
+use Rattle.fabric.specs.Moved.{Steady, Settled, Moved}
+use Rattle.fabric.proofs.Known.{Known, known}
+use Rattle.fabric.proofs.Window.{inTable-i, waitingAt-at, waitingAt-cell, waitingAt-input, waitingAt-place}
 use Rattle.fabric.proofs.Written.{hit, Hit, hit-i, hit-e, hit-miss, written-hit, written-miss, written-is}
 use Rattle.fabric.proofs.Rules.{mark-some, mark-none, send-none, send-scheduled, take-none, take-best}
 use Rattle.fabric.proofs.Output.{Within, best-same}
 use Rattle.fabric.proofs.Pulling.{CrossedEntry, crossed-e, crossed-i, pullable, pulled-agrees}
 use Rattle.fabric.proofs.Relocated.{inTable-relocated}
-use Rattle.fabric.proofs.Agreeing.{outputAt, crossedAt, agrees-real, agrees-straight, Sendable, entry-small}
+use Rattle.fabric.proofs.Agreeing.{outputAt, crossedAt, agrees-real, agrees-straight, Sendable, entry-small, output-small}
 use Rattle.fabric.proofs.Agreeing.{Stands, crossed-hit, crossed-miss, buffered-byte, crossed-byte, agrees-sending}
 use Rattle.fabric.proofs.Rounds.{length-straightened, length-sent, square-sent, length-pulled, square-pulled}
-use Rattle.fabric.proofs.Ports.{numberBy, ByPort, has, lacks, by-is, by-none, by-cases, by-one, inputOf, outputOf, among-hit}
+use Rattle.fabric.proofs.Ports.{numberBy, ByPort, has, lacks, by-is, by-none, by-cases, by-one}
+use Rattle.fabric.proofs.Ports.{inputOf, outputOf, among-hit}
 use Rattle.fabric.proofs.Ports.{straight-output, scheduled-input, sent-input, pulled-output}
 use Rattle.fabric.proofs.Ports.{scheduledOf-by, straightOf-by, sentOf-by, pulledOf-by}
 
@@ -84,51 +88,29 @@ in-range true false false b h = omega arith
 in-range false false false b h = h
 
 ------------------------------------------------------------------------
--- waiting cells and their numbers
-
-module _ {table : List ℕ} (r : Readable table) (places : List ℕ) where
-  -- what is known of a waiting cell
-  pub record Known (e : Waiting) : Type 0 where
-    pub self : e ≡ waitingAt table places (e .at)
-    pub entry : InTable table (e .at)
-    pub small : e .at < nowhere
-    pub input : e .cell .input ≡ e .at / cellLimit
-    pub output : e .cell .output ≡ outputAt table (e .at)
-    pub from : e .cell .input < portsIn table
-    pub to : e .cell .output < portsIn table
-    pub crossed : isCrossed (e .place) ≡ crossedAt places (e .at)
-
-  pub known : {e : Waiting} → List·Memᴰ e (inTable table places) → Known e
-  known {e} m =
-      let w : (e ≡ waitingAt table places (e .at)) × InTable table (e .at) = inTable-e table places r m in
-      let i : e .cell .input ≡ e .at / cellLimit = ap (λ x. x .cell .input) (w .0) ∙ waitingAt-input table places (e .at) in
-      let o : e .cell .output ≡ outputAt table (e .at) =
-      ap (λ x. x .cell .output) (w .0) ∙ ap (λ c. c .output) (waitingAt-cell table places (e .at)) in
-      record {
-        self = w .0;
-        entry = w .1;
-        small = entry-small r (w .1);
-        input = i;
-        output = o;
-        from = omega (arith, w .1 .input);
-        to = omega (arith, r .outputs (e .at) (w .1));
-        crossed = ap (λ x. isCrossed (x .place)) (w .0) ∙ ap isCrossed (waitingAt-place table places (e .at));
-      }
-
-------------------------------------------------------------------------
 -- rule 5
 
-module _ {table : List ℕ} (r : Readable table) (places : List ℕ) (o : Orderly (inTable table places))
-    (size : length places ≡ 1024) (cross : List (List ℕ)) (square : Square cross) (a : Agrees table places cross)
-    (scheduled : List ℕ) (F : ℕ → ℕ)
-    (scheduled-is : (i : ℕ) → i < portLimit → getD scheduled i 0 ≡ scheduledOf (phase (inTable table places)) i)
-    (straight-is : (x : ℕ) → x < portLimit → F x ≡ straightOf (phase (inTable table places)) x)
-    {places₁ : List ℕ} {inputs outputs : List Bool} (s : Straightened F portLimit places places₁ inputs outputs) where
+module _ {table places : List ℕ} {cross : List (List ℕ)} (st : Steady table places cross)
+    {scheduled numbers held refused : List ℕ} (se : Settled table places scheduled numbers held refused)
+    {places₁ : List ℕ} {inputs outputs : List Bool}
+    (s : Straightened (straightTo scheduled numbers held refused) portLimit places places₁ inputs outputs) where
   abbrev all : List Waiting
   all = inTable table places
 
+  abbrev F : ℕ → ℕ
+  F = straightTo scheduled numbers held refused
+
+  abbrev r : Readable table
+  r = st .readable
+
+  o : Orderly all
+  o = st .orderly
+
   ports : portsIn table ≤ portLimit
   ports = r .ports
+
+  size : length places ≡ 1024
+  size = st .column
 
   -- a straight cell of a port
   StraightBy : (Waiting → ℕ) → ℕ → Type 0
@@ -139,7 +121,7 @@ module _ {table : List ℕ} (r : Readable table) (places : List ℕ) (o : Orderl
   straight-cell x l h = go (by-cases outputOf (phase all .straight) x)
     where
       is : F x ≡ numberBy outputOf (phase all .straight) x
-      is = straight-is x l ∙ straightOf-by (phase all) x
+      is = se .straight-is x l ∙ straightOf-by (phase all) x
 
       go : ByPort outputOf (phase all .straight) x
           → (e : Waiting) × List·Memᴰ e (phase all .straight) × (outputOf e ≡ x) × (F x ≡ e .at)
@@ -149,7 +131,7 @@ module _ {table : List ℕ} (r : Readable table) (places : List ℕ) (o : Orderl
   straight-number : {e : Waiting} → List·Memᴰ e (phase all .straight) → F (outputOf e) ≡ e .at
   straight-number {e} m =
       let k : Known r places e = known r places (straight-all all m) in
-      straight-is (outputOf e) (omega (arith, k .to))
+      se .straight-is (outputOf e) (omega (arith, k .to))
       ∙ straightOf-by (phase all) (outputOf e)
       ∙ by-one outputOf (phase all .straight) (straight-output all o) m
 
@@ -214,7 +196,7 @@ module _ {table : List ℕ} (r : Readable table) (places : List ℕ) (o : Orderl
           let w : StraightBy inputOf i = input-marked i l t in
           clash (input-i f (w .0) (h ∙ sym (w .2))) (sent-free all m (w .1))))
       go (inr t) =
-          send-scheduled inputs scheduled i t ∙ scheduled-is i l ∙ scheduledOf-by (phase all) i
+          send-scheduled inputs scheduled i t ∙ se .scheduled-is i l ∙ scheduledOf-by (phase all) i
           ∙ case (by-cases inputOf (phase all .scheduled) i)
         where
           case : ByPort inputOf (phase all .scheduled) i
@@ -228,13 +210,16 @@ module _ {table : List ℕ} (r : Readable table) (places : List ℕ) (o : Orderl
               n ∙ sym (by-none inputOf (phase all .sent) i (λ f j h. u f (sent-scheduled all j) h))
 
   -- the columns after the straight cells
+  pub straight-length : length places₁ ≡ 1024
+  straight-length = length-straightened s ∙ size
+
   straight-out : {e : Waiting} → List·Memᴰ e all → isListed (e .place) ≡ true → crossedAt places (e .at) ≡ false
   straight-out {e} m h = sym (known r places m .crossed) ∙ listed-not-crossed (e .place) h
 
   pub straight-agrees : Agrees table places₁ cross
   straight-agrees =
       rw (s .to-buffers)
-      (agrees-straight r F portLimit places cross size a (λ x l h.
+      (agrees-straight r F portLimit places cross size (st .agrees) (λ x l h.
       let w = straight-cell x l h in
       rw (w .3) (straight-out (straight-all all (w .1)) (straight-listed all (w .1)))))
 
@@ -275,7 +260,7 @@ module _ {table : List ℕ} (r : Readable table) (places : List ℕ) (o : Orderl
       hit-i G portLimit (inputOf e) port
       (send-is (inputOf e) port ∙ sentOf-by (phase all) (inputOf e) ∙ by-one inputOf (phase all .sent) (sent-input all o) m)
 
-  pub sendable : Sendable r places₁ cross G portLimit
+  sendable : Sendable r places₁ cross G portLimit
   sendable i l h = rw (w .3) (k .entry, sym (k .input) ∙ w .2, straight-still (e .at) (k .small) out, empty)
     where
       w : (e : Waiting) × List·Memᴰ e (phase all .sent) × (inputOf e ≡ i) × (G i ≡ e .at)
@@ -308,7 +293,7 @@ module _ {table : List ℕ} (r : Readable table) (places : List ℕ) (o : Orderl
 
               v : Stands table places i (outputAt table (e .at)) c
               v =
-                  agrees-real r places cross a i (outputAt table (e .at)) l (omega (arith, k .to, k .output, ports))
+                  agrees-real r places cross (st .agrees) i (outputAt table (e .at)) l (omega (arith, k .to, k .output, ports))
                   (ltb-true _ _ t)
 
               row : e .cell .input ≡ x .cell .input
@@ -321,17 +306,23 @@ module _ {table : List ℕ} (r : Readable table) (places : List ℕ) (o : Orderl
               there = ap isCrossed (waitingAt-place table places c) ∙ v .1
           go (inr t) = ltb-false _ _ t
 
+  pub can-send : (i : ℕ) → i < portLimit → G i < nowhere → entryAt table (G i) .cell .output < 16
+  can-send i l h = output-small r (sendable i l h .0)
+
   ------------------------------------------------------------------------
   -- rule 6
 
   module _ {places₂ : List ℕ} {cross₂ : List (List ℕ)} (t : Sent table G portLimit places₁ places₂ cross cross₂) where
-    size₁ : length places₁ ≡ 1024
-    size₁ = length-straightened F places s ∙ size
+    pub sent-length : length places₂ ≡ 1024
+    sent-length = length-sent t ∙ straight-length
+
+    pub sent-square : Square cross₂
+    sent-square = square-sent t (st .square)
 
     pub send-agrees : Agrees table places₂ cross₂
     send-agrees =
         rw (t .to-crosspoints, t .filled)
-        (agrees-sending r G cross square places₁ size₁ straight-agrees portLimit (omega arith) sendable)
+        (agrees-sending r G cross (st .square) places₁ straight-length straight-agrees portLimit (omega arith) sendable)
 
     -- the cells at the crosspoints, those just filled included
     cells : List Waiting
@@ -355,7 +346,7 @@ module _ {table : List ℕ} (r : Readable table) (places : List ℕ) (o : Orderl
 
         go : (hit G portLimit (e .at) ≡ true) ⊎ (hit G portLimit (e .at) ≡ false)
             → crossedAt (written G 2 portLimit places₁) (e .at) ≡ true
-        go (inl h) = crossed-hit G 2 portLimit places₁ (e .at) (omega (arith, k .small, size₁)) h ∙ crossed-byte
+        go (inl h) = crossed-hit G 2 portLimit places₁ (e .at) (omega (arith, k .small, straight-length)) h ∙ crossed-byte
         go (inr h) =
             crossed-miss G 2 portLimit places₁ (e .at) h ∙ case (List·Memᴰ·append-cases (crosspoints all) m)
           where
@@ -456,21 +447,19 @@ module _ {table : List ℕ} (r : Readable table) (places : List ℕ) (o : Orderl
     ------------------------------------------------------------------------
     -- where each cell is afterwards
 
-    module _ {places₃ : List ℕ} {cross₃ : List (List ℕ)} (u : Pulled H (portsIn table) places₂ places₃ cross₂ cross₃) where
-      size₂ : length places₂ ≡ 1024
-      size₂ = length-sent table G places₁ cross t ∙ size₁
+    module _ {places₃ : List ℕ} {cross₃ : List (List ℕ)} {n : ℕ} (every : n ≡ portsIn table)
+        (taken : Pulled H n places₂ places₃ cross₂ cross₃) where
+      u : Pulled H (portsIn table) places₂ places₃ cross₂ cross₃
+      u = rw (← every) taken
 
-      square₂ : Square cross₂
-      square₂ = square-sent table G places₁ cross t square
+      moved-size : length places₃ ≡ 1024
+      moved-size = length-pulled u ∙ sent-length
 
-      pub moved-size : length places₃ ≡ 1024
-      moved-size = length-pulled H places₂ cross₂ u ∙ size₂
+      moved-square : Square cross₃
+      moved-square = square-pulled u sent-square
 
-      pub moved-square : Square cross₃
-      moved-square = square-pulled H places₂ cross₂ u square₂
-
-      pub moved-agrees : Agrees table places₃ cross₃
-      moved-agrees = pulled-agrees r outputs places₂ cross₂ size₂ square₂ send-agrees u ports
+      moved-agrees : Agrees table places₃ cross₃
+      moved-agrees = pulled-agrees r outputs places₂ cross₂ sent-length sent-square send-agrees u ports
 
       module _ {e : Waiting} (m : List·Memᴰ e all) where
         k : Known r places e
@@ -479,7 +468,7 @@ module _ {table : List ℕ} (r : Readable table) (places : List ℕ) (o : Orderl
         among-straight : among (phase all .straight) e ≡ hit F portLimit (e .at)
         among-straight =
             among-hit o outputOf (phase all .straight) (λ x i. straight-all all i) (straight-output all o) F portLimit
-            (λ x l. straight-is x l ∙ straightOf-by (phase all) x)
+            (λ x l. se .straight-is x l ∙ straightOf-by (phase all) x)
             (λ x i. omega (arith, known r places (straight-all all i) .to)) m (k .small)
 
         among-sent : among (phase all .sent) e ≡ hit G portLimit (e .at)
@@ -501,10 +490,10 @@ module _ {table : List ℕ} (r : Readable table) (places : List ℕ) (o : Orderl
         moved-byte =
             rw (among-pulled, among-sent, among-straight)
             (ap (λ q. getD q (e .at) 0) (u .to-buffers)
-            ∙ written-is H 3 (portsIn table) places₂ (e .at) 0 (omega (arith, k .small, size₂))
+            ∙ written-is H 3 (portsIn table) places₂ (e .at) 0 (omega (arith, k .small, sent-length))
             ∙ ap (cond (hit H (portsIn table) (e .at)) 3)
             (ap (λ q. getD q (e .at) 0) (t .to-crosspoints)
-            ∙ written-is G 2 portLimit places₁ (e .at) 0 (omega (arith, k .small, size₁))
+            ∙ written-is G 2 portLimit places₁ (e .at) 0 (omega (arith, k .small, straight-length))
             ∙ ap (cond (hit G portLimit (e .at)) 2)
             (ap (λ q. getD q (e .at) 0) (s .to-buffers)
             ∙ written-is F 3 portLimit places (e .at) 0 (omega (arith, k .small)))))
@@ -516,7 +505,7 @@ module _ {table : List ℕ} (r : Readable table) (places : List ℕ) (o : Orderl
             let j = among-e o (phase all .sent) (λ x j. sent-all all j) m q in
             clash (input-i e e refl) (sent-free all j i)
 
-        pub moved-place : placeOf (getD places₃ (e .at) 0) ≡ placeAfter (phase all) e
+        moved-place : placeOf (getD places₃ (e .at) 0) ≡ placeAfter (phase all) e
         unfolding placeAfter
         moved-place =
             ap placeOf moved-byte
@@ -526,7 +515,7 @@ module _ {table : List ℕ} (r : Readable table) (places : List ℕ) (o : Orderl
             (cond (among (phase all .sent) e) crossed q))
             (sym (ap (λ x. x .place) (k .self) ∙ waitingAt-place table places (e .at)))
 
-      pub moved-cells : inTable table places₃ ≡ relocated (phase all) all
+      moved-cells : inTable table places₃ ≡ relocated (phase all) all
       moved-cells =
           inTable-relocated r (phase all) places places₃ (λ k i.
           ap (λ n. placeOf (getD places₃ n 0)) (sym (waitingAt-at table places k)) ∙ moved-place (inTable-i table places r k i))
@@ -536,7 +525,7 @@ module _ {table : List ℕ} (r : Readable table) (places : List ℕ) (o : Orderl
           → k < nowhere → hit f n k ≡ false
       miss f n k entry out l = hit-miss f n k (λ x b q. out (subst (InTable table) q (entry x b (omega arith))))
 
-      pub moved-others : (k : ℕ) → (InTable table k → ⊥) → getD places₃ k 0 ≡ getD places k 0
+      moved-others : (k : ℕ) → (InTable table k → ⊥) → getD places₃ k 0 ≡ getD places k 0
       moved-others k out = go (either (ltb k nowhere))
         where
           go : (ltb k nowhere ≡ true) ⊎ (ltb k nowhere ≡ false) → getD places₃ k 0 ≡ getD places k 0
@@ -545,7 +534,7 @@ module _ {table : List ℕ} (r : Readable table) (places : List ℕ) (o : Orderl
               ap (λ q. getD q k 0) (u .to-buffers)
               ∙ written-miss H 3 (portsIn table) places₂ k 0
               (miss H (portsIn table) k
-              (λ x b i. pullable r outputs places₂ cross₂ size₂ square₂ send-agrees (portsIn table) x b i .0) out l)
+              (λ x b i. pullable r outputs places₂ cross₂ sent-length sent-square send-agrees (portsIn table) x b i .0) out l)
               ∙ ap (λ q. getD q k 0) (t .to-crosspoints)
               ∙ written-miss G 2 portLimit places₁ k 0 (miss G portLimit k (λ x b i. sendable x b i .0) out l)
               ∙ ap (λ q. getD q k 0) (s .to-buffers)
@@ -558,11 +547,29 @@ module _ {table : List ℕ} (r : Readable table) (places : List ℕ) (o : Orderl
               List·getD-eq-default places₃ 0 (omega (arith, moved-size))
               ∙ sym (List·getD-eq-default places 0 (omega arith))
 
-      pub moved-in-place : InPlace table places → InPlace table places₃
+      moved-in-place : InPlace table places → InPlace table places₃
       moved-in-place good k i =
           let e : Waiting = waitingAt table places k in
           let at : e .at ≡ k = waitingAt-at table places k in
           subst InRange
           (sym (moved-byte (inTable-i table places r k i)) ∙ ap (λ n. getD places₃ n 0) at)
-          (in-range (among (phase all .straight) e) (among (phase all .pulled) e) (among (phase all .sent) e) (getD places (e .at) 0)
+          (in-range (among (phase all .straight) e) (among (phase all .pulled) e) (among (phase all .sent) e)
+          (getD places (e .at) 0)
           (subst (λ n. InRange (getD places n 0)) (sym at) (good k i)))
+
+      pub all-moved : Moved table places places₃ cross₃
+      all-moved =
+          record {
+            cells = moved-cells;
+            others = moved-others;
+            steady =
+                record {
+                  readable = r;
+                  column = moved-size;
+                  places-good = moved-in-place (st .places-good);
+                  orderly = rw moved-cells (phase-orderly all o);
+                  single = rw moved-cells (phase-crosspoint all o (st .single));
+                  square = moved-square;
+                  agrees = moved-agrees;
+                };
+          }

@@ -56,7 +56,8 @@ module _ {A : Type 0} where
   flatten-append : (g : ℕ → List A) (l m : List ℕ) → flatten (map g (l ++ m)) ≡ flatten (map g l) ++ flatten (map g m)
   unfolding flatten
   flatten-append g [] m = refl
-  flatten-append g (x ∷ l) m = ap (λ r. g x ++ r) (flatten-append g l m) ∙ sym (append-assoc (g x) (flatten (map g l)) (flatten (map g m)))
+  flatten-append g (x ∷ l) m =
+      ap (λ r. g x ++ r) (flatten-append g l m) ∙ sym (append-assoc (g x) (flatten (map g l)) (flatten (map g m)))
 
   keep-sections : (p : A → Bool) (g : ℕ → List A) (l : List ℕ)
       → flatten (map (λ i. keep p (g i)) l) ≡ keep p (flatten (map g l))
@@ -284,9 +285,18 @@ module _ {table : List ℕ} (r : Readable table) (places counts numbers outputs 
         cell = cell;
         mem = mem-keep-in (λ e. eqb (e .cell .input) i) (phase (inTable table places) .candidates) own;
         input = eqb-true _ _ (mem-keep-passes (λ e. eqb (e .cell .input) i) (phase (inTable table places) .candidates) own);
-        output = ap (λ n. getD outputs n 0) at ∙ h .output i m (c .0) (c .1) ∙ ap (λ n. entryAt table (getD numbers n 0) .cell .output) (sym at);
-        rank = ap (λ n. getD ranks n 0) at ∙ h .rank i m (c .0) (c .1) ∙ ap (λ n. entryAt table (getD numbers n 0) .cell .rank) (sym at);
-        slot = ap (λ n. getD slots n 0) at ∙ h .slot i m (c .0) (c .1) ∙ ap (λ n. entryAt table (getD numbers n 0) .cell .slot) (sym at);
+        output =
+            ap (λ n. getD outputs n 0) at
+            ∙ h .output i m (c .0) (c .1)
+            ∙ ap (λ n. entryAt table (getD numbers n 0) .cell .output) (sym at);
+        rank =
+            ap (λ n. getD ranks n 0) at
+            ∙ h .rank i m (c .0) (c .1)
+            ∙ ap (λ n. entryAt table (getD numbers n 0) .cell .rank) (sym at);
+        slot =
+            ap (λ n. getD slots n 0) at
+            ∙ h .slot i m (c .0) (c .1)
+            ∙ ap (λ n. entryAt table (getD numbers n 0) .cell .slot) (sym at);
       }
     where
       i : ℕ
@@ -347,7 +357,15 @@ module _ {table : List ℕ} (r : Readable table) (places counts numbers outputs 
       (over-same (cellAt outputs ranks slots k) (cellAt outputs ranks slots l) (cellOf k .cell) (cellOf l .cell)
       (p .rank) (q .rank) (p .slot) (q .slot) (sym (p .input)) (sym (q .input))))
 
-  agree : Agree (λ k l. ahead (cellOf k) (cellOf l)) (λ k l. beats (cellOf k) (cellOf l)) aheadAt (overAt outputs ranks slots) (positions counts)
+  -- the two tests on the cells at positions
+  aheadBy : ℕ → ℕ → Bool
+  aheadBy k l = ahead (cellOf k) (cellOf l)
+
+  beatsBy : ℕ → ℕ → Bool
+  beatsBy k l = beats (cellOf k) (cellOf l)
+
+  agree : Agree aheadBy beatsBy aheadAt (overAt outputs ranks slots) (positions counts)
+  unfolding aheadBy beatsBy
   agree =
       record {
         on-ahead = λ k l i j. position-ahead (position-e i) (position-e j);
@@ -356,18 +374,21 @@ module _ {table : List ℕ} (r : Readable table) (places counts numbers outputs 
 
   pub matched-positions : phase (inTable table places) .matched
       ≡ map cellOf (matched aheadAt (overAt outputs ranks slots) (positions counts))
+  unfolding aheadBy beatsBy
   matched-positions =
       phase-matched
       ∙ ap (matched ahead beats) (sym candidates-positions)
       ∙ matched-map ahead beats cellOf (positions counts)
-      ∙ ap (map cellOf) (matched-ext (λ k l. ahead (cellOf k) (cellOf l)) (λ k l. beats (cellOf k) (cellOf l)) aheadAt (overAt outputs ranks slots) (positions counts) agree)
+      ∙ ap (map cellOf) (matched-ext aheadBy beatsBy aheadAt (overAt outputs ranks slots) (positions counts) agree)
     where
       phase-matched : phase (inTable table places) .matched ≡ matched ahead beats (phase (inTable table places) .candidates)
       phase-matched = matched-of (inTable table places)
 
-  pub proposals-positions : phase (inTable table places) .proposals ≡ proposals aheadAt (overAt outputs ranks slots) (positions counts)
+  pub proposals-positions : phase (inTable table places) .proposals
+      ≡ proposals aheadAt (overAt outputs ranks slots) (positions counts)
+  unfolding aheadBy beatsBy
   proposals-positions =
       proposals-of (inTable table places)
       ∙ ap (proposals ahead beats) (sym candidates-positions)
       ∙ proposals-map ahead beats cellOf (positions counts)
-      ∙ proposals-ext (λ k l. ahead (cellOf k) (cellOf l)) (λ k l. beats (cellOf k) (cellOf l)) aheadAt (overAt outputs ranks slots) (positions counts) agree
+      ∙ proposals-ext aheadBy beatsBy aheadAt (overAt outputs ranks slots) (positions counts) agree

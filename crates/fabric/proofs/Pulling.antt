@@ -49,7 +49,9 @@ module _ {table : List ℕ} (r : Readable table) (places : List ℕ) where
       record {
         self = w .0;
         entry = w .1;
-        crossed = ap (λ x. isCrossed (x .place)) (sym (w .0)) ∙ mem-keep-passes (λ e. isCrossed (e .place)) (inTable table places) m;
+        crossed =
+            ap (λ x. isCrossed (x .place)) (sym (w .0))
+            ∙ mem-keep-passes (λ e. isCrossed (e .place)) (inTable table places) m;
       }
 
   pub crossed-i : {k : ℕ} → InTable table k → crossedAt places k ≡ true
@@ -163,4 +165,5 @@ module _ {table : List ℕ} (r : Readable table) (straight : List Bool) (places 
         h (crossedIn table places′) (agrees-holds table places′ r cross′ (pulled-agrees (omega arith)))
         ∙ ap (λ cells. takeOf straight cells n) (ap (crossedIn table) (p .to-buffers))
         ∙ ap (λ b. cond (getD straight n false) nowhere b)
-        (best-same (crossedIn table (written f 3 n places)) (crossedIn table places) n into back (crossed-total r places cross a))
+        (best-same (crossedIn table (written f 3 n places)) (crossedIn table places) n into back
+        (crossed-total r places cross a))

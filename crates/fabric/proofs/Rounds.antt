@@ -21,82 +21,84 @@ written-more f v n l e h p = rw (add-one n, ← e, ← h) p
 ------------------------------------------------------------------------
 -- straight cells
 
-module _ (f : ℕ → ℕ) (places : List ℕ) where
-  pub straightened-none : Straightened f 0 places places (replicate portLimit false) (replicate portLimit false)
-  unfolding written
-  straightened-none = record { to-buffers = refl; from-inputs = refl; to-outputs = refl }
+pub straightened-none : (f : ℕ → ℕ) (places : List ℕ)
+    → Straightened f 0 places places (replicate portLimit false) (replicate portLimit false)
+unfolding written
+straightened-none f places = record { to-buffers = refl; from-inputs = refl; to-outputs = refl }
 
-  module _ {n : ℕ} {places′ : List ℕ} {inputs outputs : List Bool} (s : Straightened f n places places′ inputs outputs) where
-    pub straightened-more : {k : ℕ} {places″ : List ℕ} {inputs″ outputs″ : List Bool} → k ≡ f n
-        → places″ ≡ set places′ k 3 → inputs″ ≡ set inputs (k / cellLimit) true → outputs″ ≡ set outputs (markOf k n) true
-        → Straightened f (n + 1) places places″ inputs″ outputs″
-    straightened-more e p q t =
-        record {
-          to-buffers = written-more f 3 n places (s .to-buffers) e p;
-          from-inputs =
-              written-more (λ o. f o / cellLimit) true n (replicate portLimit false) (s .from-inputs)
-              (ap (λ x. x / cellLimit) e) q;
-          to-outputs =
-              written-more (λ o. markOf (f o) o) true n (replicate portLimit false) (s .to-outputs)
-              (ap (λ x. markOf x n) e) t;
-        }
+module _ {f : ℕ → ℕ} {n : ℕ} {places places′ : List ℕ} {inputs outputs : List Bool}
+    (s : Straightened f n places places′ inputs outputs) where
+  pub straightened-more : {k : ℕ} {places″ : List ℕ} {inputs″ outputs″ : List Bool} → k ≡ f n
+      → places″ ≡ set places′ k 3 → inputs″ ≡ set inputs (k / cellLimit) true → outputs″ ≡ set outputs (markOf k n) true
+      → Straightened f (n + 1) places places″ inputs″ outputs″
+  straightened-more e p q t =
+      record {
+        to-buffers = written-more f 3 n places (s .to-buffers) e p;
+        from-inputs =
+            written-more (λ o. f o / cellLimit) true n (replicate portLimit false) (s .from-inputs)
+            (ap (λ x. x / cellLimit) e) q;
+        to-outputs =
+            written-more (λ o. markOf (f o) o) true n (replicate portLimit false) (s .to-outputs)
+            (ap (λ x. markOf x n) e) t;
+      }
 
-    pub length-straightened : length places′ ≡ length places
-    length-straightened = ap length (s .to-buffers) ∙ length-written f 3 n places
+  pub length-straightened : length places′ ≡ length places
+  length-straightened = ap length (s .to-buffers) ∙ length-written f 3 n places
 
-    pub length-inputs : length inputs ≡ portLimit
-    length-inputs = ap length (s .from-inputs) ∙ length-written (λ o. f o / cellLimit) true n (replicate portLimit false)
+  pub length-inputs : length inputs ≡ portLimit
+  length-inputs = ap length (s .from-inputs) ∙ length-written (λ o. f o / cellLimit) true n (replicate portLimit false)
 
-    pub length-outputs : length outputs ≡ portLimit
-    length-outputs = ap length (s .to-outputs) ∙ length-written (λ o. markOf (f o) o) true n (replicate portLimit false)
+  pub length-outputs : length outputs ≡ portLimit
+  length-outputs = ap length (s .to-outputs) ∙ length-written (λ o. markOf (f o) o) true n (replicate portLimit false)
 
 ------------------------------------------------------------------------
 -- sent cells
 
-module _ (table : List ℕ) (f : ℕ → ℕ) (places : List ℕ) (cross : List (List ℕ)) where
-  pub sent-none : Sent table f 0 places places cross cross
-  unfolding written sending
-  sent-none = record { to-crosspoints = refl; filled = refl }
+pub sent-none : (table : List ℕ) (f : ℕ → ℕ) (places : List ℕ) (cross : List (List ℕ))
+    → Sent table f 0 places places cross cross
+unfolding written sending
+sent-none table f places cross = record { to-crosspoints = refl; filled = refl }
 
-  module _ {n : ℕ} {places′ : List ℕ} {cross′ : List (List ℕ)} (s : Sent table f n places places′ cross cross′) where
-    sending-more : {k : ℕ} {cross″ : List (List ℕ)} → k ≡ f n
-        → cross″ ≡ put cross′ (k / cellLimit) (entryAt table k .cell .output) k → cross″ ≡ sending table f (n + 1) cross
-    unfolding sending
-    sending-more e q = rw (add-one n, ← s .filled, ← e) q
+module _ {table : List ℕ} {f : ℕ → ℕ} {n : ℕ} {places places′ : List ℕ} {cross cross′ : List (List ℕ)}
+    (s : Sent table f n places places′ cross cross′) where
+  sending-more : {k : ℕ} {cross″ : List (List ℕ)} → k ≡ f n
+      → cross″ ≡ put cross′ (k / cellLimit) (entryAt table k .cell .output) k → cross″ ≡ sending table f (n + 1) cross
+  unfolding sending
+  sending-more e q = rw (add-one n, ← s .filled, ← e) q
 
-    pub sent-more : {k : ℕ} {places″ : List ℕ} {cross″ : List (List ℕ)} → k ≡ f n → places″ ≡ set places′ k 2
-        → cross″ ≡ put cross′ (k / cellLimit) (entryAt table k .cell .output) k
-        → Sent table f (n + 1) places places″ cross cross″
-    sent-more e p q =
-        record { to-crosspoints = written-more f 2 n places (s .to-crosspoints) e p; filled = sending-more e q }
+  pub sent-more : {k : ℕ} {places″ : List ℕ} {cross″ : List (List ℕ)} → k ≡ f n → places″ ≡ set places′ k 2
+      → cross″ ≡ put cross′ (k / cellLimit) (entryAt table k .cell .output) k
+      → Sent table f (n + 1) places places″ cross cross″
+  sent-more e p q =
+      record { to-crosspoints = written-more f 2 n places (s .to-crosspoints) e p; filled = sending-more e q }
 
-    pub length-sent : length places′ ≡ length places
-    length-sent = ap length (s .to-crosspoints) ∙ length-written f 2 n places
+  pub length-sent : length places′ ≡ length places
+  length-sent = ap length (s .to-crosspoints) ∙ length-written f 2 n places
 
-    pub square-sent : Square cross → Square cross′
-    square-sent h = rw (s .filled) (square-sending table f cross h n)
+  pub square-sent : Square cross → Square cross′
+  square-sent h = rw (s .filled) (square-sending table f cross h n)
 
 ------------------------------------------------------------------------
 -- pulled cells
 
-module _ (f : ℕ → ℕ) (places : List ℕ) (cross : List (List ℕ)) where
-  pub pulled-none : Pulled f 0 places places cross cross
-  unfolding written pulling
-  pulled-none = record { to-buffers = refl; emptied = refl }
+pub pulled-none : (f : ℕ → ℕ) (places : List ℕ) (cross : List (List ℕ)) → Pulled f 0 places places cross cross
+unfolding written pulling
+pulled-none f places cross = record { to-buffers = refl; emptied = refl }
 
-  module _ {n : ℕ} {places′ : List ℕ} {cross′ : List (List ℕ)} (s : Pulled f n places places′ cross cross′) where
-    pulling-more : {k : ℕ} {cross″ : List (List ℕ)} → k ≡ f n → cross″ ≡ put cross′ (k / cellLimit) n nowhere
-        → cross″ ≡ pulling f (n + 1) cross
-    unfolding pulling
-    pulling-more e q = rw (add-one n, ← s .emptied, ← e) q
+module _ {f : ℕ → ℕ} {n : ℕ} {places places′ : List ℕ} {cross cross′ : List (List ℕ)}
+    (s : Pulled f n places places′ cross cross′) where
+  pulling-more : {k : ℕ} {cross″ : List (List ℕ)} → k ≡ f n → cross″ ≡ put cross′ (k / cellLimit) n nowhere
+      → cross″ ≡ pulling f (n + 1) cross
+  unfolding pulling
+  pulling-more e q = rw (add-one n, ← s .emptied, ← e) q
 
-    pub pulled-more : {k : ℕ} {places″ : List ℕ} {cross″ : List (List ℕ)} → k ≡ f n → places″ ≡ set places′ k 3
-        → cross″ ≡ put cross′ (k / cellLimit) n nowhere → Pulled f (n + 1) places places″ cross cross″
-    pulled-more e p q =
-        record { to-buffers = written-more f 3 n places (s .to-buffers) e p; emptied = pulling-more e q }
+  pub pulled-more : {k : ℕ} {places″ : List ℕ} {cross″ : List (List ℕ)} → k ≡ f n → places″ ≡ set places′ k 3
+      → cross″ ≡ put cross′ (k / cellLimit) n nowhere → Pulled f (n + 1) places places″ cross cross″
+  pulled-more e p q =
+      record { to-buffers = written-more f 3 n places (s .to-buffers) e p; emptied = pulling-more e q }
 
-    pub length-pulled : length places′ ≡ length places
-    length-pulled = ap length (s .to-buffers) ∙ length-written f 3 n places
+  pub length-pulled : length places′ ≡ length places
+  length-pulled = ap length (s .to-buffers) ∙ length-written f 3 n places
 
-    pub square-pulled : Square cross → Square cross′
-    square-pulled h = rw (s .emptied) (square-pulling f cross h n)
+  pub square-pulled : Square cross → Square cross′
+  square-pulled h = rw (s .emptied) (square-pulling f cross h n)

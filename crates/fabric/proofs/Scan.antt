@@ -34,10 +34,13 @@ module _ {A : Type 0} (lt : A → A → Bool) (strict : Strict lt) where
   least-ordered x l h =
       least-keeps lt (x ∷ l)
       ∙ keep-pass first x l (none?-i (λ y. lt y x) (x ∷ l) (λ y m. go y (List·Memᴰ·cases-cons m)))
-      ∙ ap (λ k. x ∷ k) (keep-none first l (none?-i first l (λ y m. by-fail (first y) (λ n. none?-clash (λ z. lt z y) n (List·Memᴰ·head refl) (pairwise-head lt h m)))))
+      ∙ ap (λ k. x ∷ k) (keep-none first l (none?-i first l (λ y m. by-fail (first y) (behind y m))))
     where
       first : A → Bool
       first y = none? (λ z. lt z y) (x ∷ l)
+
+      behind : (y : A) → List·Memᴰ y l → first y ≡ true → ⊥
+      behind y m n = none?-clash (λ z. lt z y) n (List·Memᴰ·head refl) (pairwise-head lt h m)
 
       go : (y : A) → (y ≡ x) ⊎ List·Memᴰ y l → lt y x ≡ false
       go y (inl e) = ap (λ z. lt z x) e ∙ strict .irreflexive x
@@ -83,7 +86,8 @@ module _ (all : List Waiting) where
       go : (e : Waiting) → normal e ≡ empty e
       go e =
           same (normal e) (empty e) (and-r (not (blocked (crosspoints all) e)) (empty e))
-          (λ h. and-i (not (blocked (crosspoints all) e)) (empty e) (not-i (blocked (crosspoints all) e) (empty-normal e h)) h)
+          (λ h. and-i (not (blocked (crosspoints all) e)) (empty e)
+          (not-i (blocked (crosspoints all) e) (empty-normal e h)) h)
 
   -- before every scheduled cell of its input
   unfoldable pub foremost : Waiting → Bool
@@ -94,7 +98,8 @@ module _ (all : List Waiting) where
   urgent-pressing =
       ap (keep test) firsts-heads
       ∙ keep-keep (isHead all) test all
-      ∙ keep-ext (λ e. isHead all e && test e) (λ e. isPressing all e && foremost e) all (λ e m. go (isHead all e) (blocked (crosspoints all) e) (foremost e) (upper e))
+      ∙ keep-ext (λ e. isHead all e && test e) (λ e. isPressing all e && foremost e) all
+      (λ e m. go (isHead all e) (blocked (crosspoints all) e) (foremost e) (upper e))
     where
       test : Waiting → Bool
       test e = isUrgent (crosspoints all) (phase all .scheduled) e
@@ -153,7 +158,8 @@ module _ (all : List Waiting) where
           ofInput-urgent
           ∙ keep-ext (λ e. isPressing all e && foremost e) (isPressing all) (ofInput input all) (λ e m.
           ap (λ b. isPressing all e && b)
-          (ap (all? (ahead e)) (near e (member-input m) (phase all .scheduled) ∙ scan-end-scheduled) ∙ all?-nil (ahead e))
+          (ap (all? (ahead e)) (near e (member-input m) (phase all .scheduled) ∙ scan-end-scheduled)
+          ∙ all?-nil (ahead e))
           ∙ and-true (isPressing all e))
 
     -- the first ready cell is scheduled, and each pressing cell before it is urgent
@@ -168,7 +174,8 @@ module _ (all : List Waiting) where
           ofInput-scheduled
           ∙ ap (λ l. least ahead (keep (isReady all) l)) split
           ∙ ap (least ahead) kept
-          ∙ least-ordered ahead ahead-strict e (keep (isReady all) back) (subst (λ l. pairwise ahead l ≡ true) kept (pairwise-keep ahead (isReady all) _ in-order))
+          ∙ least-ordered ahead ahead-strict e (keep (isReady all) back)
+          (subst (λ l. pairwise ahead l ≡ true) kept (pairwise-keep ahead (isReady all) _ in-order))
         where
           kept : keep (isReady all) (front ++ (e ∷ back)) ≡ e ∷ keep (isReady all) back
           kept =
@@ -181,7 +188,8 @@ module _ (all : List Waiting) where
           ofInput-urgent
           ∙ ap (keep test) split
           ∙ keep-append test front (e ∷ back)
-          ∙ ap₂ _++_ (keep-ext test (isPressing all) front before) (keep-none test (e ∷ back) (none?-i test (e ∷ back) after))
+          ∙ ap₂ _++_ (keep-ext test (isPressing all) front before)
+          (keep-none test (e ∷ back) (none?-i test (e ∷ back) after))
           ∙ append-nil (keep (isPressing all) front)
         where
           test : Waiting → Bool
@@ -190,7 +198,8 @@ module _ (all : List Waiting) where
           -- a cell of the input stands before the scheduled cells of its input if it is ahead of this one
           alone : (f : Waiting) → List·Memᴰ f (front ++ (e ∷ back)) → foremost f ≡ (ahead f e && true)
           alone f m =
-              ap (all? (ahead f)) (near f (member-input (subst (List·Memᴰ f) (sym split) m)) (phase all .scheduled) ∙ scan-stop-scheduled)
+              ap (all? (ahead f))
+              (near f (member-input (subst (List·Memᴰ f) (sym split) m)) (phase all .scheduled) ∙ scan-stop-scheduled)
               ∙ all?-cons (ahead f) e []
               ∙ ap (λ b. ahead f e && b) (all?-nil (ahead f))
 
@@ -211,5 +220,5 @@ module _ (all : List Waiting) where
               go (inl q) = ap (λ g. ahead g e) q ∙ ahead-irrefl e
               go (inr k) =
                   by-fail (ahead f e) (λ t.
-                  clash (ahead-trans e f e (pairwise-head ahead (pairwise-append-r ahead front (e ∷ back) in-order) k) t)
-                  (ahead-irrefl e))
+                  let before-f = pairwise-head ahead (pairwise-append-r ahead front (e ∷ back) in-order) k in
+                  clash (ahead-trans e f e before-f t) (ahead-irrefl e))

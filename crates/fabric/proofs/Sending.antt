@@ -56,7 +56,8 @@ module _ {table places : List ℕ} (r : Ready table places) where
   isIn e = isBuffered (e .place)
 
   -- a buffered cell of the list, by its number
-  buffered-e : {e : Waiting} → List·Memᴰ e all → isBuffered (e .place) ≡ true → Buffered table places (e .cell .output) (e .at)
+  buffered-e : {e : Waiting} → List·Memᴰ e all → isBuffered (e .place) ≡ true
+      → Buffered table places (e .cell .output) (e .at)
   unfolding waitingAt
   buffered-e {e} m b =
       let x = Window.inTable-e table places (ready-readable r) m in
@@ -70,7 +71,8 @@ module _ {table places : List ℕ} (r : Ready table places) where
   unfolding leaving waitingAt isIn
   leaves-i output n h =
       least-mem beats (keep-mem isIn (Window.inTable-i table places (ready-readable r) n (h .own .entry)) (h .own .place))
-      (none?-i (λ e. beats e (cellAt n)) (keep isIn all) (λ e m. by-fail _ (λ w. go e (mem-keep-in isIn all m) (mem-keep-passes isIn all m) w)))
+      (none?-i (λ e. beats e (cellAt n)) (keep isIn all)
+      (λ e m. by-fail _ (λ w. go e (mem-keep-in isIn all m) (mem-keep-passes isIn all m) w)))
     where
       go : (e : Waiting) → List·Memᴰ e all → isBuffered (e .place) ≡ true → beats e (cellAt n) ≡ true → ⊥
       go e m b w = past (h .upper (e .at) small own)
@@ -190,9 +192,11 @@ departuresBytes-drop (suc o) n ds =
     let next : departureSize * suc o ≡ departureSize + departureSize * o = omega arith in
     let one : 1 + o ≡ suc o = omega arith in
     ap₂ drop next (ap (λ m. departuresBytes m ds) (suc-add o n) ∙ departuresBytes-first (o + n) ds)
-    ∙ sym (drop-drop (departureSize * o) departureSize (departureBytes (getD ds 0 none) ++ departuresBytes (o + n) (drop 1 ds)))
+    ∙ sym
+    (drop-drop (departureSize * o) departureSize (departureBytes (getD ds 0 none) ++ departuresBytes (o + n) (drop 1 ds)))
     ∙ ap (drop (departureSize * o))
-    (drop-at (departureBytes (getD ds 0 none)) (departuresBytes (o + n) (drop 1 ds)) departureSize (length-departureBytes (getD ds 0 none)))
+    (drop-at (departureBytes (getD ds 0 none)) (departuresBytes (o + n) (drop 1 ds)) departureSize
+    (length-departureBytes (getD ds 0 none)))
     ∙ departuresBytes-drop o n (drop 1 ds)
     ∙ ap (departuresBytes n) (drop-drop o 1 ds ∙ ap (λ m. drop m ds) one)
 
@@ -247,7 +251,8 @@ module _ (ds : List (Option Cell)) (old : List ℕ) (room : 448 ≤ length old) 
   sent-more o mid new l first second =
       let n : ℕ = 28 * o in
       let more : n + 28 ≡ 28 * (o + 1) = omega arith in
-      let size : length (take n (departuresBytes 16 ds)) ≡ n = length-take-le n (departuresBytes 16 ds) (omega (arith, whole)) in
+      let size : length (take n (departuresBytes 16 ds)) ≡ n =
+      length-take-le n (departuresBytes 16 ds) (omega (arith, whole)) in
       let from : mid ≡ put 0 n (take n (departuresBytes 16 ds)) old =
       first ∙ ap (λ k. take n (departuresBytes 16 ds) ++ drop k old) (sym (zero-add n)) in
       let to : new ≡ put (0 + n) 28 (departureBytes (getD ds o none)) mid =
@@ -272,7 +277,8 @@ getD-map f (x ∷ l) zero d e h = refl
 getD-map f (x ∷ l) (suc i) d e h = getD-map f l i d e (omega arith)
 
 -- where all members are one cell, it is the first
-first-of : (l : List Waiting) {e : Waiting} → List·Memᴰ e l → ((f : Waiting) → List·Memᴰ f l → f ≡ e) → first? l ≡ some e
+first-of : (l : List Waiting) {e : Waiting} → List·Memᴰ e l → ((f : Waiting) → List·Memᴰ f l → f ≡ e)
+    → first? l ≡ some e
 unfolding first?
 first-of [] m h = absurd (List·Memᴰ·not-nil m)
 first-of (x ∷ l) m h = ap some (h x (List·Memᴰ·head refl))

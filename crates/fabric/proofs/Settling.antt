@@ -32,7 +32,7 @@ use Rattle.fabric.specs.Moved.{Settled}
 use Rattle.fabric.proofs.Rules.{straight-free, straight-scheduled, straight-match}
 use Rattle.fabric.proofs.Ports.{numberBy, ByPort, has, lacks, by-none, by-cases, by-one, inputOf, outputOf}
 use Rattle.fabric.proofs.Ports.{straight-output, scheduled-input, scheduledOf-by, straightOf-by}
-use Rattle.fabric.proofs.Moved.{Known, known}
+use Rattle.fabric.proofs.Known.{Known, known}
 use Rattle.fabric.proofs.Positions.{Lined, cellOf, cellOf-number, Position, position-e, few, matched-positions}
 
 -- within a list what stands past its end does not matter
@@ -121,7 +121,8 @@ module _ {table : List ℕ} (r : Readable table) (places : List ℕ) (o : Orderl
 
       pass : test k ≡ true
       pass =
-          and-i (eqb (getD held (getD outputs k 0) portLimit) (k / cellLimit)) (eqb (k % cellLimit) (getD refused (k / cellLimit) 0))
+          and-i (eqb (getD held (getD outputs k 0) portLimit) (k / cellLimit))
+          (eqb (k % cellLimit) (getD refused (k / cellLimit) 0))
           (eq-eqb _ _ (ap (λ y. getD held y portLimit) goes ∙ it ∙ sym port))
           (eq-eqb _ _ (place ∙ ap (λ j. getD refused j 0) (sym port)))
 
@@ -133,7 +134,8 @@ module _ {table : List ℕ} (r : Readable table) (places : List ℕ) (o : Orderl
       go : (k : ℕ) × List·Memᴰ k (keep test (positions counts)) × (cell k ≡ e) → getD held (outputOf e) portLimit ≡ inputOf e
       go (k, i, q) =
           ap (λ y. getD held y portLimit) (sym (p .output ∙ ap (λ w. w .cell .output) q))
-          ∙ eqb-true _ _ (and-l (eqb (getD held (getD outputs k 0) portLimit) (k / cellLimit)) _ (mem-keep-passes test (positions counts) i))
+          ∙ eqb-true _ _
+          (and-l (eqb (getD held (getD outputs k 0) portLimit) (k / cellLimit)) _ (mem-keep-passes test (positions counts) i))
           ∙ sym (p .input)
           ∙ ap (λ w. w .cell .input) q
         where
@@ -147,10 +149,6 @@ module _ {table : List ℕ} (r : Readable table) (places : List ℕ) (o : Orderl
         position = λ x l b.
             let w = match-held x (getD held x 0) l refl b in
             omega (arith, w .left, few r places counts numbers outputs ranks slots h (getD held x 0) b);
-        number = λ x l b.
-            let w = match-held x (getD held x 0) l refl b in
-            let k : Known r places (cell (w .position)) = known r places (match-all all (w .mem)) in
-            omega (arith, w .number, k .small);
       }
 
   F : ℕ → ℕ
@@ -236,7 +234,8 @@ module _ {table : List ℕ} (r : Readable table) (places : List ℕ) (o : Orderl
               sym (straight-match scheduled numbers held refused x i m refl refl b (eqb-false _ _ q))
               ∙ number
               ∙ sym (ap (numberBy outputOf (phase all .straight)) (sym (w .to))
-              ∙ by-one outputOf (phase all .straight) (straight-output all o) (straight-i all (urgent (eqb-false _ _ q)) (w .mem)))
+              ∙ by-one outputOf (phase all .straight) (straight-output all o)
+              (straight-i all (urgent (eqb-false _ _ q)) (w .mem)))
 
   pub settled : Settled table places scheduled numbers held refused
   unfolding F

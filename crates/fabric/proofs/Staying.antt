@@ -66,13 +66,15 @@ head-bytes o f p ho hf hp =
     (bytesOf-split 2 f (p + 256 * 0) hf ∙ ap (λ bs. bytesOf 1 f ++ bs) (bytesOf-split 1 p 0 hp))
 
 pub entry-words : (c : Cell) (p : ℕ) → c .output < 256 → c .flow < 256 → 1 ≤ p → p ≤ 3
-    → ((bytesOf 4 (c .output + 256 * c .flow + 65536 * p) ++ bytesOf 4 (c .rank)) ++ bytesOf 4 (c .tag)) ++ bytesOf 4 (c .slot)
+    → ((bytesOf 4 (c .output + 256 * c .flow + 65536 * p) ++ bytesOf 4 (c .rank)) ++ bytesOf 4 (c .tag))
+    ++ bytesOf 4 (c .slot)
     ≡ entryBytes (entryWith c p)
 unfolding entryBytes entryWith
 entry-words c p ho hf low high =
     ap (λ bs. ((bs ++ bytesOf 4 (c .rank)) ++ bytesOf 4 (c .tag)) ++ bytesOf 4 (c .slot))
     (head-bytes (c .output) (c .flow) p ho hf (omega arith)
-    ∙ ap (λ b. bytesOf 1 (c .output) ++ (bytesOf 1 (c .flow) ++ (bytesOf 1 b ++ bytesOf 1 0))) (sym (placeByte-placeOf p low high)))
+    ∙ ap (λ b. bytesOf 1 (c .output) ++ (bytesOf 1 (c .flow) ++ (bytesOf 1 b ++ bytesOf 1 0)))
+    (sym (placeByte-placeOf p low high)))
     ∙ simp append-assoc
 
 pub zero-words : bytesOf 8 0 ++ bytesOf 8 0 ≡ replicate 16 0
@@ -249,7 +251,8 @@ module _ (table places numbers : List ℕ) (first : ℕ) where
         bytes = sym (ap (closed table places numbers first) none ∙ closed-none);
       }
 
-  module _ {end : ℕ} (m : Movable table places first end) {k free : ℕ} {now : List ℕ} (c : Closing k free now) (l : k < end) where
+  module _ {end : ℕ} (m : Movable table places first end) {k free : ℕ} {now : List ℕ} (c : Closing k free now)
+      (l : k < end) where
     abbrev kept : List Entry
     kept = staying table places numbers first (k - first)
 

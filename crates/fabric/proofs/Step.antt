@@ -28,9 +28,18 @@ use Rattle.fabric.proofs.Window.{waitingAt-cell, inTable-below, agrees-
 use Rattle.fabric.proofs.Walk.{listed-byte, seen-pass, seen-mark, at-inside, at-input, head-seen}
 use Rattle.fabric.proofs.Walk.{empty-number, best-number, pressing-best}
 
-module _ {table places : List ℕ} {cross : List (List ℕ)} {best : List ℕ} (w : Walkable table places cross best)
-    {input k : ℕ} {seen : List Bool} (reached : Reached table places input k seen)
-    (high : k < cellLimit * input + countIn table input) where
+module _ {table places : List ℕ} {cross : List (List ℕ)} {best : List ℕ} {input k : ℕ} {seen : List Bool}
+    (given : Walkable table places cross best
+    × (Reached table places input k seen × (k < cellLimit * input + countIn table input))) where
+  w : Walkable table places cross best
+  w = given .0
+
+  reached : Reached table places input k seen
+  reached = given .1 .0
+
+  high : k < cellLimit * input + countIn table input
+  high = given .1 .1
+
   abbrev all : List Waiting
   all = inTable table places
 
@@ -47,13 +56,16 @@ module _ {table places : List ℕ} {cross : List (List ℕ)} {best : List ℕ} (
   here : n < countIn table input
   here = omega (arith, reached .low)
 
+  suc-n : n + 1 ≡ k + 1 - cellLimit * input
+  suc-n = omega (arith, reached .low)
+
   -- the walk goes on
   on : (next : List Bool) → Seen table places input (n + 1) next → Reached table places input (k + 1) next
   on next f = record {
     port = reached .port;
     low = omega (arith, reached .low);
     high = omega arith;
-    flows = subst (λ m. Seen table places input m next) (let q : n + 1 ≡ k + 1 - cellLimit * input = omega (arith, reached .low) in q) f;
+    flows = subst (λ m. Seen table places input m next) suc-n f;
   }
 
   inside : InTable table k
@@ -96,7 +108,8 @@ module _ {table places : List ℕ} {cross : List (List ℕ)} {best : List ℕ} (
     unfolding flowIndex waitingAt
     head-flag =
         head-seen table places (w .readable) input n (reached .port) here k at is-listed
-        ∙ ap not (sym (reached .flows .flows (entryAt table k .cell .output) (entryAt table k .cell .flow) step-output step-flow))
+        ∙ ap not (sym (reached .flows .flows (entryAt table k .cell .output) (entryAt table k .cell .flow) step-output
+        step-flow))
 
     -- one of its flow stands before it
     pub step-behind : not (getD seen (flowIndex table k) false) ≡ false
@@ -106,7 +119,8 @@ module _ {table places : List ℕ} {cross : List (List ℕ)} {best : List ℕ} (
         let g = head-flag ∙ f in
         (and-false-l (isHead all e) _ g, and-false-l (isHead all e) _ g)
 
-    module _ (first : not (getD seen (flowIndex table k) false) ≡ true) {o : ℕ} (out : o ≡ entryAt table k .cell .output) where
+    module _ (first : not (getD seen (flowIndex table k) false) ≡ true) {o : ℕ}
+        (out : o ≡ entryAt table k .cell .output) where
       is-head : isHead all e ≡ true
       is-head = head-flag ∙ first
 

@@ -27,7 +27,7 @@ use Rattle.fabric.specs.Choices.{candidatesOf}
 use Rattle.fabric.specs.Scan.{Readable, Chosen, someUrgent, outputAt, rankAt, slotAt}
 use Rattle.fabric.specs.Moved.{Settled}
 use Rattle.fabric.proofs.Candidates.{candidates-none}
-use Rattle.fabric.proofs.Moved.{known}
+use Rattle.fabric.proofs.Known.{known}
 use Rattle.fabric.proofs.Positions.{Lined, Position, position-e, few, proposals-positions}
 use Rattle.fabric.proofs.Settling.{settled}
 
@@ -66,7 +66,7 @@ no-urgent : (p : Phase) → someUrgent p ≡ false → p .urgent ≡ []
 unfolding someUrgent
 no-urgent p h = empty (p .urgent) (λ x m. clash (some?-i (λ e. true) m refl) h)
 
-module _ {table : List ℕ} (r : Readable table) (places scheduled counts numbers outputs ranks slots : List ℕ) {b : Bool}
+module _ {table : List ℕ} (r : Readable table) {places scheduled counts numbers outputs ranks slots : List ℕ} {b : Bool}
     (c : Chosen table places scheduled counts numbers outputs ranks slots b) where
   pub lined : Lined table places counts numbers outputs ranks slots
   unfolding outputAt rankAt slotAt
@@ -105,7 +105,7 @@ module _ {table : List ℕ} (r : Readable table) (places scheduled counts number
       (no-urgent (phase (inTable table places)) (sym (c .urgent) ∙ f))) in
       omega (arith, lined .counted (k / cellLimit) (w .0)))
 
-  module _ (o : Orderly (inTable table places)) (held refused : List ℕ) {made : ℕ}
+  module _ (o : Orderly (inTable table places)) {held refused : List ℕ} {made : ℕ}
       (found : Found counts outputs ranks slots held refused made) where
     pub chosen-settled : length held ≡ 16 → length numbers ≡ 1024 → Settled table places scheduled numbers held refused
     chosen-settled p q =

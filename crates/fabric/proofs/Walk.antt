@@ -17,8 +17,8 @@ use lib.ListN.{length, getD, set, replicate, length-set, length-replicate, getD-
 use lib.Seq.{getD-set-same, getD-set-other, set-getD}
 use Rattle.laws.specs.Lists.{keep, some?, none?, all?}
 use Rattle.laws.proofs.Tests.{by-fail, by-pass, same, and-i, and-l, and-r, and-false-l, or-r}
-use Rattle.laws.proofs.Lists.{Passing, some?-nil, some?-cons, some?-append, some?-i, none?-i, none?-clash, all?-i, all?-e}
-use Rattle.laws.proofs.Lists.{none?-not-some?, keep-mem, mem-keep-in, mem-keep-passes}
+use Rattle.laws.proofs.Lists.{Passing, some?-nil, some?-cons, some?-append, some?-i, none?-i, none?-clash}
+use Rattle.laws.proofs.Lists.{all?-i, all?-e, none?-not-some?, keep-mem, mem-keep-in, mem-keep-passes}
 use Rattle.cell.specs.Flow.{sameFlow}
 use Rattle.cell.specs.Limits.{cellLimit}
 use Rattle.cell.specs.Order.{over}
@@ -27,8 +27,8 @@ use Rattle.cell.proofs.Order.{Compared, below, equal, above, compare, over-tran
 use Rattle.model.specs.State.{listed, crossed, buffered, isListed}
 use Rattle.model.specs.Phase.{Waiting, ahead, beats, sameOutput, sameCrosspoint, blocked, crosspointEmpty}
 use Rattle.model.proofs.PhaseFacts.{lists, lists-i, lists-all, lists-listed}
-use Rattle.model.proofs.WaitingOrder.{ahead-i, ahead-at, ahead-input, beats-i, beats-over, output-i, output-e, crosspoint-i}
-use Rattle.model.proofs.WaitingOrder.{crosspoint-input, crosspoint-output}
+use Rattle.model.proofs.WaitingOrder.{ahead-i, ahead-at, ahead-input, beats-i, beats-over, output-i, output-e}
+use Rattle.model.proofs.WaitingOrder.{crosspoint-i, crosspoint-input, crosspoint-output}
 use Rattle.table.specs.Table.{placeOf}
 use Rattle.table.specs.Entry.{entryAt, portsIn, countIn}
 use Rattle.fabric.specs.View.{waitingAt, window, inTable, InTable, crosspointAt}
@@ -69,7 +69,8 @@ module _ (seen : List Bool) (table : List ℕ) (k : ℕ) {o f : ℕ} (output : o
 
   -- it was not
   pub flag-clear : getD seen (o * 8 + f) false ≡ false
-      → (true ≡ not (getD seen (flowIndex table k) false)) × (set seen (o * 8 + f) true ≡ set seen (flowIndex table k) true)
+      → (true ≡ not (getD seen (flowIndex table k) false))
+      × (set seen (o * 8 + f) true ≡ set seen (flowIndex table k) true)
   flag-clear h =
       (sym (ap (λ i. not (getD seen i false)) (sym index) ∙ ap not h), ap (λ i. set seen i true) index)
 
@@ -102,7 +103,8 @@ module _ (table places : List ℕ) where
         e : Waiting
         e = waitingAt table places (cellLimit * input + n)
 
-    module _ (n : ℕ) (seen : List Bool) (s : Seen table places input n seen) (k : ℕ) (at : k ≡ cellLimit * input + n) where
+    module _ (n : ℕ) (seen : List Bool) (s : Seen table places input n seen) (k : ℕ)
+        (at : k ≡ cellLimit * input + n) where
       abbrev e : Waiting
       e = waitingAt table places k
 
@@ -139,11 +141,14 @@ module _ (table places : List ℕ) where
 
           -- of another flow
           other : (o f : ℕ) → o < 16 → f < 8 → o * 8 + f ≢ at-flow → isOfFlow o f e ≡ false
-              → getD (set seen at-flow true) (o * 8 + f) false ≡ some? (isOfFlow o f) (window table places input (n + 1))
+              → getD (set seen at-flow true) (o * 8 + f) false
+              ≡ some? (isOfFlow o f) (window table places input (n + 1))
           other o f l m d q =
               getD-set-other seen at-flow (o * 8 + f) true false d
               ∙ s .flows o f l m
-              ∙ sym (last (isOfFlow o f) ∙ ap (λ b. some? (isOfFlow o f) (window table places input n) || b) q ∙ or-false _)
+              ∙ sym (last (isOfFlow o f)
+              ∙ ap (λ b. some? (isOfFlow o f) (window table places input n) || b) q
+              ∙ or-false _)
 
           apart : (o f : ℕ) → (o ≢ e .cell .output) ⊎ (f ≢ e .cell .flow) → isOfFlow o f e ≡ false
           apart o f d = by-fail (isOfFlow o f e) (λ t. go d (and-r (isListed (e .place)) _ t))
@@ -154,7 +159,8 @@ module _ (table places : List ℕ) where
               go (inr x) t = x (sym (eqb-true _ _ (and-r (eqb (e .cell .output) o) (eqb (e .cell .flow) f) t)))
 
           go : (o f : ℕ) → o < 16 → f < 8 → Compared o (e .cell .output) → Compared f (e .cell .flow)
-              → getD (set seen at-flow true) (o * 8 + f) false ≡ some? (isOfFlow o f) (window table places input (n + 1))
+              → getD (set seen at-flow true) (o * 8 + f) false
+              ≡ some? (isOfFlow o f) (window table places input (n + 1))
           go o f l m (equal a) (equal b) =
               let q : o * 8 + f ≡ at-flow = omega arith in
               ap (λ i. getD (set seen at-flow true) i false) q
@@ -189,7 +195,8 @@ module _ (table places : List ℕ) where
     at-input = waitingAt-input table places k ∙ quotient
 
     -- a cell of the list is a head if its flow was not seen
-    pub head-seen : isListed (waitingAt table places k .place) ≡ true → isHead (inTable table places) (waitingAt table places k)
+    pub head-seen : isListed (waitingAt table places k .place) ≡ true
+        → isHead (inTable table places) (waitingAt table places k)
         ≡ not (some? (isOfFlow (waitingAt table places k .cell .output) (waitingAt table places k .cell .flow))
         (window table places input n))
     unfolding isHead isOfFlow
@@ -211,7 +218,9 @@ module _ (table places : List ℕ) where
         flow f = isListed (f .place) && (eqb (f .cell .output) (e .cell .output) && eqb (f .cell .flow) (e .cell .flow))
 
         out : none? before (lists all) ≡ true → none? flow (window table places input n) ≡ true
-        out q = none?-i flow (window table places input n) (λ f m. by-fail (flow f) (λ t. none?-clash before q (go f m t .0) (go f m t .1)))
+        out q =
+            none?-i flow (window table places input n) (λ f m. by-fail (flow f) (λ t.
+            none?-clash before q (go f m t .0) (go f m t .1)))
           where
             go : (f : Waiting) → List·Memᴰ f (window table places input n) → flow f ≡ true
                 → List·Memᴰ f (lists all) × (before f ≡ true)
@@ -235,7 +244,9 @@ module _ (table places : List ℕ) where
                 )
 
         into : none? flow (window table places input n) ≡ true → none? before (lists all) ≡ true
-        into q = none?-i before (lists all) (λ f m. by-fail (before f) (λ t. none?-clash flow q (go f m t .0) (go f m t .1)))
+        into q =
+            none?-i before (lists all) (λ f m. by-fail (before f) (λ t.
+            none?-clash flow q (go f m t .0) (go f m t .1)))
           where
             go : (f : Waiting) → List·Memᴰ f (lists all) → before f ≡ true
                 → List·Memᴰ f (window table places input n) × (flow f ≡ true)
@@ -268,12 +279,16 @@ module _ (table : List ℕ) (cross : List (List ℕ)) {cells : List Waiting} (h 
   unfolding crosspointEmpty number
   empty-number =
       same (none? (sameCrosspoint e) cells) (leb 1024 number)
-      (λ n. by-pass (leb 1024 number) (λ f. let w = full (leb-false 1024 number f) in none?-clash (sameCrosspoint e) n (w .1) (w .2)))
-      (λ t. none?-i (sameCrosspoint e) cells (λ x m. by-fail (sameCrosspoint e x) (λ s. go (leb-true 1024 number t) x m s)))
+      (λ n. by-pass (leb 1024 number) (λ f.
+      let w = full (leb-false 1024 number f) in
+      none?-clash (sameCrosspoint e) n (w .1) (w .2)))
+      (λ t. none?-i (sameCrosspoint e) cells (λ x m.
+      by-fail (sameCrosspoint e x) (λ s. go (leb-true 1024 number t) x m s)))
     where
       go : 1024 ≤ number → (x : Waiting) → List·Memᴰ x cells → sameCrosspoint e x ≡ true → ⊥
       go l x m s =
-          let q : number ≡ x .at = ap₂ (crosspointAt cross) (crosspoint-input e x s) (crosspoint-output e x s) ∙ h .filled x m in
+          let q : number ≡ x .at =
+          ap₂ (crosspointAt cross) (crosspoint-input e x s) (crosspoint-output e x s) ∙ h .filled x m in
           omega (arith, h .inside x m .input)
 
   module _ (l : crosspointAt cross (e .cell .input) (e .cell .output) < 1024) where
@@ -297,7 +312,8 @@ module _ (table : List ℕ) (cross : List (List ℕ)) {cells : List Waiting} (h 
         (λ t. let u = subst (λ c. over (e .cell) c ≡ true) (sym best-cell) t in
         and-i (blocked cells e) upper
         (some?-i (λ x. sameCrosspoint e x && beats e x) (x .1)
-        (and-i (sameCrosspoint e (x .0)) (beats e (x .0)) (x .2) (over-each u (x .0) (x .1) (crosspoint-output e (x .0) (x .2)))))
+        (and-i (sameCrosspoint e (x .0)) (beats e (x .0)) (x .2)
+        (over-each u (x .0) (x .1) (crosspoint-output e (x .0) (x .2)))))
         (all?-i (beats e) (keep (sameOutput e) cells) (λ y m.
         over-each u y (mem-keep-in (sameOutput e) cells m) (output-e e y (mem-keep-passes (sameOutput e) cells m)))))
       where

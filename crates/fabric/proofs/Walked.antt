@@ -47,7 +47,9 @@ column-more column from l v room h m b = go (compare m (length l))
 
     go : Compared m (length l) → getD (set column (from + length l) v) (from + m) 0 ≡ getD (l ++ (v ∷ [])) m 0
     go (below c) =
-        getD-set-other column (from + length l) (from + m) v 0 (omega arith) ∙ h m c ∙ sym (List·getD-append l (v ∷ []) 0 m c)
+        getD-set-other column (from + length l) (from + m) v 0 (omega arith)
+        ∙ h m c
+        ∙ sym (List·getD-append l (v ∷ []) 0 m c)
     go (equal c) =
         ap (λ j. getD (set column (from + length l) v) (from + j) 0) c
         ∙ getD-set-same column (from + length l) v 0 room
@@ -207,7 +209,8 @@ module _ (table places : List ℕ) (input : ℕ) where
         let room : cellLimit * input + urgent < length new =
         omega (arith, walked-room, walked-small readable high, w .size) in
         let more = ap pressed suc-n ∙ pressed-press n k at t in
-        let place : cellLimit * input + urgent ≡ cellLimit * input + length (pressed n) = ap (λ j. cellLimit * input + j) (w .count) in
+        let place : cellLimit * input + urgent ≡ cellLimit * input + length (pressed n) =
+        ap (λ j. cellLimit * input + j) (w .count) in
         let inside : urgent < cellLimit = omega (arith, walked-room) in
         record {
           reached = r;
@@ -242,9 +245,11 @@ module _ (table places : List ℕ) (input : ℕ) where
           ap (none? (isReady (inTable table places))) (sym whole) ∙ w .none in
           let urgents : urgentOf (phase (inTable table places)) input ≡ pressed n =
           ap (map (λ e. e .at))
-          (scan-end-urgent (inTable table places) input none ∙ ap (keep (isPressing (inTable table places))) (sym whole)) in
+          (scan-end-urgent (inTable table places) input none
+          ∙ ap (keep (isPressing (inTable table places))) (sym whole)) in
           record {
-            scheduled = sym (ap (λ l. numberOf (first? l)) (scan-end-scheduled (inTable table places) input none) ∙ numberOf-nil);
+            scheduled =
+                sym (ap (λ l. numberOf (first? l)) (scan-end-scheduled (inTable table places) input none) ∙ numberOf-nil);
             count = w .count ∙ sym (ap length urgents);
             small = omega (arith, walked-room, few-cells r, w .reached .high);
             numbers = subst (Column new (cellLimit * input)) (sym urgents) (w .numbers);

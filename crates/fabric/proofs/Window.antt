@@ -134,7 +134,8 @@ module _ {A : Type 0} (w : ℕ → List A) where
     unfolding numbersFrom flatten
     run-one k zero s h l = absurd (omega arith)
     run-one k (suc n) s h l =
-        keep-append p (w k) (flatten (map w (numbersFrom (k + 1) n))) ∙ go (compare i k) (run-one (k + 1) n (omega arith))
+        keep-append p (w k) (flatten (map w (numbersFrom (k + 1) n)))
+        ∙ go (compare i k) (run-one (k + 1) n (omega arith))
       where
         rest : List A
         rest = flatten (map w (numbersFrom (k + 1) n))
@@ -177,7 +178,8 @@ module _ (table places : List ℕ) where
   window-zero input = refl
 
   pub window-suc : (input n : ℕ)
-      → window table places input (suc n) ≡ window table places input n ++ (waitingAt table places (cellLimit * input + n) ∷ [])
+      → window table places input (suc n)
+      ≡ window table places input n ++ (waitingAt table places (cellLimit * input + n) ∷ [])
   unfolding window
   window-suc input n =
       ap (map (waitingAt table places)) (numbersFrom-suc (cellLimit * input) n)
@@ -225,14 +227,17 @@ module _ (table places : List ℕ) where
   -- a window goes on after its first n cells
   pub window-split : (input n m k : ℕ) → n < m → k ≡ cellLimit * input + n
       → window table places input m
-      ≡ window table places input n ++ (waitingAt table places k ∷ map (waitingAt table places) (numbersFrom (k + 1) (m - (n + 1))))
+      ≡ window table places input n
+      ++ (waitingAt table places k ∷ map (waitingAt table places) (numbersFrom (k + 1) (m - (n + 1))))
   unfolding window
   window-split input n m k l at =
       let q : m ≡ n + suc (m - (n + 1)) = omega arith in
       ap (λ m. map (waitingAt table places) (numbersFrom (cellLimit * input) m)) q
       ∙ ap (map (waitingAt table places)) (numbersFrom-add (cellLimit * input) n (suc (m - (n + 1))))
-      ∙ map-append (waitingAt table places) (numbersFrom (cellLimit * input) n) (numbersFrom (cellLimit * input + n) (suc (m - (n + 1))))
-      ∙ ap (λ l. window table places input n ++ map (waitingAt table places) l) (ap (λ a. numbersFrom a (suc (m - (n + 1)))) (sym at) ∙ numbersFrom-cons k (m - (n + 1)))
+      ∙ map-append (waitingAt table places) (numbersFrom (cellLimit * input) n)
+      (numbersFrom (cellLimit * input + n) (suc (m - (n + 1))))
+      ∙ ap (λ l. window table places input n ++ map (waitingAt table places) l)
+      (ap (λ a. numbersFrom a (suc (m - (n + 1)))) (sym at) ∙ numbersFrom-cons k (m - (n + 1)))
 
   -- its cells stand in the order of their numbers
   pub window-ordered : (input n : ℕ) → n ≤ cellLimit → pairwise ahead (window table places input n) ≡ true

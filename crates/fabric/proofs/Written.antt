@@ -3,11 +3,10 @@
 --     written-hit       there the byte that was written stands
 --     written-miss      elsewhere nothing has changed
 --     written-is        both in one
---     written-ext       only the numbers below n count
 use Prim.Native.Nat.{ℕ, zero, suc, _<_}
 use native.Mathlib.Omega.{arith}
 use mathlib.Core.Bool.{Bool, true, false, cond, _||_, false≢true}
-use mathlib.Core.Path.{_≡_, refl, sym, _∙_, ap, ap₂}
+use mathlib.Core.Path.{_≡_, refl, sym, _∙_, ap}
 use mathlib.Core.Logic.{_⊎_, inl, inr}
 use mathlib.Core.List.{List}
 use borrow.Author.Tests.{eqb-true, eqb-false, eq-eqb}
@@ -90,9 +89,3 @@ written-is f v n l k d h = go (either (hit f n k))
     go : (hit f n k ≡ true) ⊎ (hit f n k ≡ false) → getD (written f v n l) k d ≡ cond (hit f n k) v (getD l k d)
     go (inl t) = written-hit f v n l k d h t ∙ sym (cond-pass (hit f n k) v (getD l k d) t)
     go (inr t) = written-miss f v n l k d t ∙ sym (cond-fail (hit f n k) v (getD l k d) t)
-
-pub written-ext : {A : Type 0} (f g : ℕ → ℕ) (v : A) (n : ℕ) (l : List A) → ((i : ℕ) → i < n → f i ≡ g i) → written f v n l ≡ written g v n l
-unfolding written
-written-ext {A} f g v zero l h = refl
-written-ext {A} f g v (suc n) l h =
-    ap₂ (λ (m : List A) (k : ℕ). set m k v) (written-ext f g v n l (λ i p. h i (omega arith))) (h n (omega arith))

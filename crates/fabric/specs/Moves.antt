@@ -86,13 +86,11 @@ crossedIn table places = keep (λ e. isCrossed (e .place)) (inTable table places
 unfoldable pub takeOf : List Bool → List Waiting → ℕ → ℕ
 takeOf straight cells output = cond (getD straight output false) nowhere (bestOf cells output)
 
--- the numbers of the matches are numbers of cells
+-- the matches that the outputs hold stand in the column
 pub record Matches (numbers held refused : List ℕ) : Type 0 where
   pub column : length numbers ≡ portLimit * cellLimit
   pub position : (output : ℕ) → output < portLimit → getD held output 0 < portLimit
       → getD refused (getD held output 0) 0 < cellLimit
-  pub number : (output : ℕ) → output < portLimit → getD held output 0 < portLimit
-      → matchAt numbers refused (getD held output 0) < nowhere
 
 ------------------------------------------------------------------------
 -- the rounds over the ports, after the first n

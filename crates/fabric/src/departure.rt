@@ -1,17 +1,16 @@
 // Document 01, "One slot", departure: each output sends the cell of highest output priority in its buffer, if it has
-// one. The cells that leave go into the answer, and the others close up in the table, with their places from the column.
+// one. The cells that leave go into the answer. The others close up in the table, with their places from the column.
 use crate::choosing::NOWHERE;
 use cell::Cell;
 ghost use mathlib.Core.Path.{_≡_};
 ghost use mathlib.Core.List.{_++_, map};
 ghost use Prim.Native.Nat.{_+_, _*_, _-_, _<_, _≤_};
 ghost use lib.ListN.{length, getD, take, drop, replicate};
-ghost use Rattle.table.specs.Table.{tableSize, encode};
+ghost use Rattle.model.specs.Crossbar.{departuresOf};
+ghost use Rattle.table.specs.Table.{tableSize, entryBytes, encode};
 ghost use Rattle.table.specs.Records.{recordStart};
 ghost use Rattle.table.specs.Answer.{departureBytes, departuresBytes};
 ghost use Rattle.table.specs.Host.{filled};
-ghost use Rattle.model.specs.Crossbar.{departuresOf};
-ghost use Rattle.table.specs.Table.{entryBytes};
 ghost use Rattle.table.specs.Entry.{entryAt, portsIn};
 ghost use Rattle.fabric.specs.View.{InTable};
 ghost use Rattle.fabric.specs.Departing.{Ready, Chosen, goesFirst, departureAt, noCell, sevenBytes, staying};
@@ -84,10 +83,9 @@ fn goes_first(table: &[u8], k: usize, held: u16) -> bool
     if held >= NOWHERE {
         return true;
     }
-    cell::over(
-        table::entry::cell_of(table, k),
-        table::entry::cell_of(table, held as usize),
-    )
+    let next = table::entry::cell_of(table, k);
+    let last = table::entry::cell_of(table, held as usize);
+    cell::over(next, last)
 }
 
 // The departures of the sixteen outputs.

@@ -1,4 +1,4 @@
-// Document 01, "One slot", rules 5 and 6: the cells move. A cell's place is 1 in a list, 2 at a crosspoint, 3 in a buffer.
+// Document 01, "One slot", rules 5 and 6: the cells move. A place is 1 in a list, 2 at a crosspoint, 3 in a buffer.
 // Each rule has a function that chooses the number of a cell, 1,024 for none, a function that moves that cell, and a
 // function that does both for every port.
 use crate::choosing::NOWHERE;
@@ -16,7 +16,8 @@ ghost use Rattle.fabric.specs.Choices.{nowhere};
 ghost use Rattle.fabric.specs.Scan.{Readable, Holds};
 ghost use Rattle.fabric.specs.View.{Agrees};
 ghost use Rattle.fabric.specs.Moved.{Steady, Settled, Moved};
-ghost use Rattle.fabric.specs.Moves.{put, straightTo, markOf, sendOf, takeOf, Square, Matches, crossedIn, Straightened, Sent, Pulled};
+ghost use Rattle.fabric.specs.Moves.{put, straightTo, markOf, sendOf, takeOf, crossedIn};
+ghost use Rattle.fabric.specs.Moves.{Square, Matches, Straightened, Sent, Pulled};
 
 // The ports of the straight cells: the inputs that they left, and the outputs that they went to.
 pub struct Straight {
@@ -123,7 +124,8 @@ fn straight_number(
     output: usize,
 ) -> u16
     requires { ⌜ Matches (now numbers) (now held) (now refused) × (output < 16) ⌝ }
-    ensures { λ r. ⌜ r ≡ straightTo (now (scheduled .entry)) (now (numbers .entry)) (now (held .entry)) (now (refused .entry)) output ⌝ }
+    ensures { λ r. ⌜ r
+        ≡ straightTo (now (scheduled .entry)) (now (numbers .entry)) (now (held .entry)) (now (refused .entry)) output ⌝ }
 {
     let input = wide(held[output]);
     if input >= 16 {

@@ -27,7 +27,8 @@ pub fn phase(
     slots: &mut [u32],
 ) -> u32
     requires { ⌜ Steady (now table) (now places) (now cross) ⌝ }
-    requires { ⌜ (length (now numbers) ≡ 1024) × (length (now outputs) ≡ 1024) × (length (now ranks) ≡ 1024) × (length (now slots) ≡ 1024) ⌝ }
+    requires { ⌜ (length (now numbers) ≡ 1024) × (length (now outputs) ≡ 1024)
+        × (length (now ranks) ≡ 1024) × (length (now slots) ≡ 1024) ⌝ }
     ensures { λ r. ⌜ Moved (now (table .entry)) (now (places .entry)) (now (places .exit)) (now (cross .exit)) ⌝ }
     ensures { λ r. ⌜ r ≡ phase (inTable (now (table .entry)) (now (places .entry))) .proposals ⌝ }
 {

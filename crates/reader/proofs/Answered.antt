@@ -1,6 +1,6 @@
--- What was read, by the answer of the reader:
---     opening-open, -refused, -short        of the header's reader
---     answer-slot, -end, -bad, -more        of the block's reader
+-- What stands in a text, by the answer of its reader:
+--     opening-open-e, -refused-e, -short-e       of the header's reader
+--     answer-slot-e, -end-e, -bad-e, -more-e     of the block's reader
 use Prim.Native.Nat.{ℕ, _+_, _-_, _≤_}
 use native.Mathlib.Omega.{arith}
 use mathlib.Core.Bool.{Bool, true, false}
@@ -83,10 +83,10 @@ module _ (last : Bool) (t : List ℕ) {o : Opening} (e : o ≡ openingOf t (head
   opening-of : (x : Piece Header) → headerIn last t ≡ x → o ≡ openingOf t x
   opening-of x h = e ∙ ap (openingOf t) h
 
-  pub opening-open : {n first i : ℕ} → o ≡ Open n first i
+  pub opening-open-e : {n first i : ℕ} → o ≡ Open n first i
       → (header t ≡ opened n first (from 3 (drop i t))) × (i ≤ length t)
   unfolding openingOf
-  opening-open {n} {first} {i} h = go (headerIn last t) refl
+  opening-open-e {n} {first} {i} h = go (headerIn last t) refl
     where
       go : (x : Piece Header) → headerIn last t ≡ x
           → (header t ≡ opened n first (from 3 (drop i t))) × (i ≤ length t)
@@ -104,9 +104,9 @@ module _ (last : Bool) (t : List ℕ) {o : Opening} (e : o ≡ openingOf t (head
           let c : d ≡ from 3 (drop i t) = λ j. record { line = header-line t k j; text = (u ∙ ap (λ j. drop j t) x) j } in
           (k ∙ ap (λ j. opened j f d) y ∙ ap (λ j. opened n j d) z ∙ ap (opened n first) c, omega arith)
 
-  pub opening-refused : {r : Refusal} {l : ℕ} → o ≡ Refused r l → header t ≡ refusedAt r l
+  pub opening-refused-e : {r : Refusal} {l : ℕ} → o ≡ Refused r l → header t ≡ refusedAt r l
   unfolding openingOf
-  opening-refused {r} {l} h = go (headerIn last t) refl
+  opening-refused-e {r} {l} h = go (headerIn last t) refl
     where
       go : (x : Piece Header) → headerIn last t ≡ x → header t ≡ refusedAt r l
       go more p = cc (opening-of more p)
@@ -116,9 +116,9 @@ module _ (last : Bool) (t : List ℕ) {o : Opening} (e : o ≡ openingOf t (head
           let y : k ≡ l = cc (opening-of (known (refusedAt s k)) p) in
           headerIn-read last t p ∙ ap (λ z. refusedAt z k) x ∙ ap (refusedAt r) y
 
-  pub opening-short : o ≡ Short → decided last t ≡ false
+  pub opening-short-e : o ≡ Short → decided last t ≡ false
   unfolding openingOf
-  opening-short h = go (headerIn last t) refl
+  opening-short-e h = go (headerIn last t) refl
     where
       go : (x : Piece Header) → headerIn last t ≡ x → decided last t ≡ false
       go more p = headerIn-unread last t p
@@ -139,9 +139,9 @@ module _ (last : Bool) (clock : ℕ) (t : List ℕ) {b : Block} (e : b ≡ block
   answer-of : (x : Piece Next) → nextIn last clock t ≡ x → b ≡ blockOf t x
   answer-of x h = e ∙ ap (blockOf t) h
 
-  pub answer-slot : {n i l : ℕ} → b .answer ≡ Slot n i l → Ahead clock t b n i l
+  pub answer-slot-e : {n i l : ℕ} → b .answer ≡ Slot n i l → Ahead clock t b n i l
   unfolding blockOf
-  answer-slot {n} {i} {l} h = go (nextIn last clock t) refl
+  answer-slot-e {n} {i} {l} h = go (nextIn last clock t) refl
     where
       go : (x : Piece Next) → nextIn last clock t ≡ x → Ahead clock t b n i l
       go more p = never (cc (ap (λ y. y .answer) (answer-of more p)))
@@ -166,9 +166,9 @@ module _ (last : Bool) (clock : ℕ) (t : List ℕ) {b : Block} (e : b ≡ block
             there = k ∙ ap (slotAhead rs) z;
           }
 
-  pub answer-end : b .answer ≡ End → next clock (from 0 t) ≡ finished
+  pub answer-end-e : b .answer ≡ End → next clock (from 0 t) ≡ finished
   unfolding blockOf
-  answer-end h = go (nextIn last clock t) refl
+  answer-end-e h = go (nextIn last clock t) refl
     where
       go : (x : Piece Next) → nextIn last clock t ≡ x → next clock (from 0 t) ≡ finished
       go more p = cc (ap (λ y. y .answer) (answer-of more p))
@@ -176,9 +176,9 @@ module _ (last : Bool) (clock : ℕ) (t : List ℕ) {b : Block} (e : b ≡ block
       go (known finished) p = nextIn-read last t clock p
       go (known (faulty k)) p = cc (ap (λ y. y .answer) (answer-of (known (faulty k)) p))
 
-  pub answer-bad : {k : ℕ} → b .answer ≡ Bad k → next clock (from 0 t) ≡ faulty k
+  pub answer-bad-e : {k : ℕ} → b .answer ≡ Bad k → next clock (from 0 t) ≡ faulty k
   unfolding blockOf
-  answer-bad {k} h = go (nextIn last clock t) refl
+  answer-bad-e {k} h = go (nextIn last clock t) refl
     where
       go : (x : Piece Next) → nextIn last clock t ≡ x → next clock (from 0 t) ≡ faulty k
       go more p = cc (ap (λ y. y .answer) (answer-of more p))
@@ -188,9 +188,9 @@ module _ (last : Bool) (clock : ℕ) (t : List ℕ) {b : Block} (e : b ≡ block
           let f : j ≡ k = cc (ap (λ y. y .answer) (answer-of (known (faulty j)) p)) in
           nextIn-read last t clock p ∙ ap faulty f
 
-  pub answer-more : b .answer ≡ More → decided last t ≡ false
+  pub answer-more-e : b .answer ≡ More → decided last t ≡ false
   unfolding blockOf
-  answer-more h = go (nextIn last clock t) refl
+  answer-more-e h = go (nextIn last clock t) refl
     where
       go : (x : Piece Next) → nextIn last clock t ≡ x → decided last t ≡ false
       go more p = nextIn-unread last t clock p

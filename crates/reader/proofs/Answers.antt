@@ -1,4 +1,9 @@
--- What the readers of a header and of a block answer, by what they read.
+-- What the reader of a header and that of a block answer, by what stands in the text:
+--     headerIn-known, -more, nextIn-known, -more   a piece of a text
+--     opening-short, -bad-ports, ..                the header
+--     block-known, -more                           a block, or the end
+--     end-bad, -other, -more, -end                 by the line of `end`
+--     slot-bad, -other, -same                      by the line of `slot`
 use Prim.Native.Nat.{ℕ, _+_, _-_, _≤_, _<_}
 use native.Mathlib.Omega.{arith}
 use mathlib.Core.Bool.{Bool, true, false}

@@ -1,4 +1,9 @@
--- What the reader of an arrival answers, by its five lines, and what was read by the answer.
+-- The reader of an arrival:
+--     cameOf-bad, -whole             its answer, by what was read
+--     arrival-bad-in, .., -whole     an arrival, by its lines
+--     number-line-next, ..           how many lines further
+--     came-bad, -whole               an arrival, by the answer
+--     onto                           arrivals before those that are read
 use Prim.Native.Nat.{ℕ, suc, _+_, _-_, _≤_}
 use native.Mathlib.Omega.{arith}
 use mathlib.Core.Bool.{Bool, true, false}

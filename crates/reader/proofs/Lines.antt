@@ -1,6 +1,9 @@
--- What the reader of a line answers:
---     lineOf-none, -some      by what was read
---     lineOf-bad, -number     and what was read by the answer
+-- The reader of a line:
+--     lineOf-none, -some           its answer, by what was read
+--     readLine-missing, -before    a line, by its key
+--     readLine-bad, -number        a line, by the answer
+--     rest                         the slice from a place
+--     number-bad, -got, taken      a line as a cursor has it
 use Prim.Native.Nat.{ℕ, _+_, _-_, _≤_}
 use native.Mathlib.Omega.{arith}
 use mathlib.Core.List.{List, _++_}
@@ -38,7 +41,7 @@ module _ (t : List ℕ) where
       let e : length t - length (drop i t) ≡ i = simp length-drop (omega arith) in
       rw (h, lineOf) (ap (Number n) e)
 
-  pub lineOf-bad : (o : Option (ℕ × List ℕ)) → lineOf t o ≡ Bad → o ≡ none
+  lineOf-bad : (o : Option (ℕ × List ℕ)) → lineOf t o ≡ Bad → o ≡ none
   unfolding lineOf
   lineOf-bad none h = refl
   lineOf-bad (some s) h = cc
@@ -65,10 +68,10 @@ module _ (k : Key) (t : List ℕ) where
   unfolding readLine readBody bind
   readLine-before h = rw (markOf-before-e (keyText k) t h .0)
 
-  pub readLine-bad : lineOf t (readLine k t) ≡ Bad → readLine k t ≡ none
+  readLine-bad : lineOf t (readLine k t) ≡ Bad → readLine k t ≡ none
   readLine-bad h = lineOf-bad t (readLine k t) h
 
-  pub readLine-number : {n i : ℕ} → lineOf t (readLine k t) ≡ Number n i
+  readLine-number : {n i : ℕ} → lineOf t (readLine k t) ≡ Number n i
       → (readLine k t ≡ some (n, drop i t)) × (i ≤ length t)
   readLine-number h = lineOf-number t k (readLine k t) refl h
 

@@ -1,6 +1,7 @@
 -- Whether a text begins with some bytes, as the code looks: byte by byte.
---     after-short, -end, -next, -other   what follows a prefix, by the first i bytes of both
---     markOf-before, -missing, and their -e   what the reader of a mark answers
+--     after-short, -next, -other, -end       what follows a prefix, by the first i bytes of both
+--     markOf-missing, -before, with -e       what the reader of a mark answers
+--     begins-before, -missing                whether a text begins with a key
 use Prim.Native.Nat.{ℕ, _+_, _≤_, _<_}
 use native.Mathlib.Numerals.{add-one}
 use native.Mathlib.Omega.{arith}

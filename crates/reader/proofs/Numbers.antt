@@ -204,7 +204,7 @@ scan n (b ∷ t) =
       | false ↦ elim (eqb n 0) [ true ↦ none | false ↦ elim (withDigit n b) [ Worth m ↦ scan m t | Bad ↦ none ] ]
     ]
 
-pub scan-nil : (n : ℕ) → scan n [] ≡ none
+scan-nil : (n : ℕ) → scan n [] ≡ none
 unfolding scan
 scan-nil n = refl
 
@@ -246,7 +246,7 @@ decimal-zero b t h =
     let (l, f) = upToLineFeed-first b t s h e in
     rw f (readNumber-zero b l)
 
-pub readBody-decimal : (n : ℕ) (t : List ℕ) → fits32 n ≡ true → readBody (decimal n ++ t) ≡ scan n t
+readBody-decimal : (n : ℕ) (t : List ℕ) → fits32 n ≡ true → readBody (decimal n ++ t) ≡ scan n t
 unfolding upToLineFeed
 readBody-decimal n [] h = readBody-none (decimal n ++ []) (upToLineFeed-none (decimal n) [] (all?-decimal n) refl) ∙ sym (scan-nil n)
 readBody-decimal n (b ∷ t) h = go (eqb b 10) refl (eqb n 0) refl (further n b) (readBody-decimal (10 * n + (b - 48)) t)
@@ -283,7 +283,7 @@ readBody-decimal n (b ∷ t) h = go (eqb b 10) refl (eqb n 0) refl (further n b)
 
 -- What stands behind a key: a first digit and what scan finds behind it.
 
-pub readBody-nil : readBody [] ≡ none
+readBody-nil : readBody [] ≡ none
 unfolding upToLineFeed
 readBody-nil = readBody-none [] refl
 

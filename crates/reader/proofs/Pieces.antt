@@ -1,12 +1,13 @@
 -- A reader's answer does not depend on where the text is cut:
---     Steady w m            m needs at most w bytes: what stands behind them changes nothing but the rest, and it takes no
---                           more of them; and its answer at a later line is the same, with later lines
---     steady-number, ..     the readers of a line, an arrival, the arrivals of a block, a block
---     next-later            what stands after a block, at a later line
---     next-append           and with more text behind it
---     next-bytes, next-line how many bytes and lines a block has
---     header-append         the header
---     cut-anywhere          the answer for a piece is the answer for the whole text
+--     Steady v x m             m takes at most v bytes and looks at most x further; what stands behind those changes nothing
+--                              but the rest, and at a later line the answer is the same, with later lines
+--     steady-number, ..        the readers of a line, of an arrival, of a block's arrivals and of a block
+--     next-slot-later, ..      what stands after the header or a block, at a later line
+--     next-bytes, next-line    how many bytes and lines a block has
+--     next-append              what stands there, with more text behind it
+--     next-unfinished          enough text does not end there
+--     header-append            the header, with more text behind it
+--     cut-anywhere, cut-header the answer for a piece is the answer for the whole text
 use Prim.Native.Nat.{ℕ, zero, suc, _+_, _*_, _/_, _≤_, _<_}
 use native.Mathlib.Omega.{arith}
 use mathlib.Core.Bool.{Bool, true, false}

@@ -50,7 +50,7 @@ sets-seam p q r vs n h k =
     sets-eq vs (p ++ (q ++ r)) n b
     ∙ rw (take-at p (q ++ r) n h, d) (append-assoc p vs r)
 
-pub paddedNumbers-snoc : (rs : List Arrival) (a : Arrival) → length rs < blockLimit
+paddedNumbers-snoc : (rs : List Arrival) (a : Arrival) → length rs < blockLimit
     → sets (paddedNumbers rs) (5 * length rs) (numbersOf (a ∷ [])) ≡ paddedNumbers (rs ++ (a ∷ []))
 unfolding paddedNumbers
 paddedNumbers-snoc rs a h =

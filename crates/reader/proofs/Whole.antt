@@ -36,7 +36,7 @@ use Rattle.trace.proofs.Blocks.{bind-bad, number-some, number-none, number-exac
 use Rattle.trace.proofs.Blocks.{next-no-block, next-no-last, next-exact}
 use Rattle.trace.proofs.RoundTrip.{blocks-end, blocks-slot, blocks-fault, read-refused, read-bad, read-accepted}
 use Rattle.reader.proofs.Pieces.{next-slot-later, next-finished-later, next-faulty-later, next-line}
-use Rattle.reader.proofs.Answered.{Ahead, answer-slot, answer-end, answer-bad}
+use Rattle.reader.proofs.Answered.{Ahead, answer-slot-e, answer-end-e, answer-bad-e}
 use Rattle.reader.proofs.Lines.{rest, rest-drop, length-rest}
 
 -- a line that is not the clock's
@@ -191,7 +191,7 @@ module _ {t : List ℕ} {first : ℕ} {left : List ℕ} {clock line : ℕ} (v : 
     {b : Block} (e : b ≡ blockOf left (nextIn true clock left)) where
   module _ {n i l : ℕ} (h : b .answer ≡ Slot n i l) where
     here : Ahead clock left b n i l
-    here = answer-slot true clock left e h
+    here = answer-slot-e true clock left e h
 
     there : next clock (from line left) ≡ slotAhead (here .rs) (from (line + l) (drop i left))
     there = next-slot-later clock line left (here .there)
@@ -238,14 +238,14 @@ module _ {t : List ℕ} {first : ℕ} {left : List ℕ} {clock line : ℕ} (v : 
   pub verified-end : b .answer ≡ End → Accepted (clock - first) ≡ endedOf first t
   unfolding ended
   verified-end h =
-      let p : next clock (from line left) ≡ finished = next-finished-later clock line left (answer-end true clock left e h) in
+      let p : next clock (from line left) ≡ finished = next-finished-later clock line left (answer-end-e true clock left e h) in
       let z : clock - first + 0 ≡ clock - first = omega arith in
       sym (v .same ∙ ap (ended (clock - first)) (blocksOf-end clock (from line left) p) ∙ ap Accepted z)
 
   pub verified-bad : {k : ℕ} → b .answer ≡ Bad k → Refused BadLine (line + k) ≡ endedOf first t
   unfolding ended
   verified-bad h =
-      let p = next-faulty-later clock line left (answer-bad true clock left e h) in
+      let p = next-faulty-later clock line left (answer-bad-e true clock left e h) in
       sym (v .same ∙ ap (ended (clock - first)) (blocksOf-fault clock (from line left) p))
 
 -- the whole text, by its header

@@ -1,4 +1,7 @@
--- What the functions of the reader answer.
+-- What the functions of the reader answer, by what the definitions read:
+--     lineOf t o      a line at the start of t
+--     verdictOf o     a whole text
+--     withDigit, markOf, readBody, cameOf, noArrivals, ahead, endedOf    the same of parts, for the private functions
 use Prim.Native.Nat.{ℕ, _+_, _*_, _-_}
 use mathlib.Core.Bool.{true, false, _&&_}
 use mathlib.Core.List.{List, []}
@@ -23,47 +26,49 @@ use Rattle.trace.specs.Line.{after, upToLineFeed, isDigit, readNumber}
 use Rattle.trace.specs.Piece.{paddedNumbers}
 use Rattle.trace.specs.Reader.{Cursor, Read, got, badAt, Next, slotAhead, faulty, blocks, Outcome, accepted, refused}
 
+-- a text and the number of its first line
 abbrev pub from : ℕ → List ℕ → Cursor
 from l t = record { line = l; text = t }
+
+-- how many bytes of t were read is what they left
+unfoldable pub lineOf : List ℕ → Option (ℕ × List ℕ) → Line
+lineOf t none = Bad
+lineOf t (some s) = Number (s .0) (length t - length (s .1))
+
+unfoldable pub verdictOf : Outcome → Verdict
+verdictOf (accepted c) = Accepted (length (c .slots))
+verdictOf (refused r l) = Refused r l
 
 -- the digits of a number and one more
 unfoldable pub withDigit : ℕ → ℕ → Digits
 withDigit n b =
     elim (isDigit b && fits32 (10 * n + (b - 48))) [ true ↦ Worth (10 * n + (b - 48)) | false ↦ NoDigits ]
 
--- whether a text begins so, and with how many bytes
+-- whether a text begins with p, and how long p is
 unfoldable pub markOf : List ℕ → List ℕ → Mark
 markOf p t = elim (after p t) [ none ↦ Missing | some u ↦ Before (length p) ]
 
--- a line behind its key: the number and what follows the line feed
+-- a line behind its key: the number, and what follows the line feed
 unfoldable pub readBody : List ℕ → Option (ℕ × List ℕ)
 readBody t = bind (upToLineFeed t) (λ s. Option·map (λ n. (n, s .1)) (readNumber (s .0)))
-
-unfoldable pub lineOf : List ℕ → Option (ℕ × List ℕ) → Line
-lineOf t none = Bad
-lineOf t (some s) = Number (s .0) (length t - length (s .1))
 
 unfoldable pub cameOf : List ℕ → Read Arrival → Came
 cameOf t (got a d) = Whole a (length t - length (d .text))
 cameOf t (badAt l) = BadCame l
 
--- an answer without arrivals
 unfoldable pub noArrivals : Answer → Block
 noArrivals a = record { answer = a; records = paddedNumbers [] }
 
--- the arrivals of a block, as what stands there
+-- the arrivals of a block, once its `slot` line is read
 unfoldable pub ahead : Read (List Arrival) → Next
 ahead (got rs d) = slotAhead rs d
 ahead (badAt l) = faulty l
 
+-- the slots of a text, after n others
 unfoldable pub ended : ℕ → Read (List (List Arrival)) → Verdict
 ended n (got slots d) = Accepted (n + length slots)
 ended n (badAt l) = Refused BadLine l
 
+-- the text after the header, which has two lines
 unfoldable pub endedOf : ℕ → List ℕ → Verdict
 endedOf first t = ended 0 (blocks (length t) first (from 3 t))
-
--- What the reader of a whole text answers.
-unfoldable pub verdictOf : Outcome → Verdict
-verdictOf (accepted c) = Accepted (length (c .slots))
-verdictOf (refused r l) = Refused r l

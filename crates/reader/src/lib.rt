@@ -66,6 +66,7 @@ pub fn verify(text: &[u8]) -> Verdict
     match opening {
         Opening::Open(_, first, used) => verify_blocks(&text[used..], first),
         Opening::Refused(refusal, line) => Verdict::Refused(refusal, line as usize),
+        // never: all of the text is there
         Opening::Short => Verdict::Refused(Refusal::BadLine, 1),
     }
 }
@@ -112,7 +113,7 @@ pub fn read_line(text: &[u8], key: Key) -> Line
     read_number(text, start)
 }
 
-// { block } end
+// { block } end, from line 3 on; no line has the number after 4,294,967,295
 fn verify_blocks(text: &[u8], first: u32) -> Verdict
     ensures { λ r. ⌜ r ≡ endedOf first (now (text .entry)) ⌝ }
 {
@@ -137,6 +138,7 @@ fn verify_blocks(text: &[u8], first: u32) -> Verdict
             Answer::Bad(k) => {
                 return Verdict::Refused(Refusal::BadLine, line + k as usize);
             }
+            // never: all of the text is there
             Answer::More => {
                 return Verdict::Refused(Refusal::BadLine, line);
             }
@@ -144,7 +146,7 @@ fn verify_blocks(text: &[u8], first: u32) -> Verdict
     }
 }
 
-// Whether the text is enough to decide by.
+// Whether the text is enough to decide by: it is all there, or more than any block can have.
 fn decided(text: &[u8], last: bool) -> bool
     ensures { λ r. ⌜ r ≡ decided last (now (text .entry)) ⌝ }
 {

@@ -58,33 +58,37 @@ bytesOf-halves zero w low high small =
     rw zero-add (ap (bytesOf w) all)
 bytesOf-halves (suc v) w low high small =
     let power : 256 ^ suc v ≡ 256 * 256 ^ v = pow-succ' 256 v in
-    let part : 256 ^ suc v * high ≡ 256 * (256 ^ v * high) =
-    ap (λ n. n * high) power ∙ mul-assoc 256 (256 ^ v) high in
-    let first : (low + 256 ^ suc v * high) % 256 ≡ low % 256 = omega arith in
-    let others : (low + 256 ^ suc v * high) / 256 ≡ low / 256 + 256 ^ v * high = omega arith in
+    let part = ap (λ n. n * high) power ∙ mul-assoc 256 (256 ^ v) high in
+    let first : (low + 256 ^ suc v * high) % 256 ≡ low % 256 = omega (arith, part) in
+    let others : (low + 256 ^ suc v * high) / 256 ≡ low / 256 + 256 ^ v * high = omega (arith, part) in
     let less : low / 256 < 256 ^ v = omega arith in
-    rw suc-add
-    (ap₂ _∷_ first (ap (bytesOf (v + w)) others ∙ bytesOf-halves v w (low / 256) high less))
+    rw suc-add (ap₂ _∷_ first (ap (bytesOf (v + w)) others ∙ bytesOf-halves v w (low / 256) high less))
 
 -- bytes at a place, the others kept
 abbrev put : ℕ → ℕ → List ℕ → List ℕ → List ℕ
 put at width bs old = take at old ++ (bs ++ drop (at + width) old)
 
 -- one run of bytes and then one behind it
-put-put : (at v w : ℕ) (xs ys old : List ℕ) → length xs ≡ v → length ys ≡ w → at + (v + w) ≤ length old
-    → put (at + v) w ys (put at v xs old) ≡ put at (v + w) (xs ++ ys) old
-put-put at v w xs ys old hx hy room =
-    let front : length (take at old ++ xs) ≡ at + v =
-    length-append (take at old) xs ∙ ap₂ _+_ (length-take-le at old (omega arith)) hx in
-    let split : put at v xs old ≡ (take at old ++ xs) ++ drop (at + v) old =
-    sym (append-assoc (take at old) xs (drop (at + v) old)) in
-    let head : take (at + v) (put at v xs old) ≡ take at old ++ xs =
-    rw split (take-at (take at old ++ xs) (drop (at + v) old) (at + v) front) in
-    let tail : drop (at + v + w) (put at v xs old) ≡ drop (at + (v + w)) old =
-    rw split (rw (← drop-drop w (at + v) ((take at old ++ xs) ++ drop (at + v) old))
-    (rw (drop-at (take at old ++ xs) (drop (at + v) old) (at + v) front)
-    (drop-drop w (at + v) old ∙ ap (λ n. drop n old) (add-assoc at v w)))) in
-    ap₂ (λ front back. front ++ (ys ++ back)) head tail ∙ simp append-assoc
+module _ (at v w : ℕ) (xs ys old : List ℕ) (hx : length xs ≡ v) (room : at + v ≤ length old) where
+  put-front : length (take at old ++ xs) ≡ at + v
+  put-front = length-append (take at old) xs ∙ ap₂ _+_ (length-take-le at old (omega arith)) hx
+
+  put-parts : put at v xs old ≡ (take at old ++ xs) ++ drop (at + v) old
+  put-parts = sym (append-assoc (take at old) xs (drop (at + v) old))
+
+  put-head : take (at + v) (put at v xs old) ≡ take at old ++ xs
+  put-head = rw put-parts (take-at (take at old ++ xs) (drop (at + v) old) (at + v) put-front)
+
+  put-tail : drop (at + v + w) (put at v xs old) ≡ drop (at + (v + w)) old
+  put-tail =
+      sym (drop-drop w (at + v) (put at v xs old))
+      ∙ ap (λ l. drop w (drop (at + v) l)) put-parts
+      ∙ ap (drop w) (drop-at (take at old ++ xs) (drop (at + v) old) (at + v) put-front)
+      ∙ drop-drop w (at + v) old
+      ∙ ap (λ n. drop n old) (add-assoc at v w)
+
+  put-put : put (at + v) w ys (put at v xs old) ≡ put at (v + w) (xs ++ ys) old
+  put-put = ap₂ (λ front back. front ++ (ys ++ back)) put-head put-tail ∙ simp append-assoc
 
 -- a number written half by half
 pub put-halves : (w at low high n : ℕ) (old mid new : List ℕ) → at + (w + w) ≤ length old
@@ -94,7 +98,7 @@ pub put-halves : (w at low high n : ℕ) (old mid new : List ℕ) → at + (w + 
 put-halves w at low high n old mid new room first second small whole =
     second
     ∙ ap (put (at + w) w (bytesOf w high)) first
-    ∙ put-put at w w (bytesOf w low) (bytesOf w high) old (length-bytesOf w low) (length-bytesOf w high) room
+    ∙ put-put at w w (bytesOf w low) (bytesOf w high) old (length-bytesOf w low) (omega arith)
     ∙ ap (λ bs. put at (w + w) bs old) (sym (bytesOf-halves w w low high small) ∙ ap (bytesOf (w + w)) (sym whole))
 
 pub put-byte : (at b : ℕ) (old : List ℕ) → at + 1 ≤ length old → b < 256

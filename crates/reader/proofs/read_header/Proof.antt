@@ -4,7 +4,7 @@ use mathlib.Core.Path.{sym, _∙_}
 use borrow.Author.Tests.{not-true, not-false}
 use denote.Ref.{now}
 use Rattle.trace.specs.declared.Key.the-variants.{Ports, First}
-use Rattle.reader.proofs.Lines.{rest, length-rest, number-bad, number-next, number-within}
+use Rattle.reader.proofs.Lines.{rest, number-bad, taken}
 use Rattle.reader.proofs.Answers.{opening-short, opening-bad-ports, opening-bad-size}
 use Rattle.reader.proofs.Answers.{opening-bad-first, opening-open}
 use borrow.Author.Needs.{needs}
@@ -37,16 +37,16 @@ ports-in-range-requires c κs = search needs
 returns-3 : tie.Need-returns-3
 returns-3 c =
     let d = sym (c .before .before .before .before .before .before .before .decided .ensures) ∙ not-false _ (c .before .before .before .before .before .before .if1 .left) in
-    let p = number-next Ports 1 _ (c .before .before .before .before .before .read-line .ensures) (c .before .before .before .ports .given .1) in
-    sym (opening-bad-size _ _ d p (sym (c .before .ports-in-range .ensures) ∙ not-true _ (c .if2 .taken)))
+    let p = taken Ports 1 _ (c .before .before .before .before .before .read-line .ensures) (c .before .before .before .ports .given .1) in
+    sym (opening-bad-size _ _ d (p .read) (sym (c .before .ports-in-range .ensures) ∙ not-true _ (c .if2 .taken)))
 
 sub-read-line : tie.Need-sub-read-line
 sub-read-line c =
-    number-within Ports 1 _ (c .before .before .before .before .before .read-line .ensures) (c .before .before .before .ports .given .1)
+    taken Ports 1 _ (c .before .before .before .before .before .read-line .ensures) (c .before .before .before .ports .given .1) .within
 
 part-read-line-start : tie.Need-part-read-line-start
 part-read-line-start c =
-    number-within Ports 1 _ (c .before .before .before .before .before .read-line .ensures) (c .before .before .before .ports .given .1)
+    taken Ports 1 _ (c .before .before .before .before .before .read-line .ensures) (c .before .before .before .ports .given .1) .within
 
 part-read-line-end : tie.Need-part-read-line-end
 part-read-line-end c = search needs
@@ -65,34 +65,28 @@ returns-4 c =
     let t = now (c .before .before .before .before .before .before .before .before .before .before .before .before .before .args .text) in
     let i = c .before .before .before .before .before .before .before .ports .given .0 .1 .0 in
     let d = sym (c .before .before .before .before .before .before .before .before .before .before .before .decided .ensures) ∙ not-false _ (c .before .before .before .before .before .before .before .before .before .before .if1 .left) in
-    let p = number-next Ports 1 t (c .before .before .before .before .before .before .before .before .before .read-line .ensures) (c .before .before .before .before .before .before .before .ports .given .1) in
+    let p = taken Ports 1 t (c .before .before .before .before .before .before .before .before .before .read-line .ensures) (c .before .before .before .before .before .before .before .ports .given .1) in
     let r = sym (c .before .before .before .before .before .ports-in-range .ensures) ∙ not-false _ (c .before .before .before .before .if2 .left) in
     let f = number-bad First 2 (rest t i) (c .before .before .read-line2 .ensures) (c .enum-told2 .given .1) in
-    sym (opening-bad-first _ t d p r f)
+    sym (opening-bad-first _ t d (p .read) r f)
 
 add-t15 : tie.Need-add-t15
 add-t15 c =
     let t = now (c .before .before .before .before .before .before .before .before .before .before .before .before .before .before .args .text) in
     let i = c .before .before .before .before .before .before .before .before .ports .given .0 .1 .0 in
-    let x = number-within Ports 1 t (c .before .before .before .before .before .before .before .before .before .before .read-line .ensures) (c .before .before .before .before .before .before .before .before .ports .given .1) in
-    let y = number-within First 2 (rest t i) (c .before .before .before .read-line2 .ensures) (c .before .first .given .1) in
-    let z = length-rest t i in
-    omega (arith, c .before .before .before .before .before .before .before .before .before .before .before .before .before .before .good)
+    let p = taken Ports 1 t (c .before .before .before .before .before .before .before .before .before .before .read-line .ensures) (c .before .before .before .before .before .before .before .before .ports .given .1) in
+    let q = taken First 2 (rest t i) (c .before .before .before .read-line2 .ensures) (c .before .first .given .1) in
+    omega (arith, c .before .before .before .before .before .before .before .before .before .before .before .before .before .before .good, p, q)
 
 returns-5 : tie.Need-returns-5
 returns-5 c =
     let t = now (c .before .before .before .before .before .before .before .before .before .before .before .before .before .before .args .text) in
     let i = c .before .before .before .before .before .before .before .before .ports .given .0 .1 .0 in
-    let j = c .before .first .given .0 .1 .0 in
     let d = sym (c .before .before .before .before .before .before .before .before .before .before .before .before .decided .ensures) ∙ not-false _ (c .before .before .before .before .before .before .before .before .before .before .before .if1 .left) in
-    let p = number-next Ports 1 t (c .before .before .before .before .before .before .before .before .before .before .read-line .ensures) (c .before .before .before .before .before .before .before .before .ports .given .1) in
+    let p = taken Ports 1 t (c .before .before .before .before .before .before .before .before .before .before .read-line .ensures) (c .before .before .before .before .before .before .before .before .ports .given .1) in
     let r = sym (c .before .before .before .before .before .before .ports-in-range .ensures) ∙ not-false _ (c .before .before .before .before .before .if2 .left) in
-    let f = number-next First 2 (rest t i) (c .before .before .before .read-line2 .ensures) (c .before .first .given .1) in
-    let x = number-within Ports 1 t (c .before .before .before .before .before .before .before .before .before .before .read-line .ensures) (c .before .before .before .before .before .before .before .before .ports .given .1) in
-    let y = number-within First 2 (rest t i) (c .before .before .before .read-line2 .ensures) (c .before .first .given .1) in
-    let z = length-rest t i in
-    let w = length-rest (rest t i) j in
-    sym (opening-open _ t d p r f (omega arith))
+    let q = taken First 2 (rest t i) (c .before .before .before .read-line2 .ensures) (c .before .first .given .1) in
+    sym (opening-open _ t d (p .read) r (q .read) (omega (arith, p, q)))
 
 pub read-header-spec : {M : Type 1} → statement M
 read-header-spec =

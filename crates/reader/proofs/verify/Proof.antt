@@ -2,7 +2,7 @@
 use mathlib.Core.Bool.{true}
 use mathlib.Core.Path.{_∙_}
 use Rattle.reader.proofs.Whole.{verdict-blocks, verdict-refused, whole-decided}
-use Rattle.reader.proofs.Answered.{opening-open, opening-refused, opening-short}
+use Rattle.reader.proofs.Answered.{opening-open-e, opening-refused-e, opening-short-e}
 use borrow.Author.Needs.{needs}
 use Rattle.reader.proofs.verify.Statement.{statement}
 use Rattle.reader.proofs.verify.Tie as tie
@@ -15,11 +15,11 @@ enum-known-opening c = search needs
 
 sub-verify-blocks : tie.Need-sub-verify-blocks
 sub-verify-blocks c =
-    opening-open true _ (c .before .before .before .read-header .ensures) (c .before .opening .given .1) .1
+    opening-open-e true _ (c .before .before .before .read-header .ensures) (c .before .opening .given .1) .1
 
 part-verify-blocks-start : tie.Need-part-verify-blocks-start
 part-verify-blocks-start c =
-    opening-open true _ (c .before .before .before .read-header .ensures) (c .before .opening .given .1) .1
+    opening-open-e true _ (c .before .before .before .read-header .ensures) (c .before .opening .given .1) .1
 
 part-verify-blocks-end : tie.Need-part-verify-blocks-end
 part-verify-blocks-end c = search needs
@@ -38,16 +38,16 @@ enum-told c = search needs
 
 returns : tie.Need-returns
 returns c =
-    let h = opening-open true _ (c .before .before .before .before .before .read-header .ensures) (c .before .before .before .opening .given .1) .0 in
+    let h = opening-open-e true _ (c .before .before .before .before .before .read-header .ensures) (c .before .before .before .opening .given .1) .0 in
     c .verify-blocks .ensures ∙ verdict-blocks _ (c .before .before .before .opening .given .0 .1 .1 .0) h
 
 returns-2 : tie.Need-returns-2
 returns-2 c =
-    verdict-refused _ (opening-refused true _ (c .before .before .before .read-header .ensures) (c .before .opening2 .given .1))
+    verdict-refused _ (opening-refused-e true _ (c .before .before .before .read-header .ensures) (c .before .opening2 .given .1))
 
 returns-3 : tie.Need-returns-3
 returns-3 c =
-    whole-decided _ (opening-short true _ (c .before .before .read-header .ensures) (c .enum-told .given .1))
+    whole-decided _ (opening-short-e true _ (c .before .before .read-header .ensures) (c .enum-told .given .1))
 
 pub verify-spec : {M : Type 1} → statement M
 verify-spec =

@@ -6,7 +6,7 @@ use native.Mathlib.Omega.{arith}
 use lib.ListN.{length}
 use Rattle.reader.proofs.Whole.{Verified, verified-start, verified-within, verified-lines, verified-less}
 use Rattle.reader.proofs.Whole.{verified-more, verified-clock-end, verified-end, verified-bad, whole-decided}
-use Rattle.reader.proofs.Answered.{answer-more}
+use Rattle.reader.proofs.Answered.{answer-more-e}
 use Rattle.reader.proofs.verify_blocks.Statement.{statement}
 use Rattle.reader.proofs.verify_blocks.Tie as tie
 
@@ -89,7 +89,7 @@ enum-told-2 c = search needs
 
 returns-4 : tie.Need-returns-4 Inv-loop μ-loop
 returns-4 c =
-    whole-decided _ (answer-more true _ _ (c .before .before .read-block .ensures) (c .enum-told2 .given .1))
+    whole-decided _ (answer-more-e true _ _ (c .before .before .read-block .ensures) (c .enum-told2 .given .1))
 
 pub verify-blocks-spec : {M : Type 1} → statement M
 verify-blocks-spec =

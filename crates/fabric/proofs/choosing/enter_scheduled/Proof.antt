@@ -6,7 +6,8 @@ use mathlib.Core.Path.{_≡_, sym, _∙_, ap}
 use mathlib.Core.List.{[], _∷_}
 use borrow.Author.Tests.{not-true, not-false}
 use Rattle.fabric.proofs.Columns.{written-none}
-use Rattle.fabric.proofs.Choice.{EnteredTo, entered-same, entered-one, entered-to, enter-first, enter-urgent, scheduled-inside}
+use Rattle.fabric.proofs.Choice.{EnteredTo, entered-same, entered-one, entered-to, enter-first, enter-urgent}
+use Rattle.fabric.proofs.Choice.{scheduled-inside}
 use Rattle.fabric.proofs.choosing.enter_scheduled.Statement.{statement}
 use Rattle.fabric.proofs.choosing.enter_scheduled.Tie as tie
 

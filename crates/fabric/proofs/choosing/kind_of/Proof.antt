@@ -12,31 +12,31 @@ use Rattle.fabric.proofs.choosing.kind_of.Tie as tie
 shared-slice-read-if1 : tie.Need-shared-slice-read-if1
 shared-slice-read-if1 c =
     let start = c .before .before .before in
-    omega (arith, start .pre .0 .column, step-small (start .pre .0) (start .pre .1 .0) (start .pre .1 .1))
+    omega (arith, start .pre .0 .column, step-small (start .pre))
 
 returns : tie.Need-returns
 returns c =
     let start = c .before .before .before .before in
-    step-unlisted (start .pre .0) (start .pre .1 .0) (start .pre .1 .1) (c .if1 .taken)
+    step-unlisted (start .pre) (c .if1 .taken)
 
 is-head-requires : tie.Need-is-head-requires
 is-head-requires c κs =
     let start = c .before .before .before .before .before in
-    ((start .pre .0 .readable .size, step-small (start .pre .0) (start .pre .1 .0) (start .pre .1 .1)), (step-output (start .pre .0) (start .pre .1 .0) (start .pre .1 .1), step-flow (start .pre .0) (start .pre .1 .0) (start .pre .1 .1)))
+    ((start .pre .0 .readable .size, step-small (start .pre)), (step-output (start .pre), step-flow (start .pre)))
 
 returns-2 : tie.Need-returns-2
 returns-2 c =
     let head = c .before in
     let start = head .before .before .before .before .before .before in
     let listed = head .before .before .if1 .left in (
-      step-behind (start .pre .0) (start .pre .1 .0) (start .pre .1 .1) listed (sym (head .is-head .ensures .0) ∙ not-true _ (c .if2 .taken)),
-      step-marked (start .pre .0) (start .pre .1 .0) (start .pre .1 .1) listed _ (head .is-head .ensures .1),
+      step-behind (start .pre) listed (sym (head .is-head .ensures .0) ∙ not-true _ (c .if2 .taken)),
+      step-marked (start .pre) listed _ (head .is-head .ensures .1),
     )
 
 output-of-requires : tie.Need-output-of-requires
 output-of-requires c κs =
     let start = c .before .before .before .before .before .before .before in
-    (start .pre .0 .readable .size, step-small (start .pre .0) (start .pre .1 .0) (start .pre .1 .1))
+    (start .pre .0 .readable .size, step-small (start .pre))
 
 cast-output : tie.Need-cast-output
 cast-output c = search needs
@@ -53,7 +53,7 @@ index-1-held c = search needs
 index-2-held : tie.Need-index-2-held
 index-2-held c =
     let start = c .before .before .before .before .before .before .before .before in
-    omega (arith, c .output-of .ensures, step-output (start .pre .0) (start .pre .1 .0) (start .pre .1 .1))
+    omega (arith, c .output-of .ensures, step-output (start .pre))
 
 mul-rival : tie.Need-mul-rival
 mul-rival c = search needs
@@ -61,7 +61,7 @@ mul-rival c = search needs
 element-copy-out-rival : tie.Need-element-copy-out-rival
 element-copy-out-rival c =
     let start = c .before .before .before .before .before .before .before .before .before in
-    omega (arith, c .before .output-of .ensures, step-output (start .pre .0) (start .pre .1 .0) (start .pre .1 .1))
+    omega (arith, c .before .output-of .ensures, step-output (start .pre))
 
 returns-3 : tie.Need-returns-3
 unfolding crosspointAt
@@ -71,8 +71,8 @@ returns-3 c =
     let listed = head .before .before .if1 .left in
     let first = sym (head .is-head .ensures .0) ∙ not-false _ (c .before .before .before .before .if2 .left) in
     let output = c .before .before .before .output-of .ensures in (
-      step-ready (start .pre .0) (start .pre .1 .0) (start .pre .1 .1) listed first output (c .if3 .taken),
-      step-marked (start .pre .0) (start .pre .1 .0) (start .pre .1 .1) listed _ (head .is-head .ensures .1),
+      step-ready (start .pre) listed first output (c .if3 .taken),
+      step-marked (start .pre) listed _ (head .is-head .ensures .1),
     )
 
 is-over-requires : tie.Need-is-over-requires
@@ -84,8 +84,8 @@ is-over-requires c κs =
     let first = sym (head .is-head .ensures .0) ∙ not-false _ (c .before .before .before .before .if2 .left) in
     let output = c .before .before .before .output-of .ensures in (
       start .pre .0 .readable .size,
-      step-small (start .pre .0) (start .pre .1 .0) (start .pre .1 .1),
-      omega (arith, step-best (start .pre .0) (start .pre .1 .0) (start .pre .1 .1) listed first output (c .if3 .left)),
+      step-small (start .pre),
+      omega (arith, step-best (start .pre) listed first output (c .if3 .left)),
     )
 
 returns-4 : tie.Need-returns-4
@@ -94,11 +94,12 @@ returns-4 c =
     let head = c .before .before .before .before .before .before .before in
     let start = head .before .before .before .before .before .before in
     let listed = head .before .before .if1 .left in
-    let first = sym (head .is-head .ensures .0) ∙ not-false _ (c .before .before .before .before .before .before .if2 .left) in
+    let test = c .before .before .before .before .before .before .if2 .left in
+    let first = sym (head .is-head .ensures .0) ∙ not-false _ test in
     let output = c .before .before .before .before .before .output-of .ensures in (
-      step-pressing (start .pre .0) (start .pre .1 .0) (start .pre .1 .1) listed first output (c .before .before .if3 .left)
+      step-pressing (start .pre) listed first output (c .before .before .if3 .left)
           (sym (c .before .is-over .ensures) ∙ c .if4 .taken),
-      step-marked (start .pre .0) (start .pre .1 .0) (start .pre .1 .1) listed _ (head .is-head .ensures .1),
+      step-marked (start .pre) listed _ (head .is-head .ensures .1),
     )
 
 returns-5 : tie.Need-returns-5
@@ -107,11 +108,12 @@ returns-5 c =
     let head = c .before .before .before .before .before .before .before in
     let start = head .before .before .before .before .before .before in
     let listed = head .before .before .if1 .left in
-    let first = sym (head .is-head .ensures .0) ∙ not-false _ (c .before .before .before .before .before .before .if2 .left) in
+    let test = c .before .before .before .before .before .before .if2 .left in
+    let first = sym (head .is-head .ensures .0) ∙ not-false _ test in
     let output = c .before .before .before .before .before .output-of .ensures in (
-      step-under (start .pre .0) (start .pre .1 .0) (start .pre .1 .1) listed first output (c .before .before .if3 .left)
+      step-under (start .pre) listed first output (c .before .before .if3 .left)
           (sym (c .before .is-over .ensures) ∙ c .if4 .left),
-      step-marked (start .pre .0) (start .pre .1 .0) (start .pre .1 .1) listed _ (head .is-head .ensures .1),
+      step-marked (start .pre) listed _ (head .is-head .ensures .1),
     )
 
 pub kind-of-spec : {M : Type 1} → statement M

@@ -5,7 +5,8 @@ use native.Mathlib.Omega.{arith}
 use mathlib.Core.Path.{subst}
 use Rattle.fabric.specs.Walk.{Means}
 use Rattle.table.specs.Entry.{countIn}
-use Rattle.fabric.proofs.Walked.{Walked, walked-start, walked-on, walked-small, walked-room, walked-write, walked-stop, walked-end}
+use Rattle.fabric.proofs.Walked.{Walked, walked-start, walked-on, walked-small, walked-room, walked-write}
+use Rattle.fabric.proofs.Walked.{walked-stop, walked-end}
 use Rattle.fabric.proofs.choosing.scan.Statement.{statement}
 use Rattle.fabric.proofs.choosing.scan.Tie as tie
 
@@ -96,7 +97,13 @@ add-numbers c =
     let start = c .before .before .before .before .before .before .before .before .before .before in
     let loop = c .before .before .before .before .before .loop in
     let test = c .before .before .before .before .loop-test .taken in
-    omega (arith, walked-room _ _ _ (loop .inv), loop .inv .size, start .pre .1 .1, walked-small _ _ _ (loop .inv) (start .pre .0 .readable) test)
+    omega (
+      arith,
+      walked-room _ _ _ (loop .inv),
+      loop .inv .size,
+      start .pre .1 .1,
+      walked-small _ _ _ (loop .inv) (start .pre .0 .readable) test,
+    )
 
 mul-numbers : tie.Need-mul-numbers Inv-loop μ-loop
 unfolding countIn
@@ -104,7 +111,13 @@ mul-numbers c =
     let start = c .before .before .before .before .before .before .before .before .before .before in
     let loop = c .before .before .before .before .before .loop in
     let test = c .before .before .before .before .loop-test .taken in
-    omega (arith, walked-room _ _ _ (loop .inv), loop .inv .size, start .pre .1 .1, walked-small _ _ _ (loop .inv) (start .pre .0 .readable) test)
+    omega (
+      arith,
+      walked-room _ _ _ (loop .inv),
+      loop .inv .size,
+      start .pre .1 .1,
+      walked-small _ _ _ (loop .inv) (start .pre .0 .readable) test,
+    )
 
 slice-write-numbers : tie.Need-slice-write-numbers Inv-loop μ-loop
 unfolding countIn
@@ -112,7 +125,13 @@ slice-write-numbers c =
     let start = c .before .before .before .before .before .before .before .before .before .before in
     let loop = c .before .before .before .before .before .loop in
     let test = c .before .before .before .before .loop-test .taken in
-    omega (arith, walked-room _ _ _ (loop .inv), loop .inv .size, start .pre .1 .1, walked-small _ _ _ (loop .inv) (start .pre .0 .readable) test)
+    omega (
+      arith,
+      walked-room _ _ _ (loop .inv),
+      loop .inv .size,
+      start .pre .1 .1,
+      walked-small _ _ _ (loop .inv) (start .pre .0 .readable) test,
+    )
 
 add-urgent : tie.Need-add-urgent Inv-loop μ-loop
 unfolding countIn
@@ -120,7 +139,13 @@ add-urgent c =
     let start = c .before .before .before .before .before .before .before .before .before .before in
     let loop = c .before .before .before .before .before .loop in
     let test = c .before .before .before .before .loop-test .taken in
-    omega (arith, walked-room _ _ _ (loop .inv), loop .inv .size, start .pre .1 .1, walked-small _ _ _ (loop .inv) (start .pre .0 .readable) test)
+    omega (
+      arith,
+      walked-room _ _ _ (loop .inv),
+      loop .inv .size,
+      start .pre .1 .1,
+      walked-small _ _ _ (loop .inv) (start .pre .0 .readable) test,
+    )
 
 loop-less : tie.Need-loop-less Inv-loop μ-loop
 loop-less c = search needs
@@ -132,7 +157,8 @@ loop-again c =
     let loop = c .before .before .before .before .before .loop in
     let test = c .before .before .before .before .loop-test .taken in
     let pressing = subst (Means _ _) (c .enum-told2 .given .1) (c .before .before .kind-of .ensures .0) in
-    walked-write _ _ _ (loop .inv) (start .pre .0 .readable) (start .pre .1 .1) test (c .before .before .kind-of .ensures .1)
+    walked-write _ _ _ (loop .inv) (start .pre .0 .readable) (start .pre .1 .1) test
+    (c .before .before .kind-of .ensures .1)
     (pressing .0) (pressing .1)
 
 enum-told-3 : tie.Need-enum-told-3 Inv-loop μ-loop

@@ -28,10 +28,12 @@ same-length c = search needs
 
 returns : tie.Need-returns
 returns c =
-    let start = c .before .before .before .before .before .before .before .before .before in
+    let b = c .before .before in
+    let a = b .before .before .before .before in
+    let start = a .before .before .before in
     let old = start .args .table .now in
-    put-two (recordStart (start .args .k)) 0 0 old (c .before .before .before .before .before .before .write-u64 .last .0) (c .before .before .write-u642 .last .0)
-    (omega (arith, start .pre .0, start .pre .1)) (c .before .before .before .before .before .before .write-u64 .ensures) (c .before .before .write-u642 .ensures)
+    put-two (recordStart (start .args .k)) 0 0 old (a .write-u64 .last .0) (b .write-u642 .last .0)
+    (omega (arith, start .pre .0, start .pre .1)) (a .write-u64 .ensures) (b .write-u642 .ensures)
     ∙ ap (λ bs. put (recordStart (start .args .k)) 16 bs old) zero-words
 
 pub clear-one-spec : {M : Type 1} → statement M

@@ -38,9 +38,10 @@ same-length c = search needs
 returns : tie.Need-returns
 returns c =
     let start = c .before .before .before .before .before .before in
+    let a = start .args in
     let own = sym (choice (c .before .before)) ∙ c .if1 .taken in (
-      free-leave (start .args .table .now) (start .args .places .now) (start .args .best .now) (start .args .k) (start .args .free) own,
-      closed-leave (start .args .table .now) (start .args .places .now) (start .args .best .now) (start .args .k) (start .args .free) own,
+      free-leave (a .table .now) (a .places .now) (a .best .now) (a .k) (a .free) own,
+      closed-leave (a .table .now) (a .places .now) (a .best .now) (a .k) (a .free) own,
     )
 
 cell-of-requires : tie.Need-cell-of-requires
@@ -51,12 +52,14 @@ shared-slice-read-write-entry c = search needs
 
 write-entry-requires : tie.Need-write-entry-requires
 write-entry-requires c κs =
-    let start = c .before .before .before .before .before .before .before .before .before .before in
-    let table = start .args .table .now in
-    let d = c .before .before .cell-of .ensures in
-    let output : c .before .before .cell-of .result .output < 256 = omega (arith, ap (λ e. e .output) d, start .pre .1 .0) in
-    let flow : c .before .before .cell-of .result .flow < 256 =
-    omega (arith, ap (λ e. e .flow) d ∙ entryAt-flow table (start .args .k), c .before .before .before .before .before .before .before .before .before .slice-known .given (recordStart (start .args .k) + 1)) in (
+    let cell = c .before .before in
+    let start = cell .before .before .before .before .before .before .before .before in
+    let known = cell .before .before .before .before .before .before .before .slice-known .given in
+    let a = start .args in
+    let d = cell .cell-of .ensures in
+    let output : cell .cell-of .result .output < 256 = omega (arith, ap (λ e. e .output) d, start .pre .1 .0) in
+    let flow : cell .cell-of .result .flow < 256 =
+    omega (arith, ap (λ e. e .flow) d ∙ entryAt-flow (a .table .now) (a .k), known (recordStart (a .k) + 1)) in (
       (start .pre .0 .0, omega (arith, start .pre .0 .2, start .pre .0 .3)),
       (output, flow, start .pre .1 .1 .0, start .pre .1 .1 .1),
     )
@@ -69,15 +72,16 @@ same-length-2 c = search needs
 
 returns-2 : tie.Need-returns-2
 returns-2 c =
-    let start = c .before .before .before .before .before .before .before .before .before .before .before .before .before in
-    let table = start .args .table .now in
-    let places = start .args .places .now in
-    let numbers = start .args .best .now in
-    let other : getD numbers (entryAt table (start .args .k) .cell .output) 0 ≡ start .args .k → ⊥ =
-    λ h. c .before .before .before .before .before .before .before .if1 .left (choice (c .before .before .before .before .before .before .before .before .before) ∙ h) in (
-      free-stay table places numbers (start .args .k) (start .args .free) other,
-      c .before .before .write-entry .ensures
-          ∙ closed-stay table places numbers (start .args .k) (start .args .free) other (c .before .before .before .before .before .cell-of .result) (c .before .before .before .before .before .cell-of .ensures),
+    let wrote = c .before .before .write-entry in
+    let cell = c .before .before .before .before .before in
+    let test = cell .before .before in
+    let a = cell .before .before .before .before .before .before .before .before .args in
+    let other : getD (a .best .now) (entryAt (a .table .now) (a .k) .cell .output) 0 ≡ a .k → ⊥ =
+    λ h. test .if1 .left (choice (test .before .before) ∙ h) in (
+      free-stay (a .table .now) (a .places .now) (a .best .now) (a .k) (a .free) other,
+      wrote .ensures
+          ∙ closed-stay (a .table .now) (a .places .now) (a .best .now) (a .k) (a .free) other (cell .cell-of .result)
+          (cell .cell-of .ensures),
     )
 
 pub close-one-spec : {M : Type 1} → statement M

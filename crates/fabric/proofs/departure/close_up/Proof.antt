@@ -50,7 +50,8 @@ loop-again c =
     let l = c .before .before .before .before .loop-test .taken in (
       omega (arith, l),
       one .kept .0 ∙ loop .inv .1,
-      closing-more _ _ _ _ (start .pre) (loop .inv .2) l (one .result) (one .last .0) (one .ensures .0) (one .ensures .1),
+      closing-more _ _ _ _ (start .pre) (loop .inv .2) l (one .result) (one .last .0)
+          (one .ensures .0) (one .ensures .1),
     )
 
 same-length : tie.Need-same-length Inv-loop μ-loop
@@ -58,12 +59,13 @@ same-length c = c .before .loop .inv .1
 
 returns : tie.Need-returns Inv-loop μ-loop
 returns c =
-    let start = c .before .before .before .before in
+    let a = c .before .before .before .before .args in
     let loop = c .before .loop in
-    let a = start .args in
+    let left = staying (a .table .now) (a .places .now) (a .best .now) (a .first) in
     let last : loop .k ≡ a .end = omega (arith, c .loop-test .left, loop .inv .0) in (
-      loop .inv .2 .next ∙ ap (λ k. a .first + length (staying (a .table .now) (a .places .now) (a .best .now) (a .first) (k - a .first))) last,
-      loop .inv .2 .bytes ∙ ap (λ k. closed (a .table .now) (a .places .now) (a .best .now) (a .first) (k - a .first)) last,
+      loop .inv .2 .next ∙ ap (λ k. a .first + length (left (k - a .first))) last,
+      loop .inv .2 .bytes
+          ∙ ap (λ k. closed (a .table .now) (a .places .now) (a .best .now) (a .first) (k - a .first)) last,
     )
 
 pub close-up-spec : {M : Type 1} → statement M

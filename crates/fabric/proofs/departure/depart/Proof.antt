@@ -13,7 +13,8 @@ choose-requires c κs = search needs
 
 send-requires : tie.Need-send-requires
 send-requires c κs =
-    (ready-readable (c .before .before .before .before .before .before .before .before .pre .0) .size, c .before .before .before .choose .ensures .size, omega (arith, c .before .before .before .before .before .before .before .before .pre .1))
+    let start = c .before .before .before .before .before .before .before .before in
+    (ready-readable (start .pre .0) .size, c .before .before .before .choose .ensures .size, omega (arith, start .pre .1))
 
 remove-requires : tie.Need-remove-requires
 remove-requires c κs = search needs
@@ -26,10 +27,13 @@ same-length-2 c = search needs
 
 returns : tie.Need-returns
 returns c =
-    let start = c .before .before .before .before .before .before .before .before .before .before .before .before .before .before .before .before in (
-      c .before .before .remove .ensures,
-      c .before .before .before .before .before .before .before .send .ensures
-          ∙ ap (λ bs. filled bs (start .args .answer .now)) (departures-chosen (start .pre .0) (c .before .before .before .before .before .before .before .before .before .before .before .choose .ensures)),
+    let gone = c .before .before in
+    let sent = gone .before .before .before .before .before in
+    let chosen = sent .before .before .before .before in
+    let start = chosen .before .before .before .before .before in (
+      gone .remove .ensures,
+      sent .send .ensures
+          ∙ ap (λ bs. filled bs (start .args .answer .now)) (departures-chosen (start .pre .0) (chosen .choose .ensures)),
     )
 
 pub depart-spec : {M : Type 1} → statement M

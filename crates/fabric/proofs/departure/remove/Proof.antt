@@ -49,7 +49,8 @@ loop-again c =
     let one = c .before .before .remove-from in (
       omega (arith, c .before .before .before .before .loop-test .taken),
       one .kept .0 ∙ loop .inv .1,
-      partly-next (start .pre .0) (start .pre .1) (loop .input) (port (c .before .before .before .before)) (loop .table) (loop .inv .2) (one .last .0) (one .ensures),
+      partly-next (start .pre .0) (start .pre .1) (loop .input) (port (c .before .before .before .before)) (loop .table) (loop .inv .2)
+          (one .last .0) (one .ensures),
     )
 
 same-length : tie.Need-same-length Inv-loop μ-loop

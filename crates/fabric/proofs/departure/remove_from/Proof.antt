@@ -11,26 +11,28 @@ use Rattle.fabric.proofs.departure.remove_from.Statement.{statement}
 use Rattle.fabric.proofs.departure.remove_from.Tie as tie
 
 -- the number of the section's entries
-size : (t : tie.After-end-of) → t .end-of .result - 64 * t .before .before .before .before .args .input ≡ countIn (t .before .before .before .before .args .table .now) (t .before .before .before .before .args .input)
+size : (t : tie.After-end-of)
+    → let a = t .before .before .before .before .args in
+    t .end-of .result - 64 * a .input ≡ countIn (a .table .now) (a .input)
 size t = omega (arith, t .end-of .ensures)
 
 -- and of those that stay
-kept : (t : tie.After-close-up) → let start = t .before .before .before .before .before .before in
-    t .close-up .result
-    ≡ 64 * start .args .input
-    + length
-    (staying (start .args .table .now) (start .args .places .now) (start .args .best .now) (64 * start .args .input)
-    (countIn (start .args .table .now) (start .args .input)))
+kept : (t : tie.After-close-up)
+    → let a = t .before .before .before .before .before .before .args in
+    let left = staying (a .table .now) (a .places .now) (a .best .now) (64 * a .input) in
+    t .close-up .result ≡ 64 * a .input + length (left (countIn (a .table .now) (a .input)))
 kept t =
     let a = t .before .before .before .before .before .before .args in
-    t .close-up .ensures .0
-    ∙ ap (λ n. 64 * a .input + length (staying (a .table .now) (a .places .now) (a .best .now) (64 * a .input) n)) (size (t .before .before))
+    let left = staying (a .table .now) (a .places .now) (a .best .now) (64 * a .input) in
+    t .close-up .ensures .0 ∙ ap (λ n. 64 * a .input + length (left n)) (size (t .before .before))
 
-few : (t : tie.After-close-up) → let start = t .before .before .before .before .before .before in
-    t .close-up .result ≤ 64 * start .args .input + countIn (start .args .table .now) (start .args .input)
+few : (t : tie.After-close-up)
+    → let a = t .before .before .before .before .before .before .args in
+    t .close-up .result ≤ 64 * a .input + countIn (a .table .now) (a .input)
 few t =
-    let a = t .before .before .before .before .before .before .args in
-    omega (arith, kept t, length-left (a .table .now) (a .places .now) (a .best .now) (a .input) (t .before .before .before .before .before .before .pre))
+    let start = t .before .before .before .before .before .before in
+    let a = start .args in
+    omega (arith, kept t, length-left (a .table .now) (a .places .now) (a .best .now) (a .input) (start .pre))
 
 mul-first : tie.Need-mul-first
 mul-first c = search needs
@@ -42,23 +44,23 @@ close-up-requires : tie.Need-close-up-requires
 close-up-requires c κs =
     let start = c .before .before .before .before .before in
     let a = start .args in
-    subst (Movable (a .table .now) (a .places .now) (64 * a .input)) (sym (c .before .end-of .ensures)) (start .pre .records)
+    let end = c .before .end-of .ensures in
+    subst (Movable (a .table .now) (a .places .now) (64 * a .input)) (sym end) (start .pre .records)
 
 clear-requires : tie.Need-clear-requires
 clear-requires c κs =
-    let start = c .before .before .before .before .before .before .before .before .before in
-    let up = c .before .before .before .close-up in (
-      up .kept .0 ∙ start .pre .records .size,
-      omega (arith, few (c .before .before .before), c .before .before .before .before .before .end-of .ensures),
-      omega (arith, start .pre .records .limit, c .before .before .before .before .before .end-of .ensures),
-    )
+    let up = c .before .before .before in
+    let end = up .before .before .end-of .ensures in
+    let records = up .before .before .before .before .before .before .pre .records in
+    (up .close-up .kept .0 ∙ records .size, omega (arith, few up, end), omega (arith, records .limit, end))
 
 sub-table : tie.Need-sub-table
 sub-table c = search needs
 
 cast-table : tie.Need-cast-table
 cast-table c =
-    omega (arith, few (c .before .before .before .before .before .before), c .before .before .before .before .before .before .before .before .before .before .before .before .pre .count)
+    let up = c .before .before .before .before .before .before in
+    omega (arith, few up, up .before .before .before .before .before .before .pre .count)
 
 add-table : tie.Need-add-table
 add-table c = search needs
@@ -68,21 +70,25 @@ slice-write-table c = search needs
 
 same-length : tie.Need-same-length
 same-length c =
-    length-set (c .before .before .clear .last .0) _ _ ∙ c .before .before .clear .kept .0 ∙ c .before .before .before .before .before .before .close-up .kept .0
+    let clear = c .before .before in
+    length-set (clear .clear .last .0) _ _ ∙ clear .clear .kept .0 ∙ clear .before .before .before .before .close-up .kept .0
 
 returns : tie.Need-returns
 returns c =
-    let start = c .before .before .before .before .before .before .before .before .before .before .before .before in
+    let clear = c .before .before .clear in
+    let t = c .before .before .before .before .before .before in
+    let up = t .close-up in
+    let start = t .before .before .before .before .before .before in
     let a = start .args in
-    let up = c .before .before .before .before .before .before .close-up in
-    let left = length (staying (a .table .now) (a .places .now) (a .best .now) (64 * a .input) (countIn (a .table .now) (a .input))) in
-    let cleared-left : c .before .before .before .before .before .before .before .before .end-of .result - up .result ≡ countIn (a .table .now) (a .input) - left =
-    omega (arith, kept (c .before .before .before .before .before .before), c .before .before .before .before .before .before .before .before .end-of .ensures) in
-    removed-section (a .table .now) (a .places .now) (a .best .now) (a .input) (start .pre) (up .last .0) (c .before .before .clear .last .0)
+    let end = t .before .before .end-of in
+    let left = staying (a .table .now) (a .places .now) (a .best .now) (64 * a .input) (countIn (a .table .now) (a .input)) in
+    let freed : end .result - up .result ≡ countIn (a .table .now) (a .input) - length left =
+    omega (arith, kept t, end .ensures) in
+    removed-section (a .table .now) (a .places .now) (a .best .now) (a .input) (start .pre) (up .last .0) (clear .last .0)
     (up .result - 64 * a .input)
-    (up .ensures .1 ∙ ap (closed (a .table .now) (a .places .now) (a .best .now) (64 * a .input)) (size (c .before .before .before .before .before .before .before .before)))
-    (c .before .before .clear .ensures ∙ ap₂ (cleared (up .last .0)) (kept (c .before .before .before .before .before .before)) cleared-left)
-    (omega (arith, kept (c .before .before .before .before .before .before)))
+    (up .ensures .1 ∙ ap (closed (a .table .now) (a .places .now) (a .best .now) (64 * a .input)) (size (t .before .before)))
+    (clear .ensures ∙ ap₂ (cleared (up .last .0)) (kept t) freed)
+    (omega (arith, kept t))
 
 pub remove-from-spec : {M : Type 1} → statement M
 remove-from-spec =

@@ -22,8 +22,9 @@ abbrev μ-loop : tie.MeasureT-loop
 
 loop-holds : tie.Need-loop-holds Inv-loop μ-loop
 loop-holds c =
-    let start = c .before .before in
-    (omega arith, refl, sent-none (map (departureAt (start .args .table .now)) (start .args .best .now)) (start .args .answer .now) (start .pre .2))
+    let a = c .before .before .args in
+    let ds = map (departureAt (a .table .now)) (a .best .now) in
+    (omega arith, refl, sent-none ds (a .answer .now) (c .before .before .pre .2))
 
 mul-send-one : tie.Need-mul-send-one Inv-loop μ-loop
 mul-send-one c = search needs

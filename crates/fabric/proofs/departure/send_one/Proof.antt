@@ -17,10 +17,13 @@ same-length c = search needs
 
 returns : tie.Need-returns
 returns c =
-    let start = c .before .before .before .before .before .before .before .before in
-    c .before .before .write-seven .ensures
-    ∙ ap (λ bs. put (start .args .at) 28 bs (start .args .answer .now))
-    (departure-none (start .args .table .now) (start .args .number) (c .before .before .before .no-cell .result) (c .before .before .before .no-cell .ensures) (c .before .before .before .before .before .if1 .taken))
+    let seven = c .before .before in
+    let cell = seven .before .no-cell in
+    let test = seven .before .before .before .if1 .taken in
+    let a = seven .before .before .before .before .before .before .args in
+    seven .write-seven .ensures
+    ∙ ap (λ bs. put (a .at) 28 bs (a .answer .now))
+    (departure-none (a .table .now) (a .number) (cell .result) (cell .ensures) test)
 
 cell-of-requires : tie.Need-cell-of-requires
 cell-of-requires c κs = search needs
@@ -33,10 +36,13 @@ same-length-2 c = search needs
 
 returns-2 : tie.Need-returns-2
 returns-2 c =
-    let start = c .before .before .before .before .before .before .before .before in
-    c .before .before .write-seven2 .ensures
-    ∙ ap (λ bs. put (start .args .at) 28 bs (start .args .answer .now))
-    (departure-some (start .args .table .now) (start .args .number) (c .before .before .before .cell-of .result) (c .before .before .before .cell-of .ensures) (c .before .before .before .before .before .if1 .left))
+    let seven = c .before .before in
+    let cell = seven .before .cell-of in
+    let test = seven .before .before .before .if1 .left in
+    let a = seven .before .before .before .before .before .before .args in
+    seven .write-seven2 .ensures
+    ∙ ap (λ bs. put (a .at) 28 bs (a .answer .now))
+    (departure-some (a .table .now) (a .number) (cell .result) (cell .ensures) test)
 
 pub send-one-spec : {M : Type 1} → statement M
 send-one-spec =

@@ -53,16 +53,20 @@ same-length c = search needs
 
 returns : tie.Need-returns
 returns c =
-    let start = c .before .before .before .before .before .before .before .before .before .before .before .before .before .before .before .before .before .before .before in
-    let d = start .args .c in
+    let d = c .before .before in
+    let x = d .before .before .before .before in
+    let b = x .before .before .before .before in
+    let a = b .before .before .before .before in
+    let start = a .before .before .before .before .before in
+    let cell = start .args .c in
     let p = start .args .place in
     let old = start .args .table .now in
     let fits = start .pre .1 in
-    put-four (recordStart (start .args .k)) (d .output + 256 * d .flow + 65536 * p) (d .rank) (d .tag) (d .slot) old
-    (c .before .before .before .before .before .before .before .before .before .before .before .before .before .before .write-u32 .last .0) (c .before .before .before .before .before .before .before .before .before .before .write-u322 .last .0) (c .before .before .before .before .before .before .write-u323 .last .0) (c .before .before .write-u324 .last .0)
+    put-four (recordStart (start .args .k)) (cell .output + 256 * cell .flow + 65536 * p) (cell .rank) (cell .tag) (cell .slot)
+    old (a .write-u32 .last .0) (b .write-u322 .last .0) (x .write-u323 .last .0) (d .write-u324 .last .0)
     (omega (arith, start .pre .0 .0, start .pre .0 .1))
-    (c .before .before .before .before .before .before .before .before .before .before .before .before .before .before .write-u32 .ensures) (c .before .before .before .before .before .before .before .before .before .before .write-u322 .ensures) (c .before .before .before .before .before .before .write-u323 .ensures) (c .before .before .write-u324 .ensures)
-    ∙ ap (λ bs. put (recordStart (start .args .k)) 16 bs old) (entry-words d p (fits .0) (fits .1) (fits .2) (fits .3))
+    (a .write-u32 .ensures) (b .write-u322 .ensures) (x .write-u323 .ensures) (d .write-u324 .ensures)
+    ∙ ap (λ bs. put (recordStart (start .args .k)) 16 bs old) (entry-words cell p (fits .0) (fits .1) (fits .2) (fits .3))
 
 pub write-entry-spec : {M : Type 1} → statement M
 write-entry-spec =

@@ -51,13 +51,20 @@ same-length c = search needs
 returns : tie.Need-returns
 unfolding sevenBytes
 returns c =
-    let start = c .before .before .before .before .before .before .before .before .before .before .before .before .before .before .before .before .before .before .before .before .before .before .before .before .before .before .before .before .before in
-    let d = start .args .c in
-    put-seven (start .args .at) (start .args .sent) (d .input) (d .output) (d .flow) (start .args .answer .now)
-    (c .before .before .before .before .before .before .before .before .before .before .before .before .before .before .before .before .before .before .before .before .before .before .before .before .before .before .write-u32 .last .0) (c .before .before .before .before .before .before .before .before .before .before .before .before .before .before .before .before .before .before .before .before .before .before .write-u322 .last .0) (c .before .before .before .before .before .before .before .before .before .before .before .before .before .before .before .before .before .before .write-u323 .last .0) (c .before .before .before .before .before .before .before .before .before .before .before .before .before .before .write-u324 .last .0)
-    (omega (arith, start .pre)) (c .before .before .before .before .before .before .before .before .before .before .before .before .before .before .before .before .before .before .before .before .before .before .before .before .before .before .write-u32 .ensures) (c .before .before .before .before .before .before .before .before .before .before .before .before .before .before .before .before .before .before .before .before .before .before .write-u322 .ensures) (c .before .before .before .before .before .before .before .before .before .before .before .before .before .before .before .before .before .before .write-u323 .ensures)
-    (c .before .before .before .before .before .before .before .before .before .before .before .before .before .before .write-u324 .ensures) (d .rank) (d .tag) (d .slot) (c .before .before .before .before .before .before .before .before .before .before .write-u325 .last .0) (c .before .before .before .before .before .before .write-u326 .last .0)
-    (c .before .before .write-u327 .last .0) (start .pre) (c .before .before .before .before .before .before .before .before .before .before .write-u325 .ensures) (c .before .before .before .before .before .before .write-u326 .ensures) (c .before .before .write-u327 .ensures)
+    let g = c .before .before in
+    let f = g .before .before .before .before in
+    let e = f .before .before .before .before in
+    let d = e .before .before .before .before in
+    let x = d .before .before .before .before in
+    let b = x .before .before .before .before in
+    let a = b .before .before .before .before in
+    let start = a .before .before .before in
+    let cell = start .args .c in
+    put-seven (start .args .at) (start .args .sent) (cell .input) (cell .output) (cell .flow) (start .args .answer .now)
+    (a .write-u32 .last .0) (b .write-u322 .last .0) (x .write-u323 .last .0) (d .write-u324 .last .0)
+    (omega (arith, start .pre)) (a .write-u32 .ensures) (b .write-u322 .ensures) (x .write-u323 .ensures)
+    (d .write-u324 .ensures) (cell .rank) (cell .tag) (cell .slot) (e .write-u325 .last .0) (f .write-u326 .last .0)
+    (g .write-u327 .last .0) (start .pre) (e .write-u325 .ensures) (f .write-u326 .ensures) (g .write-u327 .ensures)
 
 pub write-seven-spec : {M : Type 1} → statement M
 write-seven-spec =

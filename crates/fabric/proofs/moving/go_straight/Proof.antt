@@ -26,14 +26,8 @@ straight-number-requires c κs = (c .before .before .before .before .pre .1, ome
 straight-to-requires : tie.Need-straight-to-requires Inv-loop μ-loop
 straight-to-requires c κs =
     let s = c .before .before .before .before .before .before .before .before in
-    let a = s .args in
-    let f = straightTo (a .scheduled .now) (a .numbers .now) (a .held .now) (a .refused .now) in
-    let i = c .before .before .before .before .before .loop .inv .0 in (
-      length-straightened f (a .places .now) i ∙ s .pre .0,
-      length-inputs f (a .places .now) i,
-      length-outputs f (a .places .now) i,
-      omega arith,
-    )
+    let i = c .before .before .before .before .before .loop .inv .0 in
+    (length-straightened i ∙ s .pre .0, length-inputs i, length-outputs i, omega arith)
 
 add-output : tie.Need-add-output Inv-loop μ-loop
 add-output c = omega arith
@@ -43,17 +37,11 @@ loop-less c = omega arith
 
 loop-again : tie.Need-loop-again Inv-loop μ-loop
 loop-again c =
-    let a = c .before .before .before .before .before .before .before .before .before .before .before .args in
-    let e = c .before .before .straight-to .ensures in (
-      straightened-more (straightTo (a .scheduled .now) (a .numbers .now) (a .held .now) (a .refused .now)) (a .places .now)
-          (c .before .before .before .before .before .before .before .before .loop .inv .0) (c .before .before .before .before .before .before .straight-number .ensures) (e .0) (e .1 .0) (e .1 .1),
-      omega arith,
-    )
+    let e = c .before .before .straight-to .ensures in
+    (straightened-more (c .before .before .before .before .before .before .before .before .loop .inv .0) (c .before .before .before .before .before .before .straight-number .ensures) (e .0) (e .1 .0) (e .1 .1), omega arith)
 
 same-length : tie.Need-same-length Inv-loop μ-loop
-same-length c =
-    let a = c .before .before .before .before .args in
-    length-straightened (straightTo (a .scheduled .now) (a .numbers .now) (a .held .now) (a .refused .now)) (a .places .now) (c .before .loop .inv .0)
+same-length c = length-straightened (c .before .loop .inv .0)
 
 returns : tie.Need-returns Inv-loop μ-loop
 returns c =

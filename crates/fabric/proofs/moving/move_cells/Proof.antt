@@ -1,5 +1,5 @@
 -- What each of the three rounds finds is what the one before left.
-use Rattle.fabric.proofs.Phases.{straight-length, can-send, sent-length, sent-square, sent-agrees, all-moved}
+use Rattle.fabric.proofs.Moved.{straight-length, can-send, sent-length, sent-square, send-agrees, all-moved}
 use borrow.Author.Needs.{needs}
 use Rattle.fabric.proofs.moving.move_cells.Statement.{statement}
 use Rattle.fabric.proofs.moving.move_cells.Tie as tie
@@ -10,27 +10,18 @@ go-straight-requires c κs = search needs
 send-scheduled-requires : tie.Need-send-scheduled-requires
 send-scheduled-requires c κs =
     let s = c .before .before .before .before .before .before .before .before .before .before .before .before in
-    let a = s .args in
     let st = s .pre .0 .0 in
-    let g = c .before .before .before .before .before .before .before .go-straight .ensures in (
-      (st .readable .size, straight-length st (a .scheduled .now) (a .numbers .now) (a .held .now) (a .refused .now) (s .pre .1) g, st .square),
-      can-send st (a .scheduled .now) (a .numbers .now) (a .held .now) (a .refused .now) (s .pre .1) g,
-    )
+    let g = c .before .before .before .before .before .before .before .go-straight .ensures in
+    ((st .readable .size, straight-length st (s .pre .1) g, st .square), can-send st (s .pre .1) g)
 
 pull-best-requires : tie.Need-pull-best-requires
 pull-best-requires c κs =
     let s = c .before .before .before .before .before .before .before .before .before .before .before .before .before .before .before .before .before .before in
-    let a = s .args in
     let st = s .pre .0 .0 in
     let g = c .before .before .before .before .before .before .before .before .before .before .before .before .before .go-straight .ensures in
     let t = c .before .before .before .before .before .send-scheduled .ensures in (
-      (
-        st .readable,
-        s .pre .0 .1,
-        sent-length st (a .scheduled .now) (a .numbers .now) (a .held .now) (a .refused .now) (s .pre .1) g t,
-        sent-square st (a .scheduled .now) (a .numbers .now) (a .held .now) (a .refused .now) (s .pre .1) g t,
-      ),
-      sent-agrees st (a .scheduled .now) (a .numbers .now) (a .held .now) (a .refused .now) (s .pre .1) g t,
+      (st .readable, s .pre .0 .1, sent-length st (s .pre .1) g t, sent-square st (s .pre .1) g t),
+      send-agrees st (s .pre .1) g t,
     )
 
 same-length : tie.Need-same-length
@@ -39,11 +30,9 @@ same-length c = search needs
 returns : tie.Need-returns
 returns c =
     let s = c .before .before .before .before .before .before .before .before .before .before .before .before .before .before .before .before .before .before .before .before .before in
-    let a = s .args in
-    let st = s .pre .0 .0 in
     let g = c .before .before .before .before .before .before .before .before .before .before .before .before .before .before .before .before .go-straight .ensures in
     let t = c .before .before .before .before .before .before .before .before .send-scheduled .ensures in
-    all-moved st (a .scheduled .now) (a .numbers .now) (a .held .now) (a .refused .now) (s .pre .1) g t (s .pre .0 .1) (c .before .before .pull-best .ensures)
+    all-moved (s .pre .0 .0) (s .pre .1) g t (s .pre .0 .1) (c .before .before .pull-best .ensures)
 
 pub move-cells-spec : {M : Type 1} → statement M
 move-cells-spec =

@@ -28,13 +28,8 @@ pull-number-requires c κs =
 pull-requires : tie.Need-pull-requires Inv-loop μ-loop
 pull-requires c κs =
     let s = c .before .before .before .before .before .before .before .before in
-    let a = s .args in
-    let f = takeOf (a .straight .now) (crossedIn (a .table .now) (a .places .now)) in
-    let l = c .before .before .before .before .before .loop in (
-      length-pulled f (a .places .now) (a .cross .now) (l .inv .0) ∙ s .pre .0 .2,
-      square-pulled f (a .places .now) (a .cross .now) (l .inv .0) (s .pre .0 .3),
-      omega (arith, s .pre .0 .0 .ports, s .pre .0 .1),
-    )
+    let i = c .before .before .before .before .before .loop .inv .0 in
+    (length-pulled i ∙ s .pre .0 .2, square-pulled i (s .pre .0 .3), omega (arith, s .pre .0 .0 .ports, s .pre .0 .1))
 
 add-output : tie.Need-add-output Inv-loop μ-loop
 add-output c = omega arith
@@ -49,7 +44,7 @@ loop-again c =
     let l = c .before .before .before .before .before .before .before .before .loop in
     let k = c .before .before .before .before .before .pull-number in
     let e = c .before .before .pull .ensures in (
-      pulled-more (takeOf (a .straight .now) (crossedIn (a .table .now) (a .places .now))) (a .places .now) (a .cross .now) (l .inv .0)
+      pulled-more (l .inv .0)
           (pulled-number (s .pre .0 .0) (a .straight .now) (a .places .now) (a .cross .now) (s .pre .0 .2) (s .pre .0 .3) (s .pre .1)
           (l .inv .0) (omega (arith, s .pre .0 .0 .ports, s .pre .0 .1)) (k .result) (k .ensures))
           (e .0) (e .1),
@@ -57,9 +52,7 @@ loop-again c =
     )
 
 same-length : tie.Need-same-length Inv-loop μ-loop
-same-length c =
-    let a = c .before .before .before .before .args in
-    length-pulled (takeOf (a .straight .now) (crossedIn (a .table .now) (a .places .now))) (a .places .now) (a .cross .now) (c .before .loop .inv .0)
+same-length c = length-pulled (c .before .loop .inv .0)
 
 returns : tie.Need-returns Inv-loop μ-loop
 returns c =

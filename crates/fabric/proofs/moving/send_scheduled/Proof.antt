@@ -25,16 +25,9 @@ send-number-requires c κs = omega arith
 send-requires : tie.Need-send-requires Inv-loop μ-loop
 send-requires c κs =
     let s = c .before .before .before .before .before .before .before in
-    let a = s .args in
-    let f = sendOf (a .straight .now) (a .scheduled .now) in
-    let l = c .before .before .before .before .loop in
-    let k = c .before .before .send-number in (
-      (
-        s .pre .0 .0,
-        length-sent (a .table .now) f (a .places .now) (a .cross .now) (l .inv .0) ∙ s .pre .0 .1,
-        square-sent (a .table .now) f (a .places .now) (a .cross .now) (l .inv .0) (s .pre .0 .2),
-      ),
-      rw (k .ensures) (s .pre .1 (l .input) (omega arith)),
+    let l = c .before .before .before .before .loop in (
+      (s .pre .0 .0, length-sent (l .inv .0) ∙ s .pre .0 .1, square-sent (l .inv .0) (s .pre .0 .2)),
+      rw (c .before .before .send-number .ensures) (s .pre .1 (l .input) (omega arith)),
     )
 
 add-input : tie.Need-add-input Inv-loop μ-loop
@@ -45,17 +38,11 @@ loop-less c = omega arith
 
 loop-again : tie.Need-loop-again Inv-loop μ-loop
 loop-again c =
-    let a = c .before .before .before .before .before .before .before .before .before .before .args in
-    let e = c .before .before .send .ensures in (
-      sent-more (a .table .now) (sendOf (a .straight .now) (a .scheduled .now)) (a .places .now) (a .cross .now)
-          (c .before .before .before .before .before .before .before .loop .inv .0) (c .before .before .before .before .before .send-number .ensures) (e .0) (e .1),
-      omega arith,
-    )
+    let e = c .before .before .send .ensures in
+    (sent-more (c .before .before .before .before .before .before .before .loop .inv .0) (c .before .before .before .before .before .send-number .ensures) (e .0) (e .1), omega arith)
 
 same-length : tie.Need-same-length Inv-loop μ-loop
-same-length c =
-    let a = c .before .before .before .before .args in
-    length-sent (a .table .now) (sendOf (a .straight .now) (a .scheduled .now)) (a .places .now) (a .cross .now) (c .before .loop .inv .0)
+same-length c = length-sent (c .before .loop .inv .0)
 
 returns : tie.Need-returns Inv-loop μ-loop
 returns c =

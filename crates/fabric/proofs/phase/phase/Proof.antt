@@ -25,25 +25,22 @@ choose-requires c κs =
 matching-of-requires : tie.Need-matching-of-requires
 matching-of-requires c κs =
     let s = c .before .before .before .before .before .before .before .before .before .before .before .before .before .before .before .before .before .before .before .before .before .before .before .before .before .before .before .before in
-    let a = s .args in
+    let r = s .pre .0 .readable in
     let h = c .before .before .before .before .before .before .before .before .before .before .before .before .choose in (
-      lent (s .pre .0 .readable) (a .places .now) (h .last .1 .1 .1 .1 .0) (h .last .1 .1 .1 .1 .1 .0) (h .last .1 .1 .1 .1 .1 .1 .0)
-          (h .last .1 .1 .1 .1 .1 .1 .1 .0) (h .last .1 .1 .1 .1 .1 .1 .1 .1 .0) (h .last .1 .1 .1 .1 .1 .1 .1 .1 .1 .0) (h .ensures .0)
-          (h .ensures .1 .1) (h .kept .1 .1 .1 .1 .1 .1 .1 .0 ∙ s .pre .1 .1) (h .kept .1 .1 .1 .1 .1 .1 .1 .1 .0 ∙ s .pre .1 .2) (h .kept .1 .1 .1 .1 .1 .1 .1 .1 .1 .0 ∙ s .pre .1 .3),
-      unmatched (s .pre .0 .readable) (a .places .now) (h .last .1 .1 .1 .1 .0) (h .last .1 .1 .1 .1 .1 .0) (h .last .1 .1 .1 .1 .1 .1 .0)
-          (h .last .1 .1 .1 .1 .1 .1 .1 .0) (h .last .1 .1 .1 .1 .1 .1 .1 .1 .0) (h .last .1 .1 .1 .1 .1 .1 .1 .1 .1 .0) (h .ensures .0),
+      lent r (h .ensures .0) (h .ensures .1 .1) (h .kept .1 .1 .1 .1 .1 .1 .1 .0 ∙ s .pre .1 .1)
+          (h .kept .1 .1 .1 .1 .1 .1 .1 .1 .0 ∙ s .pre .1 .2) (h .kept .1 .1 .1 .1 .1 .1 .1 .1 .1 .0 ∙ s .pre .1 .3),
+      unmatched r (h .ensures .0),
     )
 
 move-cells-requires : tie.Need-move-cells-requires
 move-cells-requires c κs =
     let s = c .before .before .before .before .before .before .before .before .before .before .before .before .before .before .before .before .before .before .before .before .before .before .before .before .before .before .before .before .before .before .before .before .before .before .before .before .before in
-    let a = s .args in
     let h = c .before .before .before .before .before .before .before .before .before .before .before .before .before .before .before .before .before .before .before .before .before .choose in
-    let m = c .before .before .before .before .before .before .before .before .matching-of in (
+    let m = c .before .before .before .before .before .before .before .before .matching-of in
+    let ok = m .ok in
+    let size : length (m .result .held) ≡ 16 = search needs in (
       (s .pre .0, c .before .before .before .before .before .before .before .before .before .before .before .before .before .before .before .before .before .before .before .before .before .before .before .before .before .before .before .before .before .before .ports-of .ensures),
-      chosen-settled (s .pre .0 .readable) (a .places .now) (h .last .1 .1 .1 .1 .0) (h .last .1 .1 .1 .1 .1 .0) (h .last .1 .1 .1 .1 .1 .1 .0)
-          (h .last .1 .1 .1 .1 .1 .1 .1 .0) (h .last .1 .1 .1 .1 .1 .1 .1 .1 .0) (h .last .1 .1 .1 .1 .1 .1 .1 .1 .1 .0) (h .ensures .0)
-          (s .pre .0 .orderly) (m .result .held) (m .result .refused) (m .ensures) (let ok = m .ok in let q : length (m .result .held) ≡ 16 = search needs in q) (h .kept .1 .1 .1 .1 .1 .1 .0 ∙ s .pre .1 .0),
+      chosen-settled (s .pre .0 .readable) (h .ensures .0) (s .pre .0 .orderly) (m .ensures) size (h .kept .1 .1 .1 .1 .1 .1 .0 ∙ s .pre .1 .0),
     )
 
 same-length : tie.Need-same-length
@@ -64,13 +61,10 @@ same-length-5 c = search needs
 returns : tie.Need-returns
 returns c =
     let s = c .before .before .before .before .before .before .before .before .before .before .before .before .before .before .before .before .before .before .before .before .before .before .before .before .before .before .before .before .before .before .before .before .before .before .before .before .before .before .before .before in
-    let a = s .args in
     let h = c .before .before .before .before .before .before .before .before .before .before .before .before .before .before .before .before .before .before .before .before .before .before .before .before .choose in
     let m = c .before .before .before .before .before .before .before .before .before .before .before .matching-of in (
       c .before .before .move-cells .ensures,
-      chosen-proposals (s .pre .0 .readable) (a .places .now) (h .last .1 .1 .1 .1 .0) (h .last .1 .1 .1 .1 .1 .0) (h .last .1 .1 .1 .1 .1 .1 .0)
-          (h .last .1 .1 .1 .1 .1 .1 .1 .0) (h .last .1 .1 .1 .1 .1 .1 .1 .1 .0) (h .last .1 .1 .1 .1 .1 .1 .1 .1 .1 .0) (h .ensures .0)
-          (s .pre .0 .orderly) (m .result .held) (m .result .refused) (m .ensures),
+      chosen-proposals (s .pre .0 .readable) (h .ensures .0) (s .pre .0 .orderly) (m .ensures),
     )
 
 pub phase-spec : {M : Type 1} → statement M
