@@ -6,14 +6,20 @@ use reader::Verdict;
 use trace::Output;
 
 fn main() {
-    read(b"whole", b"ports=2\nfirst=0\nslot=0\nin=0\nout=1\nflow=0\nrank=5\ntag=10\nslot=1\nend=2\n");
+    read(
+        b"whole",
+        b"ports=2\nfirst=0\nslot=0\nin=0\nout=1\nflow=0\nrank=5\ntag=10\nslot=1\nend=2\n",
+    );
     read(b"no slots", b"ports=16\nfirst=4294967295\nend=4294967295\n");
     read(b"empty text", b"");
     read(b"unfinished first line", b"ports=17");
     read(b"too many ports", b"ports=17\nrubbish");
     read(b"no ports", b"ports=0\nfirst=0\nend=0\n");
     read(b"ports past 32 bits", b"ports=4294967296\nfirst=0\nend=0\n");
-    read(b"leading zero in the first line", b"ports=02\nfirst=0\nend=0\n");
+    read(
+        b"leading zero in the first line",
+        b"ports=02\nfirst=0\nend=0\n",
+    );
     read(b"carriage return", b"ports=2\r\nfirst=0\nend=0\n");
     read(b"plus sign", b"ports=2\nfirst=+0\nend=0\n");
     read(b"NUL byte", b"ports=2\nfirst=0\0\nend=0\n");
@@ -21,15 +27,33 @@ fn main() {
     read(b"first past 32 bits", b"ports=2\nfirst=4294967296\nend=0\n");
     read(b"text stops after the header", b"ports=2\nfirst=0\n");
     read(b"slot out of order", b"ports=2\nfirst=7\nslot=8\nend=9\n");
-    read(b"leading zero in an arrival", b"ports=2\nfirst=0\nslot=0\nin=0\nout=1\nflow=0\nrank=05\ntag=1\nend=1\n");
-    read(b"rank and tag exchanged", b"ports=2\nfirst=0\nslot=0\nin=0\nout=1\nflow=0\ntag=5\nrank=1\nend=1\n");
-    read(b"key by its first letter", b"ports=2\nfirst=0\nslot=0\ni=0\n");
-    read(b"block goes on with in=", b"ports=2\nfirst=0\nslot=0\nin=\n");
-    read(b"arrival cut off", b"ports=2\nfirst=0\nslot=0\nin=0\nout=1\n");
+    read(
+        b"leading zero in an arrival",
+        b"ports=2\nfirst=0\nslot=0\nin=0\nout=1\nflow=0\nrank=05\ntag=1\nend=1\n",
+    );
+    read(
+        b"rank and tag exchanged",
+        b"ports=2\nfirst=0\nslot=0\nin=0\nout=1\nflow=0\ntag=5\nrank=1\nend=1\n",
+    );
+    read(
+        b"key by its first letter",
+        b"ports=2\nfirst=0\nslot=0\ni=0\n",
+    );
+    read(
+        b"block goes on with in=",
+        b"ports=2\nfirst=0\nslot=0\nin=\n",
+    );
+    read(
+        b"arrival cut off",
+        b"ports=2\nfirst=0\nslot=0\nin=0\nout=1\n",
+    );
     read(b"wrong end", b"ports=2\nfirst=0\nslot=0\nend=2\n");
     read(b"unfinished end", b"ports=2\nfirst=0\nslot=0\nend=1");
     read(b"a byte after end", b"ports=2\nfirst=0\nslot=0\nend=1\n\n");
-    read(b"a slot past the last", b"ports=2\nfirst=4294967295\nslot=4294967295\nend=4294967296\n");
+    read(
+        b"a slot past the last",
+        b"ports=2\nfirst=4294967295\nslot=4294967295\nend=4294967296\n",
+    );
     let counts = [1u32, 0];
     let numbers = [0u32, 1, 0, 5, 10];
     write(b"contents written", 2, 0, &counts, &numbers);
