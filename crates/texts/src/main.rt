@@ -6,11 +6,25 @@ use reader::Verdict;
 use trace::Output;
 
 fn main() {
+    accepted();
+    first_lines();
+    second_lines();
+    middle_lines();
+    last_lines();
+    written();
+}
+
+// Texts that the writer makes of some contents.
+fn accepted() {
     read(
         b"whole",
         b"ports=2\nfirst=0\nslot=0\nin=0\nout=1\nflow=0\nrank=5\ntag=10\nslot=1\nend=2\n",
     );
     read(b"no slots", b"ports=16\nfirst=4294967295\nend=4294967295\n");
+}
+
+// Damage in the line of `ports`.
+fn first_lines() {
     read(b"empty text", b"");
     read(b"unfinished first line", b"ports=17");
     read(b"too many ports", b"ports=17\nrubbish");
@@ -21,12 +35,20 @@ fn main() {
         b"ports=02\nfirst=0\nend=0\n",
     );
     read(b"carriage return", b"ports=2\r\nfirst=0\nend=0\n");
+}
+
+// Damage in the line of `first` and right after the header.
+fn second_lines() {
     read(b"plus sign", b"ports=2\nfirst=+0\nend=0\n");
     read(b"NUL byte", b"ports=2\nfirst=0\0\nend=0\n");
     read(b"missing first", b"ports=2\n");
     read(b"first past 32 bits", b"ports=2\nfirst=4294967296\nend=0\n");
     read(b"text stops after the header", b"ports=2\nfirst=0\n");
     read(b"slot out of order", b"ports=2\nfirst=7\nslot=8\nend=9\n");
+}
+
+// Damage in a block.
+fn middle_lines() {
     read(
         b"leading zero in an arrival",
         b"ports=2\nfirst=0\nslot=0\nin=0\nout=1\nflow=0\nrank=05\ntag=1\nend=1\n",
@@ -47,6 +69,10 @@ fn main() {
         b"arrival cut off",
         b"ports=2\nfirst=0\nslot=0\nin=0\nout=1\n",
     );
+}
+
+// Damage at the end.
+fn last_lines() {
     read(b"wrong end", b"ports=2\nfirst=0\nslot=0\nend=2\n");
     read(b"unfinished end", b"ports=2\nfirst=0\nslot=0\nend=1");
     read(b"a byte after end", b"ports=2\nfirst=0\nslot=0\nend=1\n\n");
@@ -54,6 +80,10 @@ fn main() {
         b"a slot past the last",
         b"ports=2\nfirst=4294967295\nslot=4294967295\nend=4294967296\n",
     );
+}
+
+// Contents through the writer.
+fn written() {
     let counts = [1u32, 0];
     let numbers = [0u32, 1, 0, 5, 10];
     write(b"contents written", 2, 0, &counts, &numbers);
