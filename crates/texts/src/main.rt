@@ -11,6 +11,7 @@ fn main() {
     second_lines();
     middle_lines();
     last_lines();
+    long_texts();
     written();
 }
 
@@ -79,6 +80,23 @@ fn last_lines() {
     read(
         b"a slot past the last",
         b"ports=2\nfirst=4294967295\nslot=4294967295\nend=4294967296\n",
+    );
+}
+
+// A number of four thousand digits, and a line that begins `in=` after the 16th arrival.
+fn long_texts() {
+    let mut digits = [b'1'; 4007];
+    digits[0] = b'p';
+    digits[1] = b'o';
+    digits[2] = b'r';
+    digits[3] = b't';
+    digits[4] = b's';
+    digits[5] = b'=';
+    digits[4006] = b'\n';
+    read(b"four thousand digits", &digits);
+    read(
+        b"a 17th arrival",
+        b"ports=1\nfirst=0\nslot=0\nin=0\nout=0\nflow=0\nrank=0\ntag=0\nin=0\nout=0\nflow=0\nrank=0\ntag=0\nin=0\nout=0\nflow=0\nrank=0\ntag=0\nin=0\nout=0\nflow=0\nrank=0\ntag=0\nin=0\nout=0\nflow=0\nrank=0\ntag=0\nin=0\nout=0\nflow=0\nrank=0\ntag=0\nin=0\nout=0\nflow=0\nrank=0\ntag=0\nin=0\nout=0\nflow=0\nrank=0\ntag=0\nin=0\nout=0\nflow=0\nrank=0\ntag=0\nin=0\nout=0\nflow=0\nrank=0\ntag=0\nin=0\nout=0\nflow=0\nrank=0\ntag=0\nin=0\nout=0\nflow=0\nrank=0\ntag=0\nin=0\nout=0\nflow=0\nrank=0\ntag=0\nin=0\nout=0\nflow=0\nrank=0\ntag=0\nin=0\nout=0\nflow=0\nrank=0\ntag=0\nin=0\nout=0\nflow=0\nrank=0\ntag=0\nin=0\nout=0\nflow=0\nrank=0\ntag=0\nend=1\n",
     );
 }
 
