@@ -1,7 +1,8 @@
 /* A buffered crossbar of up to sixteen ports. This header is the whole manual of the host.
 
    The switch is a table of bytes that the host keeps. start makes one, check looks whether bytes are one. No call asks
-   anything of what it is lent: a bad argument is a refusal. A call keeps nothing and allocates nothing. A pointer may be null only where its length is 0. The layouts are in docs/LAYOUT.md. */
+   anything of what it is lent: a bad argument is a refusal. A call keeps nothing and allocates nothing. No pointer may
+   be null. The layouts are in docs/LAYOUT.md. */
 #ifndef CROSSBAR_H
 #define CROSSBAR_H
 

@@ -1,4 +1,5 @@
-//! Safe calls of the crossbar. The layouts are in docs/LAYOUT.md, every promise in include/crossbar.h.
+//! Safe calls of the crossbar. The layouts are in docs/LAYOUT.md, the promises of start and check in include/crossbar.h. It
+//! links once the static library has slot.
 
 pub const PORTS: usize = 16;
 pub const TABLE_BYTES: usize = 16416;
