@@ -7,9 +7,9 @@ use lib.ListN.{length, take, drop, length-append, drop-of-length-le}
 use lib.Seq.{take-at, drop-at, drop-drop}
 use Rattle.cell.specs.declared.Tally.{Tally}
 use Rattle.model.specs.Tally.{countTop, raise, afterRun, afterRefused}
-use Rattle.table.specs.Number.{bytesOf, numberAt}
-use Rattle.table.specs.TallyBytes.{tallyOf, tallyBytes, tallySize}
-use Rattle.table.proofs.Number.{length-bytesOf}
+use Rattle.layout.specs.Number.{bytesOf, numberAt}
+use Rattle.layout.specs.TallyBytes.{tallyOf, tallyBytes, tallySize}
+use Rattle.layout.proofs.Number.{length-bytesOf}
 
 -- a count that has no room for more stops at its top
 pub raise-top : (by n : ℕ) → n ≤ countTop → countTop - n < by → countTop ≡ raise by n

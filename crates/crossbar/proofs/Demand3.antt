@@ -24,17 +24,17 @@ use Rattle.model.specs.Sound.{sound}
 use Rattle.model.specs.State.{Switch, fresh}
 use Rattle.model.proofs.Demand3.{Kept, Step, step, kept-fresh}
 use Rattle.model.proofs.Related.{related-same-waiting}
-use Rattle.table.specs.Answer.{departuresBytes, answerBytes, answerSize}
-use Rattle.table.specs.Arrivals.{recordsOf}
-use Rattle.table.specs.Number.{bytesOf}
-use Rattle.table.specs.Host.{startCall, bufferAfter, slotCall, tableAfter, answerAfter, filled}
-use Rattle.table.specs.Table.{decode, encode, tableSize}
-use Rattle.table.specs.TallyBytes.{tallySize}
-use Rattle.table.proofs.Answer.{length-departuresBytes}
-use Rattle.table.proofs.Arrivals.{recordsOf-fits}
-use Rattle.table.proofs.Number.{isByte, bytes?}
-use Rattle.table.proofs.Host.{startCall-done, slotCall-arrivals, slotCall-slot, take-filled}
-use Rattle.table.proofs.Table.{decode-encode, length-encode}
+use Rattle.layout.specs.Answer.{departuresBytes, answerBytes, answerSize}
+use Rattle.layout.specs.Arrivals.{recordsOf}
+use Rattle.layout.specs.Number.{bytesOf}
+use Rattle.layout.specs.Host.{startCall, bufferAfter, slotCall, tableAfter, answerAfter, filled}
+use Rattle.layout.specs.Table.{decode, encode, tableSize}
+use Rattle.layout.specs.TallyBytes.{tallySize}
+use Rattle.layout.proofs.Answer.{length-departuresBytes}
+use Rattle.layout.proofs.Arrivals.{recordsOf-fits}
+use Rattle.layout.proofs.Number.{isByte, bytes?}
+use Rattle.layout.proofs.Host.{startCall-done, slotCall-arrivals, slotCall-slot, take-filled}
+use Rattle.layout.proofs.Table.{decode-encode, length-encode}
 use Rattle.crossbar.specs.HostCalls.{Call, lendable, outcome, shadow, AnswersAlike, SameState, Alike, Demand3}
 
 -- what a call that can be lent is

@@ -10,19 +10,19 @@ use lib.Seq.{append-snoc, drop-append-le, take-at, drop-at, set-at, drop-cons, d
 use Rattle.crossbar.specs.Cleared.{cleared}
 use Rattle.cell.specs.Limits.{portLimit}
 use Rattle.model.specs.State.{fresh, Entry}
-use Rattle.table.specs.Number.{bytesOf}
-use Rattle.table.specs.Table.{encode, countsBytes, sectionsBytes, sectionBytes, entriesBytes, layoutNumber, tableSize, sectionSize}
+use Rattle.layout.specs.Number.{bytesOf}
+use Rattle.layout.specs.Table.{encode, countsBytes, sectionsBytes, sectionBytes, entriesBytes, layoutNumber, tableSize, sectionSize}
 use Rattle.cell.specs.declared.Refusal.{Refusal}
 use Rattle.cell.specs.Refusal.{number}
 use Rattle.model.specs.Checks.{Outcome, done, refused}
 use mathlib.Core.Bool.{true, false, false≢true}
 use mathlib.Core.Option.{Option, none, some}
 use Rattle.model.specs.State.{Switch}
-use Rattle.table.specs.Check.{isTable}
-use Rattle.table.specs.Table.{decode}
-use Rattle.table.proofs.Host.{checkCall-table, checkCall-broken}
-use Rattle.table.specs.Host.{checkCall, filled, startCall, bufferAfter, resultOf}
-use Rattle.table.proofs.Number.{length-bytesOf}
+use Rattle.layout.specs.Table.{isTable}
+use Rattle.layout.specs.Table.{decode}
+use Rattle.layout.proofs.Host.{checkCall-table, checkCall-broken}
+use Rattle.layout.specs.Host.{checkCall, filled, startCall, bufferAfter, resultOf}
+use Rattle.layout.proofs.Number.{length-bytesOf}
 
 zeros : ℕ → List ℕ
 zeros n = replicate n 0

@@ -15,11 +15,11 @@ use Rattle.model.specs.Crossbar.{Course}
 use Rattle.model.specs.Emulation.{Within, SameWaiting}
 use Rattle.model.specs.Pifo.{Pifo, freshPifo, Sent, slotPifo, pifoAfter}
 use Rattle.model.specs.State.{Switch}
-use Rattle.table.specs.Answer.{departuresBytes, answerSize}
-use Rattle.table.specs.Arrivals.{recordsOf}
-use Rattle.table.specs.Host.{startCall, bufferAfter, slotCall, tableAfter, answerAfter}
-use Rattle.table.specs.Table.{decode, tableSize}
-use Rattle.table.specs.TallyBytes.{tallySize}
+use Rattle.layout.specs.Answer.{departuresBytes, answerSize}
+use Rattle.layout.specs.Arrivals.{recordsOf}
+use Rattle.layout.specs.Host.{startCall, bufferAfter, slotCall, tableAfter, answerAfter}
+use Rattle.layout.specs.Table.{decode, tableSize}
+use Rattle.layout.specs.TallyBytes.{tallySize}
 
 -- What a slot call is lent besides the table.
 pub record Call : Type 0 where

@@ -7,9 +7,9 @@ ghost use mathlib.Core.Path.{_≡_};
 ghost use Prim.Native.Nat.{_≤_};
 ghost use lib.ListN.{length};
 ghost use Rattle.model.specs.State.{fresh};
-ghost use Rattle.table.specs.Table.{encode, tableSize};
+ghost use Rattle.layout.specs.Table.{encode, tableSize};
 ghost use Rattle.crossbar.specs.Cleared.{cleared};
-ghost use Rattle.table.specs.Host.{checkCall, startCall, bufferAfter, resultOf, filled};
+ghost use Rattle.layout.specs.Host.{checkCall, startCall, bufferAfter, resultOf, filled};
 
 // The bytes of a table.
 pub const TABLE_BYTES: usize = 16416;

@@ -3,7 +3,7 @@ use cell::Tally;
 ghost use mathlib.Core.Path.{_≡_};
 ghost use lib.ListN.{length};
 ghost use Rattle.model.specs.Tally.{raise, afterRun, afterRefused};
-ghost use Rattle.table.specs.TallyBytes.{tallyOf, tallyBytes, tallySize};
+ghost use Rattle.layout.specs.TallyBytes.{tallyOf, tallyBytes, tallySize};
 
 // Counts an accepted slot.
 pub fn count_run(bytes: &mut [u8], arrivals: u64, departures: u64)

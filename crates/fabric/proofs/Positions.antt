@@ -29,13 +29,13 @@ use Rattle.model.specs.Phase.{Waiting, phase, ahead, beats, sameOutput, candida
 use Rattle.model.proofs.WaitingOrder.{ahead-input, ahead-irrefl, ahead-trans}
 use Rattle.model.proofs.PhaseFacts.{lists, lists-all}
 use Rattle.model.proofs.PhaseMatching.{candidate-listed}
-use Rattle.table.specs.Entry.{entryAt, portsIn, countIn}
-use Rattle.fabric.specs.View.{waitingAt, inTable, window}
-use Rattle.fabric.specs.Scan.{Readable}
-use Rattle.fabric.specs.Choices.{ofInput, candidatesOf}
-use Rattle.fabric.proofs.Window.{numbersFrom-e, numbersFrom-add, ofInput-window, ofInput-none, inTable-e}
-use Rattle.fabric.proofs.Window.{length-window, window-ordered}
-use Rattle.fabric.proofs.Relocated.{flatten-through}
+use Rattle.layout.specs.Entry.{entryAt, portsIn, countIn}
+use Rattle.places.specs.View.{waitingAt, inTable, window}
+use Rattle.places.specs.Scan.{Readable}
+use Rattle.places.specs.Choices.{ofInput, candidatesOf}
+use Rattle.places.proofs.Window.{numbersFrom-e, numbersFrom-add, ofInput-window, ofInput-none, inTable-e}
+use Rattle.places.proofs.Window.{length-window, window-ordered}
+use Rattle.moving.proofs.Relocated.{flatten-through}
 
 ------------------------------------------------------------------------
 -- lists of lists

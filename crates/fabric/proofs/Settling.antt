@@ -24,15 +24,15 @@ use Rattle.model.proofs.WaitingOrder.{at-same}
 use Rattle.model.proofs.PhaseFacts.{crosspoints, scheduled-normal, urgent-blocked}
 use Rattle.model.proofs.PhaseMatching.{straight-i, straight-matched, straight-urgent, match-all, match-kind, match-output}
 use Rattle.model.proofs.PhaseMatching.{scheduled-all}
-use Rattle.fabric.specs.View.{inTable}
-use Rattle.fabric.specs.Scan.{Readable}
-use Rattle.fabric.specs.Choices.{nowhere, scheduledOf}
-use Rattle.fabric.specs.Moves.{matchAt, straightTo, straightOf, Matches}
-use Rattle.fabric.specs.Moved.{Settled}
-use Rattle.fabric.proofs.Rules.{straight-free, straight-scheduled, straight-match}
-use Rattle.fabric.proofs.Ports.{numberBy, ByPort, has, lacks, by-none, by-cases, by-one, inputOf, outputOf}
-use Rattle.fabric.proofs.Ports.{straight-output, scheduled-input, scheduledOf-by, straightOf-by}
-use Rattle.fabric.proofs.Known.{Known, known}
+use Rattle.places.specs.View.{inTable}
+use Rattle.places.specs.Scan.{Readable}
+use Rattle.places.specs.Choices.{nowhere, scheduledOf}
+use Rattle.moving.specs.Moves.{matchAt, straightTo, straightOf, Matches}
+use Rattle.moving.specs.Moved.{Settled}
+use Rattle.moving.proofs.Rules.{straight-free, straight-scheduled, straight-match}
+use Rattle.moving.proofs.Ports.{numberBy, ByPort, has, lacks, by-none, by-cases, by-one, inputOf, outputOf}
+use Rattle.moving.proofs.Ports.{straight-output, scheduled-input, scheduledOf-by, straightOf-by}
+use Rattle.moving.proofs.Known.{Known, known}
 use Rattle.fabric.proofs.Positions.{Lined, cellOf, cellOf-number, Position, position-e, few, matched-positions}
 
 -- within a list what stands past its end does not matter

@@ -22,12 +22,12 @@ use Rattle.model.specs.Phase.{Phase, phase}
 use Rattle.model.specs.Slackness.{Orderly}
 use Rattle.model.proofs.PhaseFacts.{lists-all}
 use Rattle.model.proofs.PhaseMatching.{candidate-listed}
-use Rattle.fabric.specs.View.{inTable}
-use Rattle.fabric.specs.Choices.{candidatesOf}
-use Rattle.fabric.specs.Scan.{Readable, Chosen, someUrgent, outputAt, rankAt, slotAt}
-use Rattle.fabric.specs.Moved.{Settled}
-use Rattle.fabric.proofs.Candidates.{candidates-none}
-use Rattle.fabric.proofs.Known.{known}
+use Rattle.places.specs.View.{inTable}
+use Rattle.places.specs.Choices.{candidatesOf}
+use Rattle.places.specs.Scan.{Readable, Chosen, someUrgent, outputAt, rankAt, slotAt}
+use Rattle.moving.specs.Moved.{Settled}
+use Rattle.choosing.proofs.Candidates.{candidates-none}
+use Rattle.moving.proofs.Known.{known}
 use Rattle.fabric.proofs.Positions.{Lined, Position, position-e, few, proposals-positions}
 use Rattle.fabric.proofs.Settling.{settled}
 

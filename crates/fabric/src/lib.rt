@@ -1,7 +1,2 @@
-// The steps of a slot on the table; how they see it is defined in specs/.
-pub mod arrival;
-pub mod choosing;
-pub mod departure;
-pub mod loading;
-pub mod moving;
+// The phase of a slot, put together of its steps.
 pub mod phase;

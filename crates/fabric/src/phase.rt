@@ -1,8 +1,8 @@
 // Document 01, "One slot", scheduling: one phase. Its choices are in choosing, its moves in moving.
-use crate::choosing::NOWHERE;
-use crate::choosing::choose;
-use crate::loading::ports_of;
-use crate::moving::move_cells;
+use places::NOWHERE;
+use choosing::choose;
+use places::ports_of;
+use moving::move_cells;
 use matching::Matched;
 use matching::find_matching;
 ghost use mathlib.Core.Path.{_≡_};
@@ -12,8 +12,8 @@ ghost use lib.ListN.{length};
 ghost use Rattle.matching.specs.Positions.{positions};
 ghost use Rattle.matching.specs.Found.{Lent, Found};
 ghost use Rattle.model.specs.Phase.{phase};
-ghost use Rattle.fabric.specs.View.{inTable};
-ghost use Rattle.fabric.specs.Moved.{Steady, Moved};
+ghost use Rattle.places.specs.View.{inTable};
+ghost use Rattle.moving.specs.Moved.{Steady, Moved};
 
 // Moves the cells as a phase does, and gives the number of proposals that it made. The four columns are lent for the
 // cells that are matched; what is in them before does not matter.

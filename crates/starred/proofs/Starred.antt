@@ -21,7 +21,7 @@ use Rattle.model.specs.Phase.{placeAfter, moved}
 use Rattle.model.specs.Crossbar.{inListOf, newEntry, enterAfter, enter, arrive, leaving, departuresOf, without}
 use Rattle.model.specs.Crossbar.{run, slot, switchAfter, start}
 use Rattle.model.specs.Pifo.{freshPifo, queued, join, best, rest, runPifo, slotPifo, pifoAfter}
-use Rattle.table.specs.Number.{sameBytes}
+use Rattle.layout.specs.Number.{sameBytes}
 use Rattle.trace.specs.Ascii.{ascii}
 use Rattle.trace.specs.Line.{keyName, keyText, digitsWithin, decimal, line, after, upToLineFeed, isDigit}
 use Rattle.trace.specs.Line.{valueAfter, noLeadingZero, readNumber, readLine}

@@ -17,7 +17,7 @@ use Rattle.model.specs.Crossbar.{Course, slot, switchAfter, start}
 use Rattle.model.specs.Pifo.{Pifo, freshPifo, Sent, slotPifo, pifoAfter}
 use Rattle.model.specs.State.{Switch, fresh}
 use Rattle.play.specs.Player.{playCrossbar, playPifo}
-use Rattle.table.specs.Number.{sameBytes}
+use Rattle.layout.specs.Number.{sameBytes}
 use Rattle.trace.specs.Ascii.{ascii}
 
 -- What a slot call is to answer: the departures, output by output, with the proposals of both phases; or a refusal's

@@ -15,18 +15,18 @@ use Rattle.laws.proofs.Tests.{and-i, and-l, and-r}
 use Rattle.cell.specs.Limits.{cellLimit, portLimit, fits32, portsInRange}
 use Rattle.model.specs.State.{Switch}
 use Rattle.model.specs.Sound.{sound, soundSections}
-use Rattle.table.specs.Number.{bytesOf, numberOf, numberAt, word}
-use Rattle.table.specs.Table.{layoutNumber, headerSize, tableSize, countsBytes, sectionsBytes, encode, stateOf}
-use Rattle.table.specs.Table.{decode}
-use Rattle.table.specs.Host.{checkCall}
-use Rattle.table.specs.Entry.{countIn}
-use Rattle.table.specs.Records.{between, sectionAt}
-use Rattle.table.specs.Check.{isTable, isSection}
-use Rattle.table.proofs.Number.{bytes?, word-here, word-fits, below-fits32, bytesOf-at}
-use Rattle.table.proofs.Table.{stateOf-encode, decode-some-iff, decode-sound, encode-decode, length-encode}
-use Rattle.table.proofs.Table.{encode-counts, encode-sections, length-countsBytes, sound-sections}
-use Rattle.table.proofs.Host.{checkCall-table, checkCall-broken}
-use Rattle.table.proofs.Records.{length-numbersFrom, between-mem, between-each, stateOf-sections, stateOf-few}
+use Rattle.layout.specs.Number.{bytesOf, numberOf, numberAt, word}
+use Rattle.layout.specs.Table.{layoutNumber, headerSize, tableSize, countsBytes, sectionsBytes, encode, stateOf, isTable}
+use Rattle.layout.specs.Table.{decode}
+use Rattle.layout.specs.Host.{checkCall}
+use Rattle.layout.specs.Entry.{countIn}
+use Rattle.layout.specs.Records.{between, sectionAt}
+use Rattle.table.specs.Check.{isSection}
+use Rattle.layout.proofs.Number.{bytes?, word-here, word-fits, below-fits32, bytesOf-at}
+use Rattle.layout.proofs.Table.{stateOf-encode, decode-some-iff, decode-sound, encode-decode, length-encode, decode-state, isTable-some, isTable-none, is-table}
+use Rattle.layout.proofs.Table.{encode-counts, encode-sections, length-countsBytes, sound-sections}
+use Rattle.layout.proofs.Host.{checkCall-table, checkCall-broken}
+use Rattle.layout.proofs.Records.{length-numbersFrom, between-mem, between-each, stateOf-sections, stateOf-few}
 use Rattle.table.proofs.Parts.{Section, roomOf-le, isSection-i, isSection-e, counts-i, sections-i, sounds-i}
 use Rattle.table.proofs.Parts.{rows-e}
 
@@ -52,27 +52,6 @@ encode-layout s = word-here layoutNumber _ (below-fits32 layoutNumber (lit≤ tt
 encode-zeros : (s : Switch) → _≡_ {A = ℕ} (word (encode s) 12) 0
 unfolding encode word numberAt bytesOf numberOf
 encode-zeros s = refl
-
--- an accepted table is the bytes of the state that it would stand for
-decode-state : (bs : List ℕ) (s : Switch) → decode bs ≡ some s → stateOf bs ≡ s
-decode-state bs s e = ap stateOf (sym (encode-decode bs s e)) ∙ stateOf-encode s (decode-sound bs s e)
-
-isTable-some : (bs : List ℕ) (s : Switch) → decode bs ≡ some s → isTable bs ≡ true
-unfolding isTable
-isTable-some bs s e = rw (e, isTable)
-
-isTable-none : (bs : List ℕ) → decode bs ≡ none → isTable bs ≡ false
-unfolding isTable
-isTable-none bs e = rw (e, isTable)
-
-isTable-state : (bs : List ℕ) → isTable bs ≡ true → decode bs ≡ some (stateOf bs)
-unfolding isTable
-isTable-state bs h = go (decode bs) refl h
-  where
-    go : (o : Option Switch) → decode bs ≡ o → elim o [ some s ↦ true | none ↦ false ] ≡ true
-        → decode bs ≡ some (stateOf bs)
-    go none e h = absurd (false≢true h)
-    go (some s) e h = e ∙ ap some (sym (decode-state bs s e))
 
 module _ (bs : List ℕ) (h : bytes? bs ≡ true) (t : Table bs) where
   rows : (i : ℕ) → i < portLimit → Section (word bs 4) (word bs 8) bs i
@@ -192,7 +171,7 @@ module _ (bs : List ℕ) (good : sound (stateOf bs) ≡ true) (same : encode (st
 
 pub isTable-e : (bs : List ℕ) → isTable bs ≡ true → Table bs
 isTable-e bs h =
-    let e = isTable-state bs h in
+    let e = is-table bs h in
     table-of bs (decode-sound bs (stateOf bs) e) (encode-decode bs (stateOf bs) e)
 
 ------------------------------------------------------------------------

@@ -15,10 +15,10 @@ use Rattle.laws.proofs.Lists.{Passing, some?-e, none?-e, none?-by-some?, all?-i
 use Rattle.cell.specs.Limits.{portLimit}
 use Rattle.model.specs.State.{Entry, isCrossed}
 use Rattle.model.specs.Sound.{otherSlot, otherCrosspoint}
-use Rattle.table.specs.Entry.{entryAt}
-use Rattle.table.specs.Records.{between, entriesBetween}
+use Rattle.layout.specs.Entry.{entryAt}
+use Rattle.layout.specs.Records.{between, entriesBetween}
 use Rattle.table.specs.Check.{sharesSlot}
-use Rattle.table.proofs.Records.{all?-entriesBetween}
+use Rattle.layout.proofs.Records.{all?-entriesBetween}
 use Rattle.table.proofs.Seen.{Passed, passed-skip, passed-mark, passed-stop}
 
 ------------------------------------------------------------------------

@@ -16,15 +16,15 @@ use Rattle.laws.proofs.Lists.{all?-mono}
 use Rattle.cell.specs.Limits.{portLimit, flowLimit, cellLimit, fits32}
 use Rattle.model.specs.State.{Entry, listed, crossed, buffered, isListed, isCrossed}
 use Rattle.model.specs.Sound.{soundEntry}
-use Rattle.table.specs.Number.{bytesOf, numberOf, numberAt, word, sameBytes}
-use Rattle.table.specs.Table.{tableSize, entrySize, placeByte, placeOf, entryBytes, entryOf}
-use Rattle.table.specs.Entry.{entryAt}
-use Rattle.table.specs.Records.{recordStart, recordAt, placeByteAt, between, entriesBetween}
+use Rattle.layout.specs.Number.{bytesOf, numberOf, numberAt, word, sameBytes}
+use Rattle.layout.specs.Table.{tableSize, entrySize, placeByte, placeOf, entryBytes, entryOf}
+use Rattle.layout.specs.Entry.{entryAt}
+use Rattle.layout.specs.Records.{recordStart, recordAt, placeByteAt, between, entriesBetween}
 use Rattle.table.specs.Check.{isEntry, isUnused, inRange}
-use Rattle.table.proofs.Number.{bytes?, bytes?-i, bytes?-take, bytes?-drop, bytesOf-at, bytesOf-last}
-use Rattle.table.proofs.Number.{sameBytes-refl, sameBytes-exact, word-fits}
-use Rattle.table.proofs.Records.{entryAt-input, entryAt-rank, entryAt-tag, recordAt-number, recordAt-byte}
-use Rattle.table.proofs.Records.{all?-entriesBetween}
+use Rattle.layout.proofs.Number.{bytes?, bytes?-i, bytes?-take, bytes?-drop, bytesOf-at, bytesOf-last}
+use Rattle.layout.proofs.Number.{sameBytes-refl, sameBytes-exact, word-fits}
+use Rattle.layout.proofs.Records.{entryAt-input, entryAt-rank, entryAt-tag, recordAt-number, recordAt-byte}
+use Rattle.layout.proofs.Records.{all?-entriesBetween}
 use Rattle.table.proofs.Parts.{length-recordAt}
 
 ------------------------------------------------------------------------

@@ -18,11 +18,11 @@ use Rattle.cell.specs.Order.{over}
 use Rattle.cell.proofs.Flow.{flow-i, flow-e}
 use Rattle.model.specs.State.{Entry, isListed}
 use Rattle.model.specs.Sound.{together}
-use Rattle.table.specs.Entry.{entryAt}
-use Rattle.table.specs.Records.{between, entriesBetween}
+use Rattle.layout.specs.Entry.{entryAt}
+use Rattle.layout.specs.Records.{between, entriesBetween}
 use Rattle.table.specs.Check.{inRange, flowNumber, standsApart}
-use Rattle.table.proofs.Records.{entryAt-input, between-mem, entriesBetween-nil, entriesBetween-split}
-use Rattle.table.proofs.Records.{all?-entriesBetween}
+use Rattle.layout.proofs.Records.{entryAt-input, between-mem, entriesBetween-nil, entriesBetween-split}
+use Rattle.layout.proofs.Records.{all?-entriesBetween}
 use Rattle.table.proofs.Walks.{inRange-e}
 use Rattle.table.proofs.Seen.{Seen, seen-none, seen-mark, entriesBetween-back}
 

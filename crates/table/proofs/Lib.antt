@@ -1,15 +1,7 @@
 pub mod Accepted
-pub mod Answer
 pub mod Apart
-pub mod Arrivals
 pub mod Fields
 pub mod Flows
-pub mod Halves
-pub mod Host
-pub mod Number
 pub mod Parts
-pub mod Records
 pub mod Seen
-pub mod Table
-pub mod Tally
 pub mod Walks

@@ -16,16 +16,16 @@ use Rattle.laws.proofs.Lists.{all?-i, all?-e, all?-mono}
 use Rattle.cell.specs.Limits.{cellLimit, portLimit}
 use Rattle.model.specs.State.{Entry, isListed}
 use Rattle.model.specs.Sound.{soundEntry, soundSection, soundSections, sound, together, otherSlot, otherCrosspoint}
-use Rattle.table.specs.Number.{bytesOf, sameBytes}
-use Rattle.table.specs.Table.{headerSize, entrySize, sectionSize, tableSize, entryBytes, entriesBytes}
-use Rattle.table.specs.Table.{sectionBytes, sectionsBytes, countsBytes}
-use Rattle.table.specs.Entry.{entryAt, countIn}
-use Rattle.table.specs.Records.{recordStart, recordAt, between, entriesBetween, firstRecord, sectionAt}
+use Rattle.layout.specs.Number.{bytesOf, sameBytes}
+use Rattle.layout.specs.Table.{headerSize, entrySize, sectionSize, tableSize, entryBytes, entriesBytes}
+use Rattle.layout.specs.Table.{sectionBytes, sectionsBytes, countsBytes}
+use Rattle.layout.specs.Entry.{entryAt, countIn}
+use Rattle.layout.specs.Records.{recordStart, recordAt, between, entriesBetween, firstRecord, sectionAt}
 use Rattle.table.specs.Check.{isEntry, isUnused, roomOf, isSection}
-use Rattle.table.proofs.Number.{length-bytesOf, sameBytes-refl, sameBytes-exact}
-use Rattle.table.proofs.Records.{length-numbersFrom, between-mem, between-nil, length-entriesBetween}
-use Rattle.table.proofs.Records.{all?-entriesBetween}
-use Rattle.table.proofs.Table.{length-entryBytes, length-entriesBytes, length-sectionBytes, soundSection-size}
+use Rattle.layout.proofs.Number.{length-bytesOf, sameBytes-refl, sameBytes-exact}
+use Rattle.layout.proofs.Records.{length-numbersFrom, between-mem, between-nil, length-entriesBetween}
+use Rattle.layout.proofs.Records.{all?-entriesBetween}
+use Rattle.layout.proofs.Table.{length-entryBytes, length-entriesBytes, length-sectionBytes, soundSection-size}
 
 ------------------------------------------------------------------------
 -- bytes one behind the other

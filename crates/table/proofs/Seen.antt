@@ -15,9 +15,9 @@ use Rattle.laws.specs.Lists.{some?, all?, pairwise}
 use Rattle.laws.proofs.Tests.{either, clash, by-fail, and-i, and-l, or-l}
 use Rattle.laws.proofs.Pairwise.{pairwise-append-r}
 use Rattle.model.specs.State.{Entry}
-use Rattle.table.specs.Entry.{entryAt}
-use Rattle.table.specs.Records.{entriesBetween}
-use Rattle.table.proofs.Records.{entriesBetween-nil, entriesBetween-cons, entriesBetween-split}
+use Rattle.layout.specs.Entry.{entryAt}
+use Rattle.layout.specs.Records.{entriesBetween}
+use Rattle.layout.proofs.Records.{entriesBetween-nil, entriesBetween-cons, entriesBetween-split}
 
 ------------------------------------------------------------------------
 -- the marks: at each number, whether some entry passes its test

@@ -12,10 +12,10 @@ use Rattle.cell.specs.Flow.{sameFlow}
 use Rattle.cell.specs.Order.{over}
 use Rattle.model.specs.State.{Entry}
 use Rattle.model.specs.Sound.{otherSlot}
-use Rattle.table.specs.Entry.{entryAt}
-use Rattle.table.specs.Records.{between}
+use Rattle.layout.specs.Entry.{entryAt}
+use Rattle.layout.specs.Records.{between}
 use Rattle.table.specs.Check.{inRange, standsApart, sharesSlot}
-use Rattle.table.proofs.Records.{between-nil, between-cons}
+use Rattle.layout.proofs.Records.{between-nil, between-cons}
 
 ------------------------------------------------------------------------
 -- whether a later entry of its flow stands apart

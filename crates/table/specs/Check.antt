@@ -11,14 +11,10 @@ use Rattle.cell.specs.Order.{over}
 use Rattle.cell.specs.Limits.{portLimit, flowLimit, cellLimit, flowInRange}
 use Rattle.model.specs.State.{Entry, isListed}
 use Rattle.model.specs.Sound.{soundEntry, together, otherSlot, otherCrosspoint}
-use Rattle.table.specs.Number.{sameBytes}
-use Rattle.table.specs.Table.{entrySize, entryBytes, decode}
-use Rattle.table.specs.Entry.{entryAt, countIn}
-use Rattle.table.specs.Records.{recordAt, between, entriesBetween, firstRecord}
-
--- the bytes are those of a sound state
-unfoldable pub isTable : List ℕ → Bool
-isTable bs = elim (decode bs) [ some s ↦ true | none ↦ false ]
+use Rattle.layout.specs.Number.{sameBytes}
+use Rattle.layout.specs.Table.{entrySize, entryBytes, decode}
+use Rattle.layout.specs.Entry.{entryAt, countIn}
+use Rattle.layout.specs.Records.{recordAt, between, entriesBetween, firstRecord}
 
 -- a record is the bytes of its entry, and the entry is sound
 unfoldable pub isEntry : ℕ → ℕ → List ℕ → ℕ → Bool

@@ -1,9 +1,1 @@
-pub mod Answer
-pub mod Arrivals
 pub mod Check
-pub mod Entry
-pub mod Host
-pub mod Number
-pub mod Records
-pub mod Table
-pub mod TallyBytes

@@ -10,10 +10,10 @@ ghost use lib.ListN.{length};
 ghost use Rattle.laws.specs.Lists.{keep, all?, pairwise};
 ghost use Rattle.model.specs.State.{isListed};
 ghost use Rattle.model.specs.Sound.{together, otherSlot, otherCrosspoint};
-ghost use Rattle.table.specs.Table.{tableSize};
-ghost use Rattle.table.specs.Entry.{entryAt};
-ghost use Rattle.table.specs.Records.{between, entriesBetween};
-ghost use Rattle.table.specs.Check.{isTable, isSection, isEntry, isUnused, roomOf, inRange, flowNumber};
+ghost use Rattle.layout.specs.Table.{tableSize, isTable};
+ghost use Rattle.layout.specs.Entry.{entryAt};
+ghost use Rattle.layout.specs.Records.{between, entriesBetween};
+ghost use Rattle.table.specs.Check.{isSection, isEntry, isUnused, roomOf, inRange, flowNumber};
 ghost use Rattle.table.specs.Check.{standsApart, sharesSlot};
 
 // Whether the bytes are a table.

@@ -4,9 +4,9 @@ use cell::Cell;
 ghost use mathlib.Core.Path.{_≡_};
 ghost use Prim.Native.Nat.{_+_, _*_, _<_};
 ghost use lib.ListN.{length};
-ghost use Rattle.table.specs.Table.{tableSize, placeOf};
-ghost use Rattle.table.specs.Entry.{entryAt};
-ghost use Rattle.table.specs.Records.{placeByteAt, recordStart};
+ghost use Rattle.layout.specs.Table.{tableSize, placeOf};
+ghost use Rattle.layout.specs.Entry.{entryAt};
+ghost use Rattle.layout.specs.Records.{placeByteAt, recordStart};
 
 // The cell of a record.
 pub fn cell_of(bytes: &[u8], k: usize) -> Cell

@@ -4,7 +4,7 @@ ghost use mathlib.Core.Path.{_≡_};
 ghost use mathlib.Core.List.{_++_};
 ghost use Prim.Native.Nat.{_+_, _≤_};
 ghost use lib.ListN.{length, take, drop};
-ghost use Rattle.table.specs.Number.{word, numberAt, bytesOf};
+ghost use Rattle.layout.specs.Number.{word, numberAt, bytesOf};
 
 // The number of 32 bits at a place.
 pub fn read_u32(bytes: &[u8], at: usize) -> u32

@@ -5,7 +5,7 @@ use native.Mathlib.Omega.{arith}
 use borrow.Author.Needs.{needs}
 use mathlib.Core.Path.{_≡_, refl, sym, ap, _∙_}
 use lib.ListN.{length, set}
-use Rattle.table.specs.Table.{tableSize}
+use Rattle.layout.specs.Table.{tableSize}
 use Rattle.crossbar.specs.Cleared.{cleared}
 use Rattle.crossbar.proofs.Fresh.{cleared-none, clear-step, length-cleared}
 use Rattle.crossbar.proofs.clear.Statement.{statement}

@@ -4,9 +4,9 @@ use mathlib.Core.Path.{sym, _∙_, ap₂}
 use borrow.Author.Tests.{not-true, not-false}
 use Rattle.cell.specs.declared.Refusal.the-variants.{BadSize, ShortBuffer}
 use Rattle.model.specs.State
-use Rattle.table.specs.Host.{filled}
-use Rattle.table.specs.Table.{encode}
-use Rattle.table.proofs.Host.{startCall-size, startCall-short, startCall-done}
+use Rattle.layout.specs.Host.{filled}
+use Rattle.layout.specs.Table.{encode}
+use Rattle.layout.proofs.Host.{startCall-size, startCall-short, startCall-done}
 use Rattle.crossbar.proofs.Fresh.{start-refuses, start-runs}
 use borrow.Author.Needs.{needs}
 use Rattle.crossbar.proofs.start.Statement.{statement}

@@ -2,7 +2,7 @@
 -- Assumes nothing.
 use mathlib.Core.Path.{ap, _∙_}
 use Rattle.model.specs.Tally.{afterRun}
-use Rattle.table.specs.TallyBytes.{tallyBytes}
+use Rattle.layout.specs.TallyBytes.{tallyBytes}
 use borrow.Author.Needs.{needs}
 use Rattle.crossbar.proofs.tally.count_run.Statement.{statement}
 use Rattle.crossbar.proofs.tally.count_run.Tie as tie

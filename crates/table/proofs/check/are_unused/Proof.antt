@@ -5,7 +5,7 @@ use native.Mathlib.Omega.{arith}
 use borrow.Author.Needs.{needs}
 use Rattle.laws.specs.Lists.{all?}
 use Rattle.laws.proofs.Tests.{not-e, not-false-e}
-use Rattle.table.specs.Records.{between}
+use Rattle.layout.specs.Records.{between}
 use Rattle.table.specs.Check.{isUnused}
 use Rattle.table.proofs.Walks.{each-stop, each-next, each-end}
 use Rattle.table.proofs.check.are_unused.Statement.{statement}

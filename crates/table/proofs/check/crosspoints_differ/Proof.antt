@@ -7,10 +7,10 @@ use borrow.Author.Needs.{needs}
 use borrow.Author.Tests.{eq-eqb, ne-eqb}
 use Rattle.model.specs.State.{isCrossed}
 use Rattle.model.specs.Sound.{otherCrosspoint}
-use Rattle.table.specs.Entry.{entryAt}
+use Rattle.layout.specs.Entry.{entryAt}
 use Rattle.table.specs.Check.{inRange}
 use Rattle.table.proofs.Fields.{placeOf-crossed}
-use Rattle.table.proofs.Records.{entriesBetween-each}
+use Rattle.layout.proofs.Records.{entriesBetween-each}
 use Rattle.table.proofs.Walks.{inRange-e}
 use Rattle.table.proofs.Seen.{passed-start, passed-end}
 use Rattle.table.proofs.Apart.{crossedTo, Crossed, crossed-skip, crossed-mark, crossed-stop}

@@ -3,7 +3,7 @@ use Prim.Native.Nat.{_+_, _*_}
 use mathlib.Core.Path.{_≡_}
 use native.Mathlib.Omega.{arith}
 use borrow.Author.Needs.{needs}
-use Rattle.table.specs.Entry.{entryAt}
+use Rattle.layout.specs.Entry.{entryAt}
 use Rattle.table.specs.Check.{flowNumber}
 use Rattle.table.proofs.Walks.{inRange-e}
 use Rattle.table.proofs.check.flow_number.Statement.{statement}

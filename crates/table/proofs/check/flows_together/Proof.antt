@@ -7,11 +7,11 @@ use native.Mathlib.Omega.{arith}
 use borrow.Author.Needs.{needs}
 use borrow.Author.Tests.{eq-eqb, ne-eqb}
 use Rattle.model.specs.State.{Entry, isListed}
-use Rattle.table.specs.Entry.{entryAt}
-use Rattle.table.specs.Records.{entriesBetween}
+use Rattle.layout.specs.Entry.{entryAt}
+use Rattle.layout.specs.Records.{entriesBetween}
 use Rattle.table.specs.Check.{inRange}
 use Rattle.table.proofs.Fields.{placeOf-listed}
-use Rattle.table.proofs.Records.{entriesBetween-each}
+use Rattle.layout.proofs.Records.{entriesBetween-each}
 use Rattle.table.proofs.Flows.{Flows, section-good, flows-start, flows-pass, flows-mark, flows-stop, flows-end}
 use Rattle.table.proofs.check.flows_together.Statement.{statement}
 use Rattle.table.proofs.check.flows_together.Tie as tie

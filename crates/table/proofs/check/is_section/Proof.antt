@@ -7,8 +7,8 @@ use borrow.Author.Needs.{needs}
 use lib.ListN.{getD}
 use Rattle.laws.specs.Lists.{all?}
 use Rattle.laws.proofs.Tests.{clash, by-fail, same, not-e, not-false-e}
-use Rattle.table.specs.Entry.{countIn}
-use Rattle.table.specs.Records.{entriesBetween, sectionAt}
+use Rattle.layout.specs.Entry.{countIn}
+use Rattle.layout.specs.Records.{entriesBetween, sectionAt}
 use Rattle.table.specs.Check.{inRange, isSection}
 use Rattle.table.proofs.Fields.{entries-inRange}
 use Rattle.table.proofs.Parts.{Asked, roomOf-le, isSection-asked, asked-isSection}

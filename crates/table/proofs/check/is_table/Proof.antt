@@ -5,12 +5,13 @@ use borrow.Author.Needs.{needs}
 use Rattle.laws.specs.Lists.{all?}
 use Rattle.laws.proofs.Tests.{clash, by-fail, same, not-e, not-false-e}
 use Rattle.cell.specs.Limits.{portsInRange}
-use Rattle.table.specs.Records.{between}
-use Rattle.table.specs.Check.{isTable, isSection}
+use Rattle.layout.specs.Records.{between}
+use Rattle.table.specs.Check.{isSection}
 use Rattle.table.proofs.Fields.{known-bytes}
 use Rattle.table.proofs.Accepted.{Table, isTable-i, isTable-e, portsInRange-e}
 use Rattle.table.proofs.check.is_table.Statement.{statement}
 use Rattle.table.proofs.check.is_table.Tie as tie
+use Rattle.layout.specs.Table.{isTable}
 
 fails : (c : tie.Start) → (Table (c .args .bytes .now) → ⊥) → false ≡ isTable (c .args .bytes .now)
 fails c broken = sym (by-fail _ (λ t. broken (isTable-e (c .args .bytes .now) t)))

@@ -5,7 +5,7 @@ use borrow.Author.Tests.{eqb-true, eq-eqb}
 use borrow.Author.Needs.{needs}
 use lib.Dec.{eqb}
 use Rattle.laws.proofs.Tests.{same, by-fail}
-use Rattle.table.specs.Number.{numberAt}
+use Rattle.layout.specs.Number.{numberAt}
 use Rattle.table.specs.Check.{isUnused}
 use Rattle.table.proofs.Fields.{known-bytes, isUnused-i, isUnused-low, isUnused-high}
 use Rattle.table.proofs.check.is_unused.Statement.{statement}

@@ -7,8 +7,8 @@ use borrow.Author.Needs.{needs}
 use Rattle.laws.specs.Lists.{all?}
 use Rattle.laws.proofs.Tests.{not-e, not-false-e}
 use Rattle.model.specs.Sound.{otherSlot}
-use Rattle.table.specs.Entry.{entryAt}
-use Rattle.table.specs.Records.{between}
+use Rattle.layout.specs.Entry.{entryAt}
+use Rattle.layout.specs.Records.{between}
 use Rattle.table.specs.Check.{sharesSlot}
 use Rattle.table.proofs.Walks.{each-stop, each-next, each-end, otherSlot-same, otherSlot-other, sharesSlot-none}
 use Rattle.table.proofs.Walks.{sharesSlot-asked}

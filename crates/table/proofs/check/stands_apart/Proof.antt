@@ -5,7 +5,7 @@ use borrow.Author.Needs.{needs}
 use Rattle.laws.proofs.Tests.{not-e, not-false-e}
 use Rattle.cell.specs.Flow.{sameFlow}
 use Rattle.cell.specs.Order.{over}
-use Rattle.table.specs.Entry.{entryAt}
+use Rattle.layout.specs.Entry.{entryAt}
 use Rattle.table.proofs.Walks.{standsApart-alone, standsApart-other, standsApart-flow}
 use Rattle.table.proofs.check.stands_apart.Statement.{statement}
 use Rattle.table.proofs.check.stands_apart.Tie as tie

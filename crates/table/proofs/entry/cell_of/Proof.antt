@@ -1,7 +1,7 @@
 -- A cell, field by field.
 use mathlib.Core.Path.{sym}
 use borrow.Author.Needs.{needs}
-use Rattle.table.proofs.Records.{entryAt-input}
+use Rattle.layout.proofs.Records.{entryAt-input}
 use Rattle.table.proofs.entry.cell_of.Statement.{statement}
 use Rattle.table.proofs.entry.cell_of.Tie as tie
 

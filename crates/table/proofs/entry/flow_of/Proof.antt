@@ -3,7 +3,7 @@ use Prim.Native.Nat.{_+_}
 use mathlib.Core.Path.{sym, _∙_, ap}
 use borrow.Author.Needs.{needs}
 use lib.ListN.{getD}
-use Rattle.table.proofs.Records.{entryAt-flow}
+use Rattle.layout.proofs.Records.{entryAt-flow}
 use Rattle.table.proofs.entry.flow_of.Statement.{statement}
 use Rattle.table.proofs.entry.flow_of.Tie as tie
 

@@ -2,7 +2,7 @@
 use mathlib.Core.Path.{sym, _∙_, ap}
 use borrow.Author.Needs.{needs}
 use lib.ListN.{getD}
-use Rattle.table.proofs.Records.{entryAt-output}
+use Rattle.layout.proofs.Records.{entryAt-output}
 use Rattle.table.proofs.entry.output_of.Statement.{statement}
 use Rattle.table.proofs.entry.output_of.Tie as tie
 

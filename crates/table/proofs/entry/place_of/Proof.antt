@@ -3,9 +3,9 @@ use Prim.Native.Nat.{_+_}
 use mathlib.Core.Path.{_≡_, sym, _∙_, ap}
 use borrow.Author.Needs.{needs}
 use lib.ListN.{getD}
-use Rattle.table.specs.Table.{placeOf}
-use Rattle.table.specs.Records.{placeByteAt}
-use Rattle.table.proofs.Records.{placeByteAt-byte, entryAt-place}
+use Rattle.layout.specs.Table.{placeOf}
+use Rattle.layout.specs.Records.{placeByteAt}
+use Rattle.layout.proofs.Records.{placeByteAt-byte, entryAt-place}
 use Rattle.table.proofs.entry.place_of.Statement.{statement}
 use Rattle.table.proofs.entry.place_of.Tie as tie
 

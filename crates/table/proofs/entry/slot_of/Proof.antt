@@ -2,8 +2,8 @@
 use Prim.Native.Nat.{_+_}
 use mathlib.Core.Path.{sym, _∙_, ap}
 use borrow.Author.Needs.{needs}
-use Rattle.table.specs.Number.{word}
-use Rattle.table.proofs.Records.{entryAt-slot}
+use Rattle.layout.specs.Number.{word}
+use Rattle.layout.proofs.Records.{entryAt-slot}
 use Rattle.table.proofs.entry.slot_of.Statement.{statement}
 use Rattle.table.proofs.entry.slot_of.Tie as tie
 

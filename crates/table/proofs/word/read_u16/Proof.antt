@@ -4,7 +4,7 @@ use mathlib.Core.Path.{sym}
 use native.Mathlib.Omega.{arith}
 use borrow.Author.Needs.{needs}
 use lib.ListN.{getD}
-use Rattle.table.proofs.Halves.{read-halves, numberAt-byte}
+use Rattle.layout.proofs.Halves.{read-halves, numberAt-byte}
 use Rattle.table.proofs.word.read_u16.Statement.{statement}
 use Rattle.table.proofs.word.read_u16.Tie as tie
 

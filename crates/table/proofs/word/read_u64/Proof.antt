@@ -1,7 +1,7 @@
 -- Two numbers of 32 bits are the number of 64 bits.
 use borrow.Author.Needs.{needs}
-use Rattle.table.specs.Number.{word}
-use Rattle.table.proofs.Halves.{read-halves}
+use Rattle.layout.specs.Number.{word}
+use Rattle.layout.proofs.Halves.{read-halves}
 use Rattle.table.proofs.word.read_u64.Statement.{statement}
 use Rattle.table.proofs.word.read_u64.Tie as tie
 

@@ -3,7 +3,7 @@ use Prim.Native.Nat.{_+_, _/_, _%_}
 use native.Mathlib.Omega.{arith}
 use borrow.Author.Needs.{needs}
 use lib.ListN.{set, length-set}
-use Rattle.table.proofs.Halves.{put-halves, put-byte}
+use Rattle.layout.proofs.Halves.{put-halves, put-byte}
 use Rattle.table.proofs.word.write_u16.Statement.{statement}
 use Rattle.table.proofs.word.write_u16.Tie as tie
 

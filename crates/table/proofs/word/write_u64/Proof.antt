@@ -2,7 +2,7 @@
 use Prim.Native.Nat.{_/_, _%_}
 use native.Mathlib.Omega.{arith}
 use borrow.Author.Needs.{needs}
-use Rattle.table.proofs.Halves.{put-halves}
+use Rattle.layout.proofs.Halves.{put-halves}
 use Rattle.table.proofs.word.write_u64.Statement.{statement}
 use Rattle.table.proofs.word.write_u64.Tie as tie
 

@@ -1,0 +1,264 @@
+-- The checks of a slot's records, on the bytes.
+--     port-by-input, port-by-output    4 by the two fields
+--     turn-after                       6 by the lowest input whose turn it is
+--     outranks-same, outranks-other    7 of one entry
+--     rank-falls, rank-holds           7 by the section of the record's input
+--     full-section                     8 by the count of the record's input
+--     fault-none                       all five
+--     Looked                           the records looked at so far have no fault: looked-none, -next, -fault, -all
+use Prim.Native.Nat.{ℕ, zero, suc, _+_, _*_, _-_, _/_, _≤_, _<_}
+use mathlib.Core.Bool.{Bool, true, false, not, _&&_}
+use mathlib.Core.Path.{_≡_, refl, sym, _∙_, ap, ap₂, subst}
+use mathlib.Core.Logic.{_≢_}
+use mathlib.Core.List.{List, [], _∷_, flatten, List·Memᴰ, List·Memᴰ·head, List·Memᴰ·tail}
+use mathlib.Core.Option.{Option, none, some}
+use native.Mathlib.Numerals.{add-one}
+use native.Mathlib.Omega.{arith}
+use borrow.Author.Tests.{ltb-false, leb-true, leb-false, lt-ltb, le-ltb, le-leb, lt-leb, eq-eqb, ne-eqb}
+use lib.Dec.{ltb, leb, eqb}
+use lib.ListN.{length, getD, drop, drop-of-length-le}
+use lib.Seq.{drop-cons}
+use Rattle.laws.specs.Lists.{some?, none?}
+use Rattle.laws.proofs.Tests.{same, and-i, and-l, or-l, or-false-l}
+use Rattle.laws.proofs.Lists.{Passing, some?-e, some?-i, some?-false, some?-map, none?-i, all?-i}
+use Rattle.laws.proofs.Count.{count-all, count-map}
+use Rattle.cell.specs.declared.Cell.{Cell}
+use Rattle.cell.specs.declared.Refusal.{Refusal}
+use Rattle.cell.specs.Cell.{accepted}
+use Rattle.cell.specs.Flow.{sameFlow}
+use Rattle.cell.specs.Limits.{cellLimit, portLimit, inputFull}
+use Rattle.cell.proofs.Flow.{flow-input}
+use Rattle.model.specs.State.{Entry, cells}
+use Rattle.model.specs.Checks.{noSuchPort, noSuchFlow, outOfTurn, fallingRank, full, fault, faultFrom, firstFault}
+use Rattle.model.proofs.Admitted.{faultless}
+use Rattle.model.proofs.Bags.{flatten-mem, mem-flatten}
+use Rattle.model.proofs.CheckOrder.{faults-first, faults-next}
+use Rattle.model.proofs.Sections.{count-flatten-one}
+use Rattle.layout.specs.Entry.{entryAt, portsIn, countIn}
+use Rattle.layout.specs.Table.{stateOf, IsTable}
+use Rattle.arrival.specs.declared.Fault.{Fault}
+use Rattle.arrival.specs.declared.Fault.the-variants.{Clear, At}
+use Rattle.arrival.specs.Fault.{sectionIn, arrivalAt, coming, faultIn, faultOf, faultAt, turnAfter}
+use Rattle.arrival.specs.Fault.{outranks}
+use Rattle.arrival.proofs.Stored.{ports-below, section-sound, section-length, section-entry}
+use Rattle.arrival.proofs.Stored.{length-coming, coming-at}
+
+------------------------------------------------------------------------
+-- 4
+
+-- by the input, and else by the output
+pub port-by-input : (ports p : ℕ) (c : Cell) → p ≡ ports → p ≤ c .input → true ≡ noSuchPort ports c
+unfolding noSuchPort
+port-by-input ports p c e h =
+    sym (or-l (leb ports (c .input)) (leb ports (c .output)) (le-leb ports (c .input) (omega arith)))
+
+pub port-by-output : (ports p : ℕ) (c : Cell) → p ≡ ports → c .input < p → leb p (c .output) ≡ noSuchPort ports c
+unfolding noSuchPort
+port-by-output ports p c e h =
+    let inside : leb ports (c .input) ≡ false = lt-leb ports (c .input) (omega arith) in
+    rw (inside, e)
+
+pub port-input : (ports : ℕ) (c : Cell) → noSuchPort ports c ≡ false → c .input < ports
+unfolding noSuchPort
+port-input ports c h =
+    leb-false ports (c .input) (or-false-l (leb ports (c .input)) (leb ports (c .output)) h)
+
+------------------------------------------------------------------------
+-- 6
+
+pub turn-after : (before : Option Cell) (c : Cell) → ltb (c .input) (turnAfter before) ≡ outOfTurn before c
+unfolding turnAfter outOfTurn
+turn-after none c = le-ltb (c .input) 0 (omega arith)
+turn-after (some b) c = go (leb (c .input) (b .input)) refl
+  where
+    go : (x : Bool) → leb (c .input) (b .input) ≡ x → ltb (c .input) (b .input + 1) ≡ x
+    go true e = lt-ltb (c .input) (b .input + 1) (omega (arith, leb-true (c .input) (b .input) e))
+    go false e = le-ltb (c .input) (b .input + 1) (omega (arith, leb-false (c .input) (b .input) e))
+
+------------------------------------------------------------------------
+-- 7 and 8 look at one section
+
+pub getD-mem : {A : Type 0} (l : List A) (j : ℕ) (d : A) → j < length l → List·Memᴰ (getD l j d) l
+getD-mem [] j d h = absurd (omega arith)
+getD-mem (x ∷ l) zero d h = List·Memᴰ·head refl
+getD-mem (x ∷ l) (suc j) d h = List·Memᴰ·tail (getD-mem l j d (omega arith))
+
+module _ {A : Type 0} (p : A → Bool) where
+  some?-at : (l : List A) (j : ℕ) (d : A) → j < length l → p (getD l j d) ≡ true → some? p l ≡ true
+  some?-at l j d h e = some?-i p (getD-mem l j d h) e
+
+  pub none?-at : (l : List A) (d : A) → ((j : ℕ) → j < length l → p (getD l j d) ≡ false) → none? p l ≡ true
+  unfolding none?
+  none?-at [] d h = refl
+  none?-at (x ∷ l) d h =
+      and-i (not (p x)) (none? p l) (ap not (h 0 (omega arith))) (none?-at l d (λ j b. h (suc j) (omega arith)))
+
+  -- where a member that passes can only be in the list at k
+  some?-flatten-one : (ls : List (List A)) (k : ℕ) → ((j : ℕ) (x : A) → List·Memᴰ x (getD ls j []) → p x ≡ true → j ≡ k)
+      → some? p (flatten ls) ≡ some? p (getD ls k [])
+  some?-flatten-one ls k own =
+      same (some? p (flatten ls)) (some? p (getD ls k []))
+      (λ s. let w : Passing p (flatten ls) = some?-e p (flatten ls) s in
+      let v = mem-flatten ls (w .1) in
+      some?-i p (subst (λ j. List·Memᴰ (w .0) (getD ls j [])) (own (v .0) (w .0) (v .2) (w .2)) (v .2)) (w .2))
+      (λ s. let w : Passing p (getD ls k []) = some?-e p (getD ls k []) s in
+      some?-i p (flatten-mem ls k (w .1)) (w .2))
+
+-- by the flow, and then by the rank
+pub outranks-same : (c d e : Cell) → d ≡ e → sameFlow d c ≡ true → ltb (c .rank) (d .rank) ≡ outranks c e
+unfolding outranks
+outranks-same c d e q h = ap (λ b. b && ltb (c .rank) (d .rank)) (sym h) ∙ ap (outranks c) q
+
+pub outranks-other : (c d e : Cell) → d ≡ e → sameFlow d c ≡ false → false ≡ outranks c e
+unfolding outranks
+outranks-other c d e q h = ap (λ b. b && ltb (c .rank) (d .rank)) (sym h) ∙ ap (outranks c) q
+
+module _ (bs : List ℕ) (t : IsTable bs) (c : Cell) where
+  -- the cells of a flow have one input, and a cell stands in the section of its input
+  own-input : (j : ℕ) (e : Entry) → List·Memᴰ e (sectionIn bs j) → e .cell .input ≡ j
+  own-input j e m = section-sound bs t j .entries e m .input
+
+  fallingRank-section : fallingRank (cells (stateOf bs)) c ≡ some? (λ e. outranks c (e .cell)) (sectionIn bs (c .input))
+  unfolding fallingRank cells outranks
+  fallingRank-section =
+      some?-map (outranks c) (λ e. e .cell) (flatten (stateOf bs .sections))
+      ∙ some?-flatten-one (λ e. outranks c (e .cell)) (stateOf bs .sections) (c .input)
+      (λ j e m h. sym (own-input j e m) ∙ flow-input (e .cell) c (and-l (sameFlow (e .cell) c) _ h))
+
+  module _ (within : c .input < portsIn bs) where
+    -- entry k of the section
+    entry-of : (k : ℕ) → cellLimit * c .input ≤ k → k < cellLimit * c .input + countIn bs (c .input)
+        → (d : Entry) → getD (sectionIn bs (c .input)) (k - cellLimit * c .input) d ≡ entryAt bs k
+    entry-of k a b d =
+        let back : 64 * c .input + (k - 64 * c .input) ≡ k = omega arith in
+        section-entry bs t (c .input) within (k - cellLimit * c .input) d (omega arith) ∙ ap (entryAt bs) back
+
+    -- 7: some entry of the section is of the flow and has a higher rank, or none is
+    pub rank-falls : (k : ℕ) → cellLimit * c .input ≤ k → k < cellLimit * c .input + countIn bs (c .input)
+        → outranks c (entryAt bs k .cell) ≡ true → fallingRank (cells (stateOf bs)) c ≡ true
+    rank-falls k a b h =
+        fallingRank-section
+        ∙ some?-at (λ e. outranks c (e .cell)) (sectionIn bs (c .input)) (k - cellLimit * c .input) (entryAt bs k)
+        (omega (arith, section-length bs t (c .input) within))
+        (ap (λ e. outranks c (e .cell)) (entry-of k a b (entryAt bs k)) ∙ h)
+
+    pub rank-holds : ((k : ℕ) → cellLimit * c .input ≤ k → k < cellLimit * c .input + countIn bs (c .input)
+        → outranks c (entryAt bs k .cell) ≡ false) → fallingRank (cells (stateOf bs)) c ≡ false
+    rank-holds h =
+        fallingRank-section
+        ∙ some?-false (λ e. outranks c (e .cell)) (sectionIn bs (c .input))
+        (none?-at (λ e. outranks c (e .cell)) (sectionIn bs (c .input)) (entryAt bs 0)
+        (λ j b.
+        let few : j < countIn bs (c .input) = omega (arith, section-length bs t (c .input) within) in
+        ap (λ e. outranks c (e .cell)) (section-entry bs t (c .input) within j (entryAt bs 0) few)
+        ∙ h (cellLimit * c .input + j) (omega arith) (omega arith)))
+
+    -- 8: the cells of an input are the entries of its section
+    pub full-count : full (cells (stateOf bs)) c ≡ inputFull (countIn bs (c .input))
+    unfolding full cells
+    full-count =
+        ap inputFull
+        (count-map (λ d. eqb (d .input) (c .input)) (λ e. e .cell) (flatten (stateOf bs .sections))
+        ∙ count-flatten-one own (stateOf bs .sections) (c .input) others
+        ∙ count-all own (sectionIn bs (c .input)) (all?-i own (sectionIn bs (c .input)) mine)
+        ∙ section-length bs t (c .input) within)
+      where
+        own : Entry → Bool
+        own e = eqb (e .cell .input) (c .input)
+
+        mine : (e : Entry) → List·Memᴰ e (sectionIn bs (c .input)) → own e ≡ true
+        mine e m = eq-eqb _ _ (own-input (c .input) e m)
+
+        others : (j : ℕ) → j ≢ c .input → none? own (sectionIn bs j) ≡ true
+        others j h =
+            none?-i own (sectionIn bs j) (λ e m.
+            ne-eqb (e .cell .input) (c .input) (λ q. h (sym (own-input j e m) ∙ q)))
+
+------------------------------------------------------------------------
+-- all five
+
+pub fault-none : (ports : ℕ) (waiting : List Cell) (before : Option Cell) (c : Cell) → noSuchPort ports c ≡ false
+    → noSuchFlow c ≡ false → outOfTurn before c ≡ false → fallingRank waiting c ≡ false → full waiting c ≡ false
+    → fault ports waiting before c ≡ none
+unfolding fault
+fault-none ports waiting before c p f t r u = rw (p, f, t, r, u)
+
+------------------------------------------------------------------------
+-- record by record
+
+-- the first n records have no fault, and it is the turn of the inputs from `turn` on
+pub record Looked (table arrivals : List ℕ) (turn n : ℕ) : Type 0 where
+  pub few : n ≤ turn
+  pub low : turn ≤ portLimit
+  pub before : Option Cell
+  pub after : turnAfter before ≡ turn
+  pub rest : faultIn table arrivals
+      ≡ faultFrom (portsIn table) (cells (stateOf table)) (n + 1) before (drop n (coming table arrivals))
+
+pub looked-none : (table arrivals : List ℕ) → Looked table arrivals 0 0
+unfolding turnAfter faultIn firstFault stateOf portsIn
+looked-none table arrivals =
+    record { few = omega arith; low = omega arith; before = none; after = refl; rest = refl }
+
+clear-not : {r : Refusal} {place : ℕ} → Clear ≡ At r place → ⊥
+clear-not q = let z : _≡_ {A = ℕ} 0 1 = cc in omega arith
+
+module _ (table arrivals : List ℕ) (t : IsTable table) (turn n : ℕ) (l : Looked table arrivals turn n) where
+  -- there are no more
+  pub looked-all : length arrivals / 20 ≤ n → Clear ≡ faultOf (faultIn table arrivals)
+  unfolding faultOf faultFrom
+  looked-all h =
+      let past : length (coming table arrivals) ≤ n = omega (arith, length-coming table arrivals) in
+      let end : drop n (coming table arrivals) ≡ [] = drop-of-length-le (coming table arrivals) past in
+      sym (ap faultOf (l .rest ∙ ap (faultFrom (portsIn table) (cells (stateOf table)) (n + 1) (l .before)) end))
+
+  -- the next record
+  module _ (more : n < length arrivals / 20) (c : Cell)
+      (here : c ≡ accepted (stateOf table .clock) (arrivalAt arrivals n)) (found : Fault)
+      (looked : (before : Option Cell) → turnAfter before ≡ turn
+      → found ≡ faultAt (n + 1) (fault (portsIn table) (cells (stateOf table)) before c)) where
+    next : drop n (coming table arrivals) ≡ c ∷ drop (n + 1) (coming table arrivals)
+    next =
+        let inside : n < length (coming table arrivals) = omega (arith, length-coming table arrivals) in
+        drop-cons (coming table arrivals) n c inside
+        ∙ ap₂ (λ x k. x ∷ drop k (coming table arrivals))
+        (coming-at table arrivals n c more ∙ sym here) (sym (add-one n))
+
+    from : Option Cell → Option Refusal
+    from before = fault (portsIn table) (cells (stateOf table)) before c
+
+    rest-at : faultIn table arrivals
+        ≡ faultFrom (portsIn table) (cells (stateOf table)) (n + 1) (l .before)
+        (c ∷ drop (n + 1) (coming table arrivals))
+    rest-at = l .rest ∙ ap (faultFrom (portsIn table) (cells (stateOf table)) (n + 1) (l .before)) next
+
+    -- it has a fault
+    pub looked-fault : {r : Refusal} {place : ℕ} → found ≡ At r place → found ≡ faultOf (faultIn table arrivals)
+    unfolding faultOf faultAt from
+    looked-fault bad = go (from (l .before)) refl
+      where
+        go : (o : Option Refusal) → from (l .before) ≡ o → found ≡ faultOf (faultIn table arrivals)
+        go none e = absurd (clear-not (sym (looked (l .before) (l .after) ∙ ap (faultAt (n + 1)) e) ∙ bad))
+        go (some r) e =
+            looked (l .before) (l .after)
+            ∙ ap (faultAt (n + 1)) e
+            ∙ sym (ap faultOf (rest-at ∙ faults-first _ _ (n + 1) (l .before) c _ e))
+
+    -- it has none
+    pub looked-next : found ≡ Clear → Looked table arrivals (c .input + 1) (n + 1)
+    unfolding faultAt from turnAfter
+    looked-next clear = go (from (l .before)) refl
+      where
+        go : (o : Option Refusal) → from (l .before) ≡ o → Looked table arrivals (c .input + 1) (n + 1)
+        go none e =
+            let w = faultless (portsIn table) (cells (stateOf table)) (l .before) c e in
+            let turned : turn ≤ c .input =
+            ltb-false (c .input) turn (ap (ltb (c .input)) (sym (l .after)) ∙ turn-after (l .before) c ∙ w .turn) in
+            record {
+              few = omega (arith, l .few);
+              low = omega (arith, port-input (portsIn table) c (w .port), ports-below table t);
+              before = some c;
+              after = refl;
+              rest = rest-at ∙ faults-next _ _ (n + 1) (l .before) c _ e;
+            }
+        go (some r) e = absurd (clear-not (sym clear ∙ looked (l .before) (l .after) ∙ ap (faultAt (n + 1)) e))

@@ -1,0 +1,106 @@
+-- The records that have come so far are in the table, whose clock is raised first.
+use Prim.Native.Nat.{_-_, _≤_}
+use mathlib.Core.Path.{_≡_, refl, _∙_}
+use native.Mathlib.Omega.{arith}
+use lib.ListN.{length}
+use Rattle.layout.proofs.Number.{bytes?-i}
+use Rattle.layout.specs.Entry.{clockIn}
+use Rattle.arrival.proofs.Stored.{table-length}
+use Rattle.arrival.proofs.OneByOne.{Slot, Came, slot-begins, slot-enters, slot-next, slot-ends}
+use Rattle.arrival.proofs.arrive.Statement.{statement}
+use Rattle.arrival.proofs.arrive.Tie as tie
+
+abbrev Inv-loop : tie.InvT-loop
+Inv-loop table₀ arrivals clock count n₀ table n =
+    (n ≤ count) × (length table ≡ length table₀) × Came table₀ arrivals clock n table
+
+abbrev μ-loop : tie.MeasureT-loop
+μ-loop table₀ arrivals clock count n₀ table n = count - n
+
+read-u32-requires : tie.Need-read-u32-requires Inv-loop μ-loop
+read-u32-requires c κs = omega (arith, table-length _ (c .before .before .before .pre .0))
+
+add-write-u32 : tie.Need-add-write-u32 Inv-loop μ-loop
+unfolding clockIn
+add-write-u32 c = omega (arith, c .before .read-u32 .ensures, c .before .before .before .before .before .pre .1 .1)
+
+write-u32-requires : tie.Need-write-u32-requires Inv-loop μ-loop
+write-u32-requires c κs = omega (arith, table-length _ (c .before .before .before .before .before .pre .0))
+
+-- the slot, where the loop begins
+abbrev Begun : tie.After-slice-known2 Inv-loop μ-loop → Type 0
+Begun c =
+    let written = c .before .before in
+    let read = written .before .before in
+    let start = read .before .before .before .before in
+    Slot (start .args .table .now) (start .args .arrivals .now) (read .read-u32 .result) (written .write-u32 .last .0)
+
+slot : (c : tie.After-slice-known2 Inv-loop μ-loop) → Begun c
+slot c =
+    let written = c .before .before in
+    let read = written .before .before in
+    let start = read .before .before .before .before in
+    record {
+      isTable = start .pre .0;
+      clear = start .pre .1 .0;
+      early = start .pre .1 .1;
+      bytes = bytes?-i _ (λ i. read .before .before .shared-slice-known .given i .fits);
+      clock-read = read .read-u32 .ensures;
+      clock-raised = written .write-u32 .ensures;
+    }
+
+loop-holds : tie.Need-loop-holds Inv-loop μ-loop
+loop-holds c = (omega arith, refl, slot-begins _ _ _ _ (slot c))
+
+record-at-requires : tie.Need-record-at-requires Inv-loop μ-loop
+record-at-requires c κs = omega arith
+
+enter-requires : tie.Need-enter-requires Inv-loop μ-loop
+enter-requires c κs =
+    let at = c .before .before .before in
+    slot-enters _ _ _ _ (slot (at .before)) (at .loop .n) _ (at .loop .inv .2) (omega arith) _
+    (c .before .record-at .ensures)
+
+add-n : tie.Need-add-n Inv-loop μ-loop
+add-n c = omega arith
+
+loop-less : tie.Need-loop-less Inv-loop μ-loop
+loop-less c = omega arith
+
+loop-again : tie.Need-loop-again Inv-loop μ-loop
+loop-again c =
+    let new = c .before .before in
+    let read = new .before .before in
+    let at = read .before .before in (
+      omega arith,
+      omega (arith, new .enter .kept .0),
+      slot-next _ _ _ _ (slot (at .before)) (at .loop .n) _ (at .loop .inv .2) (omega arith) _ (read .record-at .ensures)
+          (new .enter .last .0) (new .enter .ensures),
+    )
+
+same-length : tie.Need-same-length Inv-loop μ-loop
+same-length c =
+    c .before .loop .inv .1 ∙ c .before .before .before .before .write-u32 .kept .0
+
+returns : tie.Need-returns Inv-loop μ-loop
+returns c =
+    let at = c .before .loop in
+    slot-ends _ _ _ _ (slot (c .before .before)) (at .n) _ (at .inv .2) (c .loop-test .left)
+
+pub arrive-spec : {M : Type 1} → statement M
+arrive-spec =
+    tie.close
+    (tie.spec
+    Inv-loop
+    μ-loop
+    read-u32-requires
+    add-write-u32
+    write-u32-requires
+    loop-holds
+    record-at-requires
+    enter-requires
+    add-n
+    loop-less
+    loop-again
+    same-length
+    returns)

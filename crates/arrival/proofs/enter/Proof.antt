@@ -1,0 +1,102 @@
+-- The entries behind its place move up, the new entry is written, and the count is raised.
+use mathlib.Core.Path.{_∙_}
+use native.Mathlib.Omega.{arith}
+use borrow.Author.Needs.{needs}
+use lib.ListN.{length-set}
+use Rattle.arrival.proofs.Stored.{table-length, ports-below}
+use Rattle.arrival.proofs.Arriving.{place-within, entered-bytes}
+use Rattle.arrival.proofs.enter.Statement.{statement}
+use Rattle.arrival.proofs.enter.Tie as tie
+
+cast-input : tie.Need-cast-input
+cast-input c = search needs
+
+count-of-requires : tie.Need-count-of-requires
+count-of-requires c κs =
+    let start = c .before .before .before in
+    (table-length _ (start .pre .0), omega (arith, start .pre .1 .0 .0, ports-below _ (start .pre .0)))
+
+new-place-requires : tie.Need-new-place-requires
+new-place-requires c κs = search needs
+
+mul-move-up : tie.Need-mul-move-up
+mul-move-up c = search needs
+
+add-move-up : tie.Need-add-move-up
+add-move-up c = search needs
+
+move-up-requires : tie.Need-move-up-requires
+move-up-requires c κs =
+    let at = c .before in
+    let count = at .before .before in
+    let start = count .before .before .before .before in
+    let input = start .pre .1 .0 in
+    let below = place-within _ (start .pre .0) (start .args .c) (input .0) (input .1) in
+    let ports = ports-below _ (start .pre .0) in (
+      table-length _ (start .pre .0),
+      omega (arith, count .count-of .ensures, at .new-place .ensures),
+      omega (arith, count .count-of .ensures),
+    )
+
+put-entry-requires : tie.Need-put-entry-requires
+put-entry-requires c κs =
+    let moved = c .before .before .before in
+    let at = moved .before .before in
+    let start = at .before .before .before .before .before .before in
+    let input = start .pre .1 .0 in
+    let below = place-within _ (start .pre .0) (start .args .c) (input .0) (input .1) in
+    let ports = ports-below _ (start .pre .0) in
+    ((moved .move-up .kept .0 ∙ table-length _ (start .pre .0), omega (arith, at .new-place .ensures)), start .pre .1 .1)
+
+add-table : tie.Need-add-table
+add-table c = search needs
+
+cast-table : tie.Need-cast-table
+cast-table c = search needs
+
+add-table-2 : tie.Need-add-table-2
+add-table-2 c = search needs
+
+slice-write-table : tie.Need-slice-write-table
+slice-write-table c =
+    let new = c .before .before in
+    let moved = new .before .before .before .before in
+    let start = moved .before .before .before .before .before .before .before .before in
+    let size = table-length _ (start .pre .0) in
+    let ports = ports-below _ (start .pre .0) in
+    omega (arith, new .put-entry .kept .0, moved .move-up .kept .0, start .pre .1 .0 .0)
+
+same-length : tie.Need-same-length
+same-length c =
+    let new = c .before .before in
+    let moved = new .before .before .before .before in
+    simp length-set (new .put-entry .kept .0 ∙ moved .move-up .kept .0)
+
+returns : tie.Need-returns
+returns c =
+    let new = c .before .before in
+    let moved = new .before .before .before .before in
+    let at = moved .before .before in
+    let count = at .before .before in
+    let start = count .before .before .before .before in
+    entered-bytes _ (start .pre .0) _ (start .pre .1 .0 .0) (start .pre .1 .0 .1) (at .new-place .result)
+    (count .count-of .result) (moved .move-up .last .0) (new .put-entry .last .0) (at .new-place .ensures)
+    (count .count-of .ensures) (moved .move-up .ensures) (new .put-entry .ensures)
+
+pub enter-spec : {M : Type 1} → statement M
+enter-spec =
+    tie.close
+    (tie.spec
+    cast-input
+    count-of-requires
+    new-place-requires
+    mul-move-up
+    add-move-up
+    move-up-requires
+    put-entry-requires
+    add-table
+    cast-table
+    add-table-2
+    slice-write-table
+    same-length
+    returns)

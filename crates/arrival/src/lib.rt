@@ -1,0 +1,265 @@
+// Document 01, "What is turned back", 4 to 8, and "One slot", arrival: the records of a slot are looked at one by one,
+// and the cells that they become enter the lists of their inputs, on the bytes of the table in place.
+ghost use mathlib.Core.Path.{_≡_};
+ghost use mathlib.Core.Option.{Option, none};
+ghost use Prim.Native.Nat.{_+_, _*_, _≤_, _<_};
+ghost use lib.ListN.{length};
+ghost use Rattle.cell.specs.declared.Cell.{Cell};
+ghost use Rattle.cell.specs.Cell.{accepted};
+ghost use Rattle.model.specs.State.{cells};
+ghost use Rattle.model.specs.Checks.{noSuchPort, noSuchFlow, outOfTurn, fallingRank, full, fault};
+ghost use Rattle.model.specs.Crossbar.{inListOf, newEntry};
+ghost use Rattle.layout.specs.Entry.{entryAt, portsIn, clockIn, countIn};
+ghost use Rattle.layout.specs.Records.{recordStart, recordAt};
+ghost use Rattle.layout.specs.Table.{tableSize, entrySize, stateOf, encode, entryBytes, IsTable};
+ghost use Rattle.arrival.specs.Arrival.{entered, arrived, enterPlace, put, movedUp};
+ghost use Rattle.arrival.specs.Fault.{sectionIn, arrivalAt, faultIn, faultOf, faultAt};
+ghost use Rattle.arrival.specs.Fault.{turnAfter, outranks};
+use cell::Cell;
+use cell::Refusal;
+use cell::Switch;
+
+// What the checks of a slot's records find: nothing, or the first fault and its record's place, from 1.
+pub enum Fault {
+    Clear,
+    At(Refusal, u32),
+}
+
+// Looks at the records one by one, up to the first fault.
+pub fn first_fault(table: &[u8], arrivals: &[u8]) -> Fault
+    requires { ⌜ IsTable (now table) ⌝ }
+    ensures { λ r. ⌜ r ≡ faultOf (faultIn (now (table .entry)) (now (arrivals .entry))) ⌝ }
+{
+    let clock = table::word::read_u32(table, 8);
+    let count = arrivals.len() / 20;
+    let mut turn = 0;
+    let mut n = 0;
+    while n < count {
+        let c = record_at(arrivals, n, clock);
+        n += 1;
+        let found = check_record(table, turn, n as u32, c);
+        let Fault::Clear = found else {
+            return found;
+        };
+        turn = c.input + 1;
+    }
+    Fault::Clear
+}
+
+// Lets the cells of the records enter the lists of their inputs. The clock is raised first, so that the table is sound
+// whenever a cell has entered.
+pub fn arrive(table: &mut [u8], arrivals: &[u8])
+    requires { ⌜ IsTable (now table) ⌝ }
+    requires { ⌜ faultIn (now table) (now arrivals) ≡ none ⌝ }
+    requires { ⌜ clockIn (now table) < 4294967295 ⌝ }
+    ensures { λ _. ⌜ now (table .exit) ≡ encode (arrived (now (table .entry)) (now (arrivals .entry))) ⌝ }
+{
+    let clock = table::word::read_u32(table, 8);
+    table::word::write_u32(table, 8, clock + 1);
+    let count = arrivals.len() / 20;
+    let mut n = 0;
+    while n < count {
+        let c = record_at(arrivals, n, clock);
+        enter(table, c);
+        n += 1;
+    }
+}
+
+// The checks of one record, in their order. `turn` is the lowest input whose turn it is.
+fn check_record(table: &[u8], turn: u32, place: u32, c: Cell) -> Fault
+    requires { ⌜ IsTable (now table) ⌝ }
+    ensures { λ r. ⌜ ((before : Option Cell) → turnAfter before ≡ turn → r ≡ faultAt place (fault (portsIn (now (table .entry))) (cells (stateOf (now (table .entry)))) before c)) ⌝ }
+{
+    if no_such_port(table, c) {
+        return Fault::At(Refusal::NoSuchPort, place);
+    }
+    if no_such_flow(c) {
+        return Fault::At(Refusal::NoSuchFlow, place);
+    }
+    if out_of_turn(turn, c) {
+        return Fault::At(Refusal::InputOrder, place);
+    }
+    if falling_rank(table, c) {
+        return Fault::At(Refusal::RankOrder, place);
+    }
+    if input_full(table, c) {
+        return Fault::At(Refusal::Full, place);
+    }
+    Fault::Clear
+}
+
+// 4: an input or output is N or more.
+fn no_such_port(table: &[u8], c: Cell) -> bool
+    requires { ⌜ IsTable (now table) ⌝ }
+    ensures { λ r. ⌜ r ≡ noSuchPort (portsIn (now (table .entry))) c ⌝ }
+{
+    let ports = table::word::read_u32(table, 4);
+    if ports <= c.input {
+        return true;
+    }
+    ports <= c.output
+}
+
+// 5: a flow is above 7.
+fn no_such_flow(c: Cell) -> bool
+    ensures { λ r. ⌜ r ≡ noSuchFlow c ⌝ }
+{
+    !Switch::flow_in_range(c.flow)
+}
+
+// 6: an input is not above that of the record before it.
+fn out_of_turn(turn: u32, c: Cell) -> bool
+    ensures { λ r. ⌜ ((before : Option Cell) → turnAfter before ≡ turn → r ≡ outOfTurn before c) ⌝ }
+{
+    c.input < turn
+}
+
+// 7: a cell of the same flow is in the switch with a higher rank. Its input is the record's.
+fn falling_rank(table: &[u8], c: Cell) -> bool
+    requires { ⌜ IsTable (now table) ⌝ }
+    requires { ⌜ c .input < portsIn (now table) ⌝ }
+    ensures { λ r. ⌜ r ≡ fallingRank (cells (stateOf (now (table .entry)))) c ⌝ }
+{
+    let input = c.input as usize;
+    let end = 64 * input + count_of(table, input);
+    let mut k = 64 * input;
+    while k < end {
+        if outranked(table, k, c) {
+            return true;
+        }
+        k += 1;
+    }
+    false
+}
+
+// Whether an entry is of the record's flow and has a higher rank.
+fn outranked(table: &[u8], k: usize, c: Cell) -> bool
+    requires { ⌜ (length (now table) ≡ tableSize) × (k < 1024) ⌝ }
+    ensures { λ r. ⌜ r ≡ outranks c (entryAt (now (table .entry)) k .cell) ⌝ }
+{
+    let d = table::entry::cell_of(table, k);
+    if cell::same_flow(d, c) {
+        return c.rank < d.rank;
+    }
+    false
+}
+
+// 8: 64 cells from this input are in the switch. They are the entries of its section.
+fn input_full(table: &[u8], c: Cell) -> bool
+    requires { ⌜ IsTable (now table) ⌝ }
+    requires { ⌜ c .input < portsIn (now table) ⌝ }
+    ensures { λ r. ⌜ r ≡ full (cells (stateOf (now (table .entry)))) c ⌝ }
+{
+    Switch::input_full(count_of(table, c.input as usize) as u32)
+}
+
+// Lets a cell enter the list of its input, which has room for it.
+fn enter(table: &mut [u8], c: Cell)
+    requires { ⌜ IsTable (now table) ⌝ }
+    requires { ⌜ (c .input < portsIn (now table)) × (countIn (now table) (c .input) < 64) ⌝ }
+    requires { ⌜ (c .output < 256) × (c .flow < 256) ⌝ }
+    ensures { λ _. ⌜ now (table .exit) ≡ encode (entered c (stateOf (now (table .entry)))) ⌝ }
+{
+    let input = c.input as usize;
+    let count = count_of(table, input);
+    let at = new_place(table, c);
+    move_up(table, at, 64 * input + count);
+    put_entry(table, at, c);
+    table[16 + input] = (count + 1) as u8;
+}
+
+// The number that a new cell gets: it stands right after the last cell of its flow in the list, or in front if the
+// list has none of its flow.
+fn new_place(table: &[u8], c: Cell) -> usize
+    requires { ⌜ IsTable (now table) ⌝ }
+    requires { ⌜ c .input < portsIn (now table) ⌝ }
+    ensures { λ r. ⌜ r ≡ 64 * c .input + enterPlace c (sectionIn (now (table .entry)) (c .input)) ⌝ }
+{
+    let input = c.input as usize;
+    let first = 64 * input;
+    let end = first + count_of(table, input);
+    let mut k = end;
+    while first < k {
+        if in_list(table, k - 1, c) {
+            return k;
+        }
+        k -= 1;
+    }
+    first
+}
+
+// Whether an entry is in the list and of the cell's flow.
+fn in_list(table: &[u8], k: usize, c: Cell) -> bool
+    requires { ⌜ (length (now table) ≡ tableSize) × (k < 1024) ⌝ }
+    ensures { λ r. ⌜ r ≡ inListOf c (entryAt (now (table .entry)) k) ⌝ }
+{
+    if table::entry::place_of(table, k) != 1 {
+        return false;
+    }
+    cell::same_flow(table::entry::cell_of(table, k), c)
+}
+
+// Moves the entries from `at` up to `end` one place up.
+fn move_up(table: &mut [u8], at: usize, end: usize)
+    requires { ⌜ (length (now table) ≡ tableSize) × (at ≤ end) × (end < 1024) ⌝ }
+    ensures { λ _. ⌜ now (table .exit) ≡ movedUp (recordStart at) (recordStart end) entrySize (now (table .entry)) ⌝ }
+{
+    let mut k = end;
+    while at < k {
+        k -= 1;
+        copy_up(table, k);
+    }
+}
+
+// Copies an entry one place up.
+fn copy_up(table: &mut [u8], k: usize)
+    requires { ⌜ (length (now table) ≡ tableSize) × (k < 1023) ⌝ }
+    ensures { λ _. ⌜ now (table .exit) ≡ put (recordStart (k + 1)) (recordAt (now (table .entry)) k) (now (table .entry)) ⌝ }
+{
+    let from = table::entry::start_of(k);
+    let to = table::entry::start_of(k + 1);
+    let low = table::word::read_u64(table, from);
+    let high = table::word::read_u64(table, from + 8);
+    table::word::write_u64(table, to, low);
+    table::word::write_u64(table, to + 8, high);
+}
+
+// Writes the entry of a new cell.
+fn put_entry(table: &mut [u8], k: usize, c: Cell)
+    requires { ⌜ (length (now table) ≡ tableSize) × (k < 1024) ⌝ }
+    requires { ⌜ (c .output < 256) × (c .flow < 256) ⌝ }
+    ensures { λ _. ⌜ now (table .exit) ≡ put (recordStart k) (entryBytes (newEntry c)) (now (table .entry)) ⌝ }
+{
+    let at = table::entry::start_of(k);
+    table[at] = c.output as u8;
+    table[at + 1] = c.flow as u8;
+    table[at + 2] = 1;
+    table[at + 3] = 0;
+    table::word::write_u32(table, at + 4, c.rank);
+    table::word::write_u32(table, at + 8, c.tag);
+    table::word::write_u32(table, at + 12, c.slot);
+}
+
+// The cell that a record would become.
+fn record_at(arrivals: &[u8], k: usize, clock: u32) -> Cell
+    requires { ⌜ 20 * k + 20 ≤ length (now arrivals) ⌝ }
+    ensures { λ r. ⌜ r ≡ accepted clock (arrivalAt (now (arrivals .entry)) k) ⌝ }
+{
+    let at = 20 * k;
+    Cell {
+        input: table::word::read_u32(arrivals, at),
+        output: table::word::read_u32(arrivals, at + 4),
+        flow: table::word::read_u32(arrivals, at + 8),
+        rank: table::word::read_u32(arrivals, at + 12),
+        tag: table::word::read_u32(arrivals, at + 16),
+        slot: clock,
+    }
+}
+
+// How many entries an input has.
+fn count_of(table: &[u8], input: usize) -> usize
+    requires { ⌜ (length (now table) ≡ tableSize) × (input < 16) ⌝ }
+    ensures { λ r. ⌜ r ≡ countIn (now (table .entry)) input ⌝ }
+{
+    table[16 + input] as usize
+}

@@ -1,0 +1,5 @@
+pub mod Departing
+pub mod Leaving
+pub mod Put
+pub mod Sending
+pub mod Staying

@@ -1,0 +1,373 @@
+-- The departures that go into the answer.
+--     leaves-i, leaves-e, among-leaving   the cells that leave are the outputs' choices
+--     departureAt-, departure-            what an output sends, and its bytes
+--     departuresBytes-                    the bytes of an output's departure among all
+--     sent-                               the answer with one departure more
+--     departures-chosen                   all of them are the definition's
+use Prim.Native.Nat.{ℕ, zero, suc, _+_, _*_, _-_, _≤_, _<_}
+use native.Mathlib.Nat.{zero-add, suc-add}
+use native.Mathlib.Omega.{arith}
+use mathlib.Core.Bool.{Bool, true}
+use mathlib.Core.Path.{_≡_, refl, sym, _∙_, ap, ap₂, subst}
+use mathlib.Core.Logic.{_⊎_, inl, inr}
+use mathlib.Core.List.{List, [], _∷_, _++_, map, List·Memᴰ, List·Memᴰ·head, List·Memᴰ·not-nil, Memᴰ·cast}
+use mathlib.Core.Option.{Option, none, some, Option·map}
+use borrow.Author.Tests.{eqb-true, eq-eqb, le-leb, lt-leb}
+use lib.Dec.{eqb}
+use lib.ListN.{length, getD, take, drop, List·getD-eq-default}
+use lib.Seq.{take-add, take-at, take-all, drop-at, drop-drop, getD-drop, length-take-le}
+use Rattle.laws.specs.Lists.{keep, first?, upTo}
+use Rattle.laws.proofs.Tests.{clash, by-fail, same}
+use Rattle.laws.proofs.Lists.{none?-i, keep-mem, mem-keep-in, mem-keep-passes}
+use Rattle.laws.proofs.Least.{least-mem}
+use Rattle.cell.specs.declared.Cell.{Cell}
+use Rattle.cell.specs.Order.{over}
+use Rattle.cell.proofs.Order.{Compared, below, equal, above, compare, over-trans, over-irrefl}
+use Rattle.model.specs.State.{isBuffered}
+use Rattle.model.specs.Phase.{Waiting, beats, among}
+use Rattle.model.specs.Crossbar.{leaving, departuresOf}
+use Rattle.model.proofs.WaitingOrder.{beats-i, beats-output, beats-over, among-i, among-e}
+use Rattle.model.proofs.SlackDeparture.{leaving-in, leaving-buffered, leaving-first}
+use Rattle.layout.specs.Number.{bytesOf}
+use Rattle.layout.specs.Answer.{departureSize, departureBytes, departuresBytes}
+use Rattle.layout.specs.Host.{filled}
+use Rattle.layout.specs.Entry.{entryAt, portsIn}
+use Rattle.layout.proofs.Answer.{length-departureBytes, length-departuresBytes}
+use Rattle.places.specs.View.{waitingAt, inTable, InTable}
+use Rattle.places.specs.Choices.{nowhere}
+use Rattle.departure.specs.Departing.{Ready, Buffered, Best, BestBelow, empty, best, Chosen, departureAt, sevenBytes}
+use Rattle.departure.specs.Departing.{noCell, leavingIn}
+use Rattle.places.proofs.Window
+use Rattle.places.proofs.Placed.{getD-numbers, length-numbers}
+use Rattle.departure.proofs.Put.{put, put-next}
+use Rattle.departure.proofs.Leaving.{ready-readable}
+
+------------------------------------------------------------------------
+-- the cells that leave are the outputs' choices
+
+module _ {table places : List ℕ} (r : Ready table places) where
+  abbrev all : List Waiting
+  all = inTable table places
+
+  abbrev cellAt : ℕ → Waiting
+  cellAt k = waitingAt table places k
+
+  isIn : Waiting → Bool
+  isIn e = isBuffered (e .place)
+
+  -- a buffered cell of the list, by its number
+  buffered-e : {e : Waiting} → List·Memᴰ e all → isBuffered (e .place) ≡ true
+      → Buffered table places (e .cell .output) (e .at)
+  unfolding waitingAt
+  buffered-e {e} m b =
+      let x = Window.inTable-e table places (ready-readable r) m in
+      record {
+        entry = x .1;
+        place = ap (λ w. isBuffered (w .place)) (sym (x .0)) ∙ b;
+        goes = ap (λ w. w .cell .output) (sym (x .0));
+      }
+
+  leaves-i : (output n : ℕ) → Best table places output 1024 n → List·Memᴰ (cellAt n) (leaving all)
+  unfolding leaving waitingAt isIn
+  leaves-i output n h =
+      least-mem beats (keep-mem isIn (Window.inTable-i table places (ready-readable r) n (h .own .entry)) (h .own .place))
+      (none?-i (λ e. beats e (cellAt n)) (keep isIn all)
+      (λ e m. by-fail _ (λ w. go e (mem-keep-in isIn all m) (mem-keep-passes isIn all m) w)))
+    where
+      go : (e : Waiting) → List·Memᴰ e all → isBuffered (e .place) ≡ true → beats e (cellAt n) ≡ true → ⊥
+      go e m b w = past (h .upper (e .at) small own)
+        where
+          x : (e ≡ cellAt (e .at)) × InTable table (e .at)
+          x = Window.inTable-e table places (ready-readable r) m
+
+          small : e .at < 1024
+          small = Window.inTable-below table places (ready-readable r) (e .at) (x .1)
+
+          own : Buffered table places output (e .at)
+          own = subst (λ o. Buffered table places o (e .at)) (beats-output e (cellAt n) w ∙ h .own .goes) (buffered-e m b)
+
+          wins : over (entryAt table (e .at) .cell) (entryAt table n .cell) ≡ true
+          wins = ap (λ d. over (d .cell) (entryAt table n .cell)) (sym (x .0)) ∙ beats-over e (cellAt n) w
+
+          past : (e .at ≡ n) ⊎ (over (entryAt table n .cell) (entryAt table (e .at) .cell) ≡ true) → ⊥
+          past (inl q) = clash (rw q at wins) (over-irrefl (entryAt table n .cell))
+          past (inr q) =
+              clash (over-trans _ _ _ wins q) (over-irrefl (entryAt table (e .at) .cell))
+
+  module _ {numbers : List ℕ} (c : Chosen table places 1024 numbers) where
+    leaves-e : {e : Waiting} → List·Memᴰ e (leaving all) → getD numbers (e .cell .output) 0 ≡ e .at
+    unfolding waitingAt
+    leaves-e {e} m = go (c .each (e .cell .output) port)
+      where
+        mem : List·Memᴰ e all
+        mem = leaving-in all m
+
+        x : (e ≡ cellAt (e .at)) × InTable table (e .at)
+        x = Window.inTable-e table places (ready-readable r) mem
+
+        own : Buffered table places (e .cell .output) (e .at)
+        own = buffered-e mem (leaving-buffered all m)
+
+        small : e .at < 1024
+        small = Window.inTable-below table places (ready-readable r) (e .at) (x .1)
+
+        port : e .cell .output < 16
+        port = omega (arith, own .goes, ready-readable r .outputs (e .at) (x .1), ready-readable r .ports)
+
+        past : (n : ℕ) → Best table places (e .cell .output) 1024 n
+            → (e .at ≡ n) ⊎ (over (entryAt table n .cell) (entryAt table (e .at) .cell) ≡ true) → n ≡ e .at
+        past n b (inl q) = sym q
+        past n b (inr q) =
+            absurd
+            (clash
+            (beats-i (cellAt n) e (b .own .goes) (ap (λ w. over (entryAt table n .cell) (w .cell)) (x .0) ∙ q))
+            (leaving-first all m (Window.inTable-i table places (ready-readable r) n (b .own .entry)) (b .own .place)))
+
+        go : BestBelow table places (e .cell .output) 1024 (getD numbers (e .cell .output) 0)
+            → getD numbers (e .cell .output) 0 ≡ e .at
+        go (empty q f) = absurd (f (e .at) small own)
+        go (best s b) = past _ b (b .upper (e .at) small own)
+
+    -- a cell leaves if it is its output's choice
+    pub among-leaving : {e : Waiting} → List·Memᴰ e all
+        → among (leaving all) e ≡ eqb (getD numbers (e .cell .output) 0) (e .at)
+    unfolding waitingAt
+    among-leaving {e} m =
+        same _ _
+        (λ h. eq-eqb _ _ (leaves-e (among-e (r .orderly) (leaving all) (λ f. leaving-in all) m h)))
+        (λ h. go (eqb-true _ _ h) (c .each (e .cell .output) port))
+      where
+        x : (e ≡ cellAt (e .at)) × InTable table (e .at)
+        x = Window.inTable-e table places (ready-readable r) m
+
+        small : e .at < 1024
+        small = Window.inTable-below table places (ready-readable r) (e .at) (x .1)
+
+        port : e .cell .output < 16
+        port =
+            omega
+            (arith, ap (λ w. w .cell .output) (x .0), ready-readable r .outputs (e .at) (x .1), ready-readable r .ports)
+
+        go : getD numbers (e .cell .output) 0 ≡ e .at
+            → BestBelow table places (e .cell .output) 1024 (getD numbers (e .cell .output) 0)
+            → among (leaving all) e ≡ true
+        go q (empty d f) = absurd (omega (arith, small))
+        go q (best s b) =
+            among-i (Memᴰ·cast (x .0 ∙ ap cellAt (sym q)) (leaves-i (e .cell .output) _ b))
+
+------------------------------------------------------------------------
+-- what an output sends
+
+module _ (table : List ℕ) (n : ℕ) where
+  pub departureAt-none : nowhere ≤ n → departureAt table n ≡ none
+  unfolding departureAt
+  departureAt-none h = rw (le-leb nowhere n h, departureAt)
+
+  pub departureAt-some : n < nowhere → departureAt table n ≡ some (entryAt table n .cell)
+  unfolding departureAt
+  departureAt-some h = rw (lt-leb nowhere n h, departureAt)
+
+  pub departure-none : (c : Cell) → c ≡ noCell → nowhere ≤ n → sevenBytes 0 c ≡ departureBytes (departureAt table n)
+  unfolding sevenBytes noCell departureBytes bytesOf
+  departure-none c e h = ap (sevenBytes 0) e ∙ ap departureBytes (sym (departureAt-none h))
+
+  pub departure-some : (c : Cell) → c ≡ entryAt table n .cell → n < nowhere
+      → sevenBytes 1 c ≡ departureBytes (departureAt table n)
+  unfolding sevenBytes departureBytes
+  departure-some c e h = ap (sevenBytes 1) e ∙ ap departureBytes (sym (departureAt-some h))
+
+------------------------------------------------------------------------
+-- the bytes of an output's departure among all
+
+departuresBytes-first : (n : ℕ) (ds : List (Option Cell))
+    → departuresBytes (suc n) ds ≡ departureBytes (getD ds 0 none) ++ departuresBytes n (drop 1 ds)
+unfolding departuresBytes
+departuresBytes-first n [] = refl
+departuresBytes-first n (d ∷ ds) = refl
+
+departuresBytes-drop : (o n : ℕ) (ds : List (Option Cell))
+    → drop (departureSize * o) (departuresBytes (o + n) ds) ≡ departuresBytes n (drop o ds)
+departuresBytes-drop zero n ds = ap (λ m. departuresBytes m ds) (zero-add n)
+departuresBytes-drop (suc o) n ds =
+    let next : departureSize * suc o ≡ departureSize + departureSize * o = omega arith in
+    let one : 1 + o ≡ suc o = omega arith in
+    ap₂ drop next (ap (λ m. departuresBytes m ds) (suc-add o n) ∙ departuresBytes-first (o + n) ds)
+    ∙ sym
+    (drop-drop (departureSize * o) departureSize (departureBytes (getD ds 0 none) ++ departuresBytes (o + n) (drop 1 ds)))
+    ∙ ap (drop (departureSize * o))
+    (drop-at (departureBytes (getD ds 0 none)) (departuresBytes (o + n) (drop 1 ds)) departureSize
+    (length-departureBytes (getD ds 0 none)))
+    ∙ departuresBytes-drop o n (drop 1 ds)
+    ∙ ap (departuresBytes n) (drop-drop o 1 ds ∙ ap (λ m. drop m ds) one)
+
+-- the departures decide the bytes
+departuresBytes-ext : (n : ℕ) (ds es : List (Option Cell)) → ((o : ℕ) → o < n → getD ds o none ≡ getD es o none)
+    → departuresBytes n ds ≡ departuresBytes n es
+unfolding departuresBytes
+departuresBytes-ext zero ds es h = refl
+departuresBytes-ext (suc n) ds es h =
+    departuresBytes-first n ds
+    ∙ ap₂ (λ d l. departureBytes d ++ l) (h 0 (omega arith)) (departuresBytes-ext n (drop 1 ds) (drop 1 es) later)
+    ∙ sym (departuresBytes-first n es)
+  where
+    later : (o : ℕ) → o < n → getD (drop 1 ds) o none ≡ getD (drop 1 es) o none
+    later o l = getD-drop 1 ds o none ∙ h (1 + o) (omega arith) ∙ sym (getD-drop 1 es o none)
+
+------------------------------------------------------------------------
+-- the answer with one departure more
+
+-- the answer with the departures of the first o outputs
+pub sent : List (Option Cell) → List ℕ → ℕ → List ℕ
+sent ds old o = take (departureSize * o) (departuresBytes 16 ds) ++ drop (departureSize * o) old
+
+module _ (ds : List (Option Cell)) (old : List ℕ) (room : 448 ≤ length old) where
+  whole : length (departuresBytes 16 ds) ≡ 448
+  whole = length-departuresBytes 16 ds
+
+  -- the bytes of an output's departure
+  own : (o : ℕ) → o < 16 → take (28 * o) (departuresBytes 16 ds) ++ departureBytes (getD ds o none)
+      ≡ take (28 * o + 28) (departuresBytes 16 ds)
+  own o l =
+      let m : ℕ = 15 - o in
+      let sum : 16 ≡ o + suc m = omega arith in
+      let at : o + 0 ≡ o = omega arith in
+      let here : take 28 (drop (28 * o) (departuresBytes 16 ds)) ≡ departureBytes (getD ds o none) =
+      ap (take 28)
+      (ap (λ n. drop (28 * o) (departuresBytes n ds)) sum
+      ∙ departuresBytes-drop o (suc m) ds
+      ∙ departuresBytes-first m (drop o ds))
+      ∙ take-at (departureBytes (getD (drop o ds) 0 none)) (departuresBytes m (drop 1 (drop o ds))) 28
+      (length-departureBytes (getD (drop o ds) 0 none))
+      ∙ ap departureBytes (getD-drop o ds 0 none ∙ ap (λ n. getD ds n none) at) in
+      sym (take-add (28 * o) 28 (departuresBytes 16 ds) ∙ ap (λ bs. take (28 * o) (departuresBytes 16 ds) ++ bs) here)
+
+  pub sent-none : old ≡ sent ds old 0
+  unfolding sent
+  sent-none = refl
+
+  pub sent-more : (o : ℕ) (mid new : List ℕ) → o < 16 → mid ≡ sent ds old o
+      → new ≡ put (28 * o) 28 (departureBytes (getD ds o none)) mid → new ≡ sent ds old (o + 1)
+  unfolding sent
+  sent-more o mid new l first second =
+      let n : ℕ = 28 * o in
+      let more : n + 28 ≡ 28 * (o + 1) = omega arith in
+      let size : length (take n (departuresBytes 16 ds)) ≡ n =
+      length-take-le n (departuresBytes 16 ds) (omega (arith, whole)) in
+      let from : mid ≡ put 0 n (take n (departuresBytes 16 ds)) old =
+      first ∙ ap (λ k. take n (departuresBytes 16 ds) ++ drop k old) (sym (zero-add n)) in
+      let to : new ≡ put (0 + n) 28 (departureBytes (getD ds o none)) mid =
+      second ∙ ap (λ k. put k 28 (departureBytes (getD ds o none)) mid) (sym (zero-add n)) in
+      put-next 0 n 28 (take n (departuresBytes 16 ds)) (departureBytes (getD ds o none)) old mid new size
+      (length-departureBytes (getD ds o none)) (omega arith) from to
+      ∙ ap₂ (λ bs k. bs ++ drop k old) (own o l) (zero-add (n + 28))
+      ∙ ap (λ k. take k (departuresBytes 16 ds) ++ drop k old) more
+
+  pub sent-all : sent ds old 16 ≡ filled (departuresBytes 16 ds) old
+  unfolding sent filled
+  sent-all =
+      ap₂ (λ bs k. bs ++ drop k old) (take-all 448 (departuresBytes 16 ds) (omega (arith, whole))) (sym whole)
+
+------------------------------------------------------------------------
+-- all of them are the definition's
+
+pub getD-map : {A B : Type 0} (f : A → B) (l : List A) (i : ℕ) (d : A) (e : B) → i < length l
+    → getD (map f l) i e ≡ f (getD l i d)
+getD-map f [] i d e h = absurd (omega arith)
+getD-map f (x ∷ l) zero d e h = refl
+getD-map f (x ∷ l) (suc i) d e h = getD-map f l i d e (omega arith)
+
+-- where all members are one cell, it is the first
+first-of : (l : List Waiting) {e : Waiting} → List·Memᴰ e l → ((f : Waiting) → List·Memᴰ f l → f ≡ e)
+    → first? l ≡ some e
+unfolding first?
+first-of [] m h = absurd (List·Memᴰ·not-nil m)
+first-of (x ∷ l) m h = ap some (h x (List·Memᴰ·head refl))
+
+first-none : (l : List Waiting) → ((f : Waiting) → List·Memᴰ f l → ⊥) → first? l ≡ none
+unfolding first?
+first-none [] h = refl
+first-none (x ∷ l) h = absurd (h x (List·Memᴰ·head refl))
+
+module _ {table places : List ℕ} (r : Ready table places) {numbers : List ℕ} (c : Chosen table places 1024 numbers) where
+  goesTo : ℕ → Waiting → Bool
+  goesTo o e = eqb (e .cell .output) o
+
+  -- a cell that leaves for an output
+  module _ (o : ℕ) {e : Waiting} (m : List·Memᴰ e (keep (goesTo o) (leaving (inTable table places)))) where
+    member : List·Memᴰ e (leaving (inTable table places))
+    member = mem-keep-in (goesTo o) (leaving (inTable table places)) m
+
+    output-is : e .cell .output ≡ o
+    unfolding goesTo
+    output-is = eqb-true _ _ (mem-keep-passes (goesTo o) (leaving (inTable table places)) m)
+
+    waits : (e ≡ waitingAt table places (e .at)) × InTable table (e .at)
+    waits = Window.inTable-e table places (ready-readable r) (leaving-in (inTable table places) member)
+
+    is-buffered : Buffered table places o (e .at)
+    is-buffered =
+        subst (λ p. Buffered table places p (e .at)) output-is
+        (buffered-e r (leaving-in (inTable table places) member) (leaving-buffered (inTable table places) member))
+
+    number-small : e .at < 1024
+    number-small = Window.inTable-below table places (ready-readable r) (e .at) (waits .1)
+
+    number-is : e .at ≡ getD numbers o 0
+    number-is = sym (leaves-e r c member) ∙ ap (λ p. getD numbers p 0) output-is
+
+  -- what an output sends
+  departure-chosen : (o : ℕ) → o < 16
+      → departureAt table (getD numbers o 0)
+      ≡ Option·map (λ e. e .cell) (first? (keep (goesTo o) (leaving (inTable table places))))
+  unfolding goesTo waitingAt
+  departure-chosen o l = go (c .each o l)
+    where
+      n : ℕ
+      n = getD numbers o 0
+
+      go : BestBelow table places o 1024 (getD numbers o 0)
+          → departureAt table (getD numbers o 0)
+          ≡ Option·map (λ e. e .cell) (first? (keep (goesTo o) (leaving (inTable table places))))
+      go (empty q f) =
+          departureAt-none table n (omega arith)
+          ∙ sym (ap (Option·map (λ e. e .cell)) (first-none _ (λ e m. f (e .at) (number-small o m) (is-buffered o m))))
+      go (best s b) =
+          departureAt-some table n s
+          ∙ sym
+          (ap (Option·map (λ e. e .cell))
+          (first-of _ (keep-mem (goesTo o) (leaves-i r o n b) (eq-eqb _ _ (b .own .goes)))
+          (λ e m. waits o m .0 ∙ ap (waitingAt table places) (number-is o m))))
+
+  -- an output that the switch does not have sends none
+  departure-past : (o : ℕ) → o < 16 → portsIn table ≤ o → departureAt table (getD numbers o 0) ≡ none
+  departure-past o l h = go (c .each o l)
+    where
+      go : BestBelow table places o 1024 (getD numbers o 0) → departureAt table (getD numbers o 0) ≡ none
+      go (empty q f) = departureAt-none table (getD numbers o 0) (omega arith)
+      go (best s b) =
+          absurd (omega (arith, b .own .goes, ready-readable r .outputs (getD numbers o 0) (b .own .entry)))
+
+  pub departures-chosen : departuresBytes 16 (map (departureAt table) numbers)
+      ≡ departuresBytes 16 (departuresOf (portsIn table) (leavingIn table places))
+  unfolding departuresOf leavingIn goesTo upTo
+  departures-chosen =
+      departuresBytes-ext 16 (map (departureAt table) numbers) (departuresOf (portsIn table) (leavingIn table places))
+      (λ o l. getD-map (departureAt table) numbers o 0 none (omega (arith, c .size)) ∙ go o l (compare o (portsIn table)))
+    where
+      sends : ℕ → Option Cell
+      sends o = Option·map (λ e. e .cell) (first? (keep (goesTo o) (leaving (inTable table places))))
+
+      past : (o : ℕ) → o < 16 → portsIn table ≤ o
+          → departureAt table (getD numbers o 0) ≡ getD (departuresOf (portsIn table) (leavingIn table places)) o none
+      past o l h =
+          departure-past o l h
+          ∙ sym (List·getD-eq-default (departuresOf (portsIn table) (leavingIn table places)) none
+          (omega (arith, length-numbers sends 0 (portsIn table))))
+
+      go : (o : ℕ) → o < 16 → Compared o (portsIn table)
+          → departureAt table (getD numbers o 0) ≡ getD (departuresOf (portsIn table) (leavingIn table places)) o none
+      go o l (below h) =
+          let at : 0 + o ≡ o = omega arith in
+          departure-chosen o l ∙ sym (getD-numbers sends 0 (portsIn table) o none h ∙ ap sends at)
+      go o l (equal h) = past o l (omega arith)
+      go o l (above h) = past o l (omega arith)

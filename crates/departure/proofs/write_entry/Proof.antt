@@ -1,0 +1,89 @@
+-- Four words one behind the other.
+use native.Mathlib.Omega.{arith}
+use mathlib.Core.Path.{_∙_, ap}
+use Prim.Native.Nat.{_+_, _*_}
+use borrow.Author.Needs.{needs}
+use Rattle.layout.specs.Records.{recordStart}
+use Rattle.departure.proofs.Put.{put, put-four}
+use Rattle.departure.proofs.Staying.{entry-words}
+use Rattle.departure.proofs.write_entry.Statement.{statement}
+use Rattle.departure.proofs.write_entry.Tie as tie
+
+mul-at : tie.Need-mul-at
+mul-at c = search needs
+
+add-at : tie.Need-add-at
+add-at c = search needs
+
+mul-write-u32 : tie.Need-mul-write-u32
+mul-write-u32 c = search needs
+
+add-write-u32 : tie.Need-add-write-u32
+add-write-u32 c = search needs
+
+mul-write-u32-2 : tie.Need-mul-write-u32-2
+mul-write-u32-2 c = search needs
+
+add-write-u32-2 : tie.Need-add-write-u32-2
+add-write-u32-2 c = search needs
+
+write-u32-requires : tie.Need-write-u32-requires
+write-u32-requires c κs = search needs
+
+add-write-u32-3 : tie.Need-add-write-u32-3
+add-write-u32-3 c = search needs
+
+write-u32-requires-2 : tie.Need-write-u32-requires-2
+write-u32-requires-2 c κs = search needs
+
+add-write-u32-4 : tie.Need-add-write-u32-4
+add-write-u32-4 c = search needs
+
+write-u32-requires-3 : tie.Need-write-u32-requires-3
+write-u32-requires-3 c κs = search needs
+
+add-write-u32-5 : tie.Need-add-write-u32-5
+add-write-u32-5 c = search needs
+
+write-u32-requires-4 : tie.Need-write-u32-requires-4
+write-u32-requires-4 c κs = search needs
+
+same-length : tie.Need-same-length
+same-length c = search needs
+
+returns : tie.Need-returns
+returns c =
+    let d = c .before .before in
+    let x = d .before .before .before .before in
+    let b = x .before .before .before .before in
+    let a = b .before .before .before .before in
+    let start = a .before .before .before .before .before in
+    let cell = start .args .c in
+    let p = start .args .place in
+    let old = start .args .table .now in
+    let fits = start .pre .1 in
+    put-four (recordStart (start .args .k)) (cell .output + 256 * cell .flow + 65536 * p) (cell .rank) (cell .tag) (cell .slot)
+    old (a .write-u32 .last .0) (b .write-u322 .last .0) (x .write-u323 .last .0) (d .write-u324 .last .0)
+    (omega (arith, start .pre .0 .0, start .pre .0 .1))
+    (a .write-u32 .ensures) (b .write-u322 .ensures) (x .write-u323 .ensures) (d .write-u324 .ensures)
+    ∙ ap (λ bs. put (recordStart (start .args .k)) 16 bs old) (entry-words cell p (fits .0) (fits .1) (fits .2) (fits .3))
+
+pub write-entry-spec : {M : Type 1} → statement M
+write-entry-spec =
+    tie.close
+    (tie.spec
+    mul-at
+    add-at
+    mul-write-u32
+    add-write-u32
+    mul-write-u32-2
+    add-write-u32-2
+    write-u32-requires
+    add-write-u32-3
+    write-u32-requires-2
+    add-write-u32-4
+    write-u32-requires-3
+    add-write-u32-5
+    write-u32-requires-4
+    same-length
+    returns)

@@ -1,0 +1,144 @@
+-- Laws of the answer as bytes: it has 456 of them, and a reader who knows N reads the answer back.
+use Prim.Native.Nat.{ℕ, zero, suc, _+_, _*_, _≤_}
+use mathlib.Core.Bool.{Bool, true, _&&_}
+use mathlib.Core.Path.{_≡_, refl, sym, _∙_, ap, ap₂}
+use mathlib.Core.List.{List, [], _∷_, _++_, append-nil}
+use mathlib.Core.Option.{Option, none, some}
+use native.Mathlib.Omega.{arith}
+use lib.ListN.{length, length-append, length-replicate}
+use Rattle.laws.specs.Lists.{all?}
+use Rattle.laws.proofs.Tests.{and-l, and-r}
+use Rattle.cell.specs.declared.Cell.{Cell}
+use Rattle.cell.specs.Limits.{fits32, portLimit}
+use Rattle.model.specs.Crossbar.{Answer}
+use Rattle.layout.specs.Number.{bytesOf, numberAt, numberOf, word}
+use Rattle.layout.specs.Answer.{departureSize, answerSize, departureBytes, departuresBytes, answerBytes}
+use Rattle.layout.specs.Answer.{departureIn, departuresIn, answerIn}
+use Rattle.layout.proofs.Number.{bytes?, bytes?-append, zeros-bytes, take-first, drop-first, length-bytesOf}
+use Rattle.layout.proofs.Number.{bytesOf-bytes, numberOf-word, word-here, word-past}
+
+------------------------------------------------------------------------
+-- one departure
+
+-- each of the cell's numbers has 32 bits
+unfoldable pub cellFits : Cell → Bool
+cellFits c =
+    fits32 (c .input)
+    && (fits32 (c .output)
+    && (fits32 (c .flow) && (fits32 (c .rank) && (fits32 (c .tag) && fits32 (c .slot)))))
+
+unfoldable pub departureFits : Option Cell → Bool
+departureFits none = true
+departureFits (some c) = cellFits c
+
+pub length-departureBytes : (d : Option Cell) → length (departureBytes d) ≡ departureSize
+unfolding departureBytes
+length-departureBytes none = length-replicate {A = ℕ} departureSize 0
+length-departureBytes (some c) = simp (length-append, length-bytesOf)
+
+pub departureBytes-bytes : (d : Option Cell) → bytes? (departureBytes d) ≡ true
+unfolding departureBytes
+departureBytes-bytes none = zeros-bytes departureSize
+departureBytes-bytes (some c) = search (bytes?-append, bytesOf-bytes) depth 12
+
+pub departureIn-departureBytes : (d : Option Cell) → departureFits d ≡ true → departureIn (departureBytes d) ≡ d
+unfolding departureFits cellFits departureIn departureBytes word numberAt numberOf bytesOf
+departureIn-departureBytes none h = refl
+departureIn-departureBytes (some c) h =
+    let i : fits32 (c .input) ≡ true = search and-l in
+    let o : fits32 (c .output) ≡ true = search (and-l, and-r) in
+    let f : fits32 (c .flow) ≡ true = search (and-l, and-r) in
+    let r : fits32 (c .rank) ≡ true = search (and-l, and-r) in
+    let t : fits32 (c .tag) ≡ true = search (and-l, and-r) in
+    let s : fits32 (c .slot) ≡ true = search (and-l, and-r) depth 7 in
+    λ k.
+    some
+    (record {
+      input = numberOf-word (c .input) i k;
+      output = numberOf-word (c .output) o k;
+      flow = numberOf-word (c .flow) f k;
+      rank = numberOf-word (c .rank) r k;
+      tag = numberOf-word (c .tag) t k;
+      slot = numberOf-word (c .slot) s k;
+    })
+
+------------------------------------------------------------------------
+-- the departures
+
+pub length-departuresBytes : (n : ℕ) (ds : List (Option Cell)) → length (departuresBytes n ds) ≡ departureSize * n
+unfolding departuresBytes
+length-departuresBytes zero ds = refl
+length-departuresBytes (suc n) [] =
+    length-append (departureBytes none) (departuresBytes n [])
+    ∙ ap₂ _+_ (length-departureBytes none) (length-departuresBytes n [])
+    ∙ omega arith
+length-departuresBytes (suc n) (d ∷ ds) =
+    length-append (departureBytes d) (departuresBytes n ds)
+    ∙ ap₂ _+_ (length-departureBytes d) (length-departuresBytes n ds)
+    ∙ omega arith
+
+pub departuresBytes-bytes : (n : ℕ) (ds : List (Option Cell)) → bytes? (departuresBytes n ds) ≡ true
+unfolding departuresBytes bytes? all?
+departuresBytes-bytes zero ds = refl
+departuresBytes-bytes (suc n) [] =
+    bytes?-append (departureBytes none) (departuresBytes n []) (departureBytes-bytes none) (departuresBytes-bytes n [])
+departuresBytes-bytes (suc n) (d ∷ ds) =
+    bytes?-append (departureBytes d) (departuresBytes n ds) (departureBytes-bytes d) (departuresBytes-bytes n ds)
+
+pub departuresIn-departuresBytes : (n : ℕ) (ds : List (Option Cell)) (bs : List ℕ)
+    → all? departureFits ds ≡ true → length ds ≤ n → departuresIn (length ds) (departuresBytes n ds ++ bs) ≡ ds
+unfolding departuresIn departuresBytes all?
+departuresIn-departuresBytes n [] bs h room = refl
+departuresIn-departuresBytes zero (d ∷ ds) bs h room = absurd (omega arith)
+departuresIn-departuresBytes (suc n) (d ∷ ds) bs h room =
+    let here : departureFits d ≡ true = search and-l in
+    let later : all? departureFits ds ≡ true = search and-r in
+    let less : length ds ≤ n = omega arith in
+    ap₂ _∷_
+    (ap departureIn (take-first (departureBytes d) (departuresBytes n ds) bs departureSize (length-departureBytes d))
+    ∙ departureIn-departureBytes d here)
+    (ap (departuresIn (length ds))
+    (drop-first (departureBytes d) (departuresBytes n ds) bs departureSize (length-departureBytes d))
+    ∙ departuresIn-departuresBytes n ds bs later less)
+
+------------------------------------------------------------------------
+-- the answer
+
+pub length-answerBytes : (a : Answer) → length (answerBytes a) ≡ answerSize
+unfolding answerBytes
+length-answerBytes a = simp (length-append, length-bytesOf, length-departuresBytes)
+
+pub answerBytes-bytes : (a : Answer) → bytes? (answerBytes a) ≡ true
+unfolding answerBytes
+answerBytes-bytes a = search (bytes?-append, bytesOf-bytes, departuresBytes-bytes)
+
+pub answerBytes-departures : (a : Answer) → length (a .departures) ≤ portLimit
+    → all? departureFits (a .departures) ≡ true → departuresIn (length (a .departures)) (answerBytes a) ≡ a .departures
+unfolding answerBytes
+answerBytes-departures a room h = departuresIn-departuresBytes portLimit (a .departures) _ h room
+
+-- the proposals of the first phase and of the second
+pub answerBytes-first : (a : Answer) → fits32 (a .first) ≡ true → word (answerBytes a) 448 ≡ a .first
+unfolding answerBytes
+answerBytes-first a h =
+    word-past (departuresBytes portLimit (a .departures)) _ 448 0 (length-departuresBytes portLimit (a .departures))
+    ∙ word-here (a .first) (bytesOf 4 (a .second)) h
+
+pub answerBytes-second : (a : Answer) → fits32 (a .second) ≡ true → word (answerBytes a) 452 ≡ a .second
+unfolding answerBytes
+answerBytes-second a h =
+    word-past (departuresBytes portLimit (a .departures)) _ 448 4 (length-departuresBytes portLimit (a .departures))
+    ∙ word-past (bytesOf 4 (a .first)) (bytesOf 4 (a .second)) 4 0 (length-bytesOf 4 (a .first))
+    ∙ ap (λ bs. word bs 0) (sym (append-nil (bytesOf 4 (a .second))))
+    ∙ word-here (a .second) [] h
+
+pub answerIn-answerBytes : (a : Answer) → length (a .departures) ≤ portLimit → all? departureFits (a .departures) ≡ true
+    → fits32 (a .first) ≡ true → fits32 (a .second) ≡ true → answerIn (length (a .departures)) (answerBytes a) ≡ a
+unfolding answerIn
+answerIn-answerBytes a room h one two =
+    λ k.
+    record {
+      departures = answerBytes-departures a room h k;
+      first = answerBytes-first a one k;
+      second = answerBytes-second a two k;
+    }

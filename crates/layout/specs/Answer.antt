@@ -1,0 +1,59 @@
+-- The bytes of a slot's answer: for each of sixteen outputs 1 and its departure's six fields, or seven zeros where it
+-- sends none; then the proposals of the first phase and of the second. Every number has 32 bits.
+use Prim.Native.Nat.{ℕ, zero, suc}
+use mathlib.Core.List.{List, [], _∷_, _++_}
+use mathlib.Core.Option.{Option, none, some}
+use lib.Dec.{eqb}
+use mathlib.Core.Bool.{true, false}
+use lib.ListN.{take, drop, replicate}
+use Rattle.cell.specs.declared.Cell.{Cell}
+use Rattle.cell.specs.Limits.{portLimit}
+use Rattle.model.specs.Crossbar.{Answer}
+use Rattle.layout.specs.Number.{bytesOf, word}
+
+abbrev pub departureSize : ℕ
+departureSize = 28
+
+abbrev pub answerSize : ℕ
+answerSize = 456
+
+unfoldable pub departureBytes : Option Cell → List ℕ
+departureBytes none = replicate departureSize 0
+departureBytes (some c) =
+    bytesOf 4 1
+    ++ (bytesOf 4 (c .input)
+    ++ (bytesOf 4 (c .output)
+    ++ (bytesOf 4 (c .flow) ++ (bytesOf 4 (c .rank) ++ (bytesOf 4 (c .tag) ++ bytesOf 4 (c .slot))))))
+
+-- so many departures, none at the outputs that the switch does not have
+unfoldable pub departuresBytes : ℕ → List (Option Cell) → List ℕ
+departuresBytes zero ds = []
+departuresBytes (suc n) [] = departureBytes none ++ departuresBytes n []
+departuresBytes (suc n) (d ∷ ds) = departureBytes d ++ departuresBytes n ds
+
+unfoldable pub answerBytes : Answer → List ℕ
+answerBytes a = departuresBytes portLimit (a .departures) ++ (bytesOf 4 (a .first) ++ bytesOf 4 (a .second))
+
+unfoldable pub departureIn : List ℕ → Option Cell
+departureIn bs =
+    elim (eqb (word bs 0) 0) [
+      | true ↦ none
+      | false ↦
+          some
+          (record {
+            input = word bs 4;
+            output = word bs 8;
+            flow = word bs 12;
+            rank = word bs 16;
+            tag = word bs 20;
+            slot = word bs 24;
+          })
+    ]
+
+unfoldable pub departuresIn : ℕ → List ℕ → List (Option Cell)
+departuresIn zero bs = []
+departuresIn (suc n) bs = departureIn (take departureSize bs) ∷ departuresIn n (drop departureSize bs)
+
+-- the answer of a switch of so many ports that bytes stand for
+unfoldable pub answerIn : ℕ → List ℕ → Answer
+answerIn ports bs = record { departures = departuresIn ports bs; first = word bs 448; second = word bs 452 }

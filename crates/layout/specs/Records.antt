@@ -1,0 +1,37 @@
+-- The records of a table by number: the record k = 64 · input + position stands at byte 32 + 16 · k.
+use Prim.Native.Nat.{ℕ, _+_, _*_, _-_}
+use mathlib.Core.List.{List, map}
+use lib.ListN.{take, drop}
+use Rattle.laws.specs.Lists.{numbersFrom}
+use Rattle.cell.specs.Limits.{cellLimit}
+use Rattle.model.specs.State.{Entry}
+use Rattle.layout.specs.Number.{numberAt}
+use Rattle.layout.specs.Table.{headerSize, entrySize}
+use Rattle.layout.specs.Entry.{entryAt, countIn}
+
+-- the first byte of a record
+abbrev pub recordStart : ℕ → ℕ
+recordStart k = headerSize + entrySize * k
+
+-- its bytes
+unfoldable pub recordAt : List ℕ → ℕ → List ℕ
+recordAt bs k = take entrySize (drop (recordStart k) bs)
+
+-- the byte of its place: 1, 2 or 3 in a table
+unfoldable pub placeByteAt : List ℕ → ℕ → ℕ
+placeByteAt bs k = numberAt 1 2 (recordAt bs k)
+
+-- the numbers from one up to another, which is not among them
+unfoldable pub between : ℕ → ℕ → List ℕ
+between from to = numbersFrom from (to - from)
+
+-- the entries of the records from one up to another
+unfoldable pub entriesBetween : List ℕ → ℕ → ℕ → List Entry
+entriesBetween bs from to = map (entryAt bs) (between from to)
+
+-- the first record of an input, and its section
+abbrev pub firstRecord : ℕ → ℕ
+firstRecord input = cellLimit * input
+
+unfoldable pub sectionAt : List ℕ → ℕ → List Entry
+sectionAt bs input = entriesBetween bs (firstRecord input) (firstRecord input + countIn bs input)

@@ -1,0 +1,10 @@
+pub mod Agreeing
+pub mod Known
+pub mod Moved
+pub mod Output
+pub mod Ports
+pub mod Pulling
+pub mod Relocated
+pub mod Rounds
+pub mod Rules
+pub mod Written

@@ -1,0 +1,229 @@
+-- The sections of a table whose places stand in a column.
+--     inTable-waiting      the waiting cells of the sections are those of the view
+--     decode-..            what the table of a state says of it
+--     sectionsPlaced-same  where the column has the table's own places, they are the sections of its state
+use Prim.Native.Nat.{ℕ, zero, suc, _+_, _*_, _-_, _/_, _%_, _≤_, _<_}
+use native.Mathlib.Omega.{arith}
+use mathlib.Core.Path.{_≡_, refl, sym, _∙_, ap, ap₂, fun-ext}
+use mathlib.Core.List.{List, [], _∷_, _++_, map, flatten, List·Memᴰ, Memᴰ·map}
+use mathlib.Core.Option.{some}
+use borrow.Author.Tests.{ltb-true}
+use lib.ListN.{length, getD}
+use lib.Seq.{getD-drop}
+use Rattle.laws.specs.Lists.{numbersFrom, upTo}
+use Rattle.cell.specs.Limits.{cellLimit, portLimit}
+use Rattle.model.specs.State.{Place, listed, crossed, buffered, Entry, Switch}
+use Rattle.model.specs.Phase.{numberFrom, numberSections, numbered, waiting}
+use Rattle.model.proofs.SoundLaws.{SoundEntry, sections-e}
+use Rattle.layout.specs.Number.{bytesOf, numberOf, numberAt, word}
+use Rattle.layout.specs.Table.{placeByte, placeOf, entryBytes, countsBytes, sectionsBytes, encode, stateOf, decode}
+use Rattle.layout.specs.Entry.{entryAt, portsIn, clockIn, countIn}
+use Rattle.layout.specs.Records.{recordAt, placeByteAt, between, entriesBetween, sectionAt}
+use Rattle.layout.proofs.Table.{placeOf-placeByte, decode-length, encode-counts, stateOf-encode, encode-decode}
+use Rattle.layout.proofs.Table.{decode-sound, sound-ports, sound-sections}
+use Rattle.layout.proofs.Records.{entryAt-place, stateOf-sections}
+use Rattle.places.specs.View.{waitingAt, window, inTable, InTable}
+use Rattle.places.specs.Scan.{Readable}
+use Rattle.places.proofs.Bytes.{recordAt-encode}
+use Rattle.places.proofs.Window.{numbersFrom-i}
+use Rattle.places.specs.Sections.{entryPlaced, sectionPlaced, sectionsPlaced}
+
+------------------------------------------------------------------------
+-- a list made from numbers
+
+module _ {A : Type 0} (f : ℕ → A) where
+  pub length-numbers : (k n : ℕ) → length (map f (numbersFrom k n)) ≡ n
+  unfolding numbersFrom
+  length-numbers k zero = refl
+  length-numbers k (suc n) = ap suc (length-numbers (k + 1) n)
+
+  pub getD-numbers : (k n i : ℕ) (d : A) → i < n → getD (map f (numbersFrom k n)) i d ≡ f (k + i)
+  unfolding numbersFrom
+  getD-numbers k zero i d h = absurd (omega arith)
+  getD-numbers k (suc n) zero d h = ap f (omega arith)
+  getD-numbers k (suc n) (suc i) d h = getD-numbers (k + 1) n i d (omega arith) ∙ ap f (omega arith)
+
+pub map-numbers : {A : Type 0} (f g : ℕ → A) (k n : ℕ) → ((i : ℕ) → k ≤ i → i < k + n → f i ≡ g i)
+    → map f (numbersFrom k n) ≡ map g (numbersFrom k n)
+unfolding numbersFrom
+map-numbers f g k zero h = refl
+map-numbers f g k (suc n) h =
+    ap₂ _∷_
+    (h k (omega arith) (omega arith))
+    (map-numbers f g (k + 1) n (λ i low high. h i (omega arith) (omega arith)))
+
+------------------------------------------------------------------------
+-- the numbered entries
+
+pub numberFrom-placed : (table places : List ℕ) (k n : ℕ)
+    → numberFrom k (map (entryPlaced table places) (numbersFrom k n)) ≡ map (waitingAt table places) (numbersFrom k n)
+unfolding numberFrom numbersFrom entryPlaced waitingAt
+numberFrom-placed table places k zero = refl
+numberFrom-placed table places k (suc n) =
+    ap (λ r. waitingAt table places k ∷ r) (numberFrom-placed table places (k + 1) n)
+
+numberSections-map : (f : ℕ → List Entry) (input n : ℕ)
+    → numberSections input (map f (numbersFrom input n))
+    ≡ map (λ i. numberFrom (cellLimit * i) (f i)) (numbersFrom input n)
+unfolding numberSections numbersFrom
+numberSections-map f input zero = refl
+numberSections-map f input (suc n) =
+    ap (λ r. numberFrom (cellLimit * input) (f input) ∷ r) (numberSections-map f (input + 1) n)
+
+-- the waiting cells of the sections are those of the view
+pub inTable-waiting : (table places : List ℕ) → waiting (sectionsPlaced table places) ≡ inTable table places
+unfolding waiting numbered sectionsPlaced sectionPlaced inTable window upTo
+inTable-waiting table places =
+    ap flatten
+    (numberSections-map (sectionPlaced table places) 0 (portsIn table)
+    ∙ ap (λ f. map f (numbersFrom 0 (portsIn table)))
+    (fun-ext (λ i. numberFrom-placed table places (cellLimit * i) (countIn table i))))
+
+------------------------------------------------------------------------
+-- the records of a table
+
+-- the byte of a section's count
+countsBytes-at : (n : ℕ) (sections : List (List Entry)) (bs : List ℕ) (i : ℕ) → i < n
+    → length (getD sections i []) ≤ cellLimit → getD (countsBytes n sections ++ bs) i 0 ≡ length (getD sections i [])
+unfolding countsBytes bytesOf
+countsBytes-at zero sections bs i h few = absurd (omega arith)
+countsBytes-at (suc n) [] bs zero h few = refl
+countsBytes-at (suc n) [] bs (suc i) h few = countsBytes-at n [] bs i (omega arith) few
+countsBytes-at (suc n) (es ∷ sections) bs zero h few = omega arith
+countsBytes-at (suc n) (es ∷ sections) bs (suc i) h few = countsBytes-at n sections bs i (omega arith) few
+
+-- the count of a section
+pub encode-count : (s : Switch) (i : ℕ) → i < portLimit → length (getD (s .sections) i []) ≤ cellLimit
+    → countIn (encode s) i ≡ length (getD (s .sections) i [])
+unfolding countIn
+encode-count s i h few =
+    sym (getD-drop 16 (encode s) i 0)
+    ∙ ap (λ bs. getD bs i 0) (encode-counts s)
+    ∙ countsBytes-at portLimit (s .sections) (sectionsBytes portLimit (s .sections)) i h few
+
+-- the place among the bytes of an entry
+entryBytes-place : (x : Entry) → numberAt 1 2 (entryBytes x) ≡ placeByte (x .place)
+unfolding entryBytes bytesOf numberAt numberOf placeByte
+entryBytes-place x = go (x .place)
+  where
+    go : (p : Place) → placeByte p % 256 + 0 ≡ placeByte p
+    go listed = refl
+    go crossed = refl
+    go buffered = refl
+
+placeByteAt-entry : (table : List ℕ) (k : ℕ) (x : Entry) → recordAt table k ≡ entryBytes x
+    → placeByteAt table k ≡ placeByte (x .place)
+unfolding placeByteAt
+placeByteAt-entry table k x h = ap (numberAt 1 2) h ∙ entryBytes-place x
+
+-- what the table of a state says of it
+module _ (table : List ℕ) (s : Switch) (e : decode table ≡ some s) where
+  state-same : stateOf table ≡ s
+  state-same = ap stateOf (sym (encode-decode table s e)) ∙ stateOf-encode s (decode-sound table s e)
+
+  pub decode-ports : portsIn table ≡ s .ports
+  unfolding portsIn stateOf
+  decode-ports = ap (λ t. t .ports) state-same
+
+  pub decode-clock : clockIn table ≡ s .clock
+  unfolding clockIn stateOf
+  decode-clock = ap (λ t. t .clock) state-same
+
+  pub decode-ports-few : portsIn table ≤ portLimit
+  decode-ports-few = omega (arith, decode-ports, sound-ports s (decode-sound table s e))
+
+  pub section-short : (i : ℕ) → length (getD (s .sections) i []) ≤ cellLimit
+  section-short i = sections-e (s .ports) (s .clock) (s .sections) (sound-sections s (decode-sound table s e)) i .short
+
+  pub decode-count : (i : ℕ) → i < portLimit → countIn table i ≡ length (getD (s .sections) i [])
+  decode-count i h =
+      ap (λ bs. countIn bs i) (sym (encode-decode table s e)) ∙ encode-count s i h (section-short i)
+
+  pub decode-count-few : (i : ℕ) → i < portLimit → countIn table i ≤ cellLimit
+  decode-count-few i h = let few = section-short i in omega (arith, decode-count i h)
+
+  pub decode-sections : s .sections ≡ map (sectionAt table) (upTo (portsIn table))
+  unfolding portsIn
+  decode-sections =
+      let ports : word table 4 ≤ portLimit = decode-ports-few in
+      sym (ap (λ t. t .sections) state-same)
+      ∙ stateOf-sections table (λ i h. decode-count-few i (omega arith))
+
+  -- a number within a section is in the table
+  pub inTable-number : (i k : ℕ) → i < portsIn table → cellLimit * i ≤ k → k < cellLimit * i + countIn table i
+      → InTable table k
+  inTable-number i k h low high =
+      let ports : portsIn table ≤ portLimit = decode-ports-few in
+      let few : countIn table i ≤ 64 = decode-count-few i (omega arith) in
+      let own : k / 64 ≡ i = omega arith in
+      record { input = rw own h; position = rw own high }
+
+  -- the entry with a number of the table
+  module _ (k : ℕ) (t : InTable table k) where
+    own-port : k / cellLimit < portLimit
+    own-port = omega (arith, t .input, decode-ports-few)
+
+    own-section : getD (s .sections) (k / cellLimit) [] ≡ sectionAt table (k / cellLimit)
+    unfolding upTo
+    own-section =
+        let at : 0 + k / cellLimit ≡ k / cellLimit = omega arith in
+        ap (λ l. getD l (k / cellLimit) []) decode-sections
+        ∙ getD-numbers (sectionAt table) 0 (portsIn table) (k / cellLimit) [] (t .input)
+        ∙ ap (sectionAt table) at
+
+    -- it is sound
+    pub decode-entry : SoundEntry (s .ports) (s .clock) (k / cellLimit) (entryAt table k)
+    unfolding sectionAt entriesBetween between
+    decode-entry =
+        let first : ℕ = cellLimit * (k / cellLimit) in
+        let count : ℕ = first + countIn table (k / cellLimit) - first in
+        let low : first ≤ k = omega arith in
+        let high : k < first + count = omega (arith, t .position) in
+        let mem : List·Memᴰ (entryAt table k) (getD (s .sections) (k / cellLimit) []) =
+        rw own-section (Memᴰ·map (entryAt table) (numbersFrom-i first count low high)) in
+        sections-e (s .ports) (s .clock) (s .sections) (sound-sections s (decode-sound table s e)) (k / cellLimit)
+        .entries (entryAt table k) mem
+
+    -- and the byte of its place is that of its place
+    pub decode-place : placeByteAt table k ≡ placeByte (entryAt table k .place)
+    decode-place =
+        let i : ℕ = k / cellLimit in
+        let j : ℕ = k - cellLimit * i in
+        let whole : k ≡ cellLimit * i + j = omega arith in
+        let within : j < length (getD (s .sections) i []) = omega (arith, t .position, decode-count i own-port) in
+        let x : Entry = getD (getD (s .sections) i []) j (entryAt table k) in
+        let bytes : recordAt table k ≡ entryBytes x =
+        ap₂ recordAt (sym (encode-decode table s e)) whole
+        ∙ recordAt-encode s i section-short own-port j (entryAt table k) within in
+        let byte : placeByteAt table k ≡ placeByte (x .place) = placeByteAt-entry table k x bytes in
+        byte ∙ ap placeByte (sym (entryAt-place table k ∙ ap placeOf byte ∙ placeOf-placeByte (x .place)))
+
+  pub decode-readable : Readable table
+  decode-readable =
+      record {
+        size = decode-length table s e;
+        ports = decode-ports-few;
+        counts = decode-count-few;
+        outputs = λ k t. rw decode-ports (decode-entry k t .output);
+        flows = λ k t. ltb-true _ _ (decode-entry k t .flow);
+      }
+
+  -- where the column has the table's own places, the sections are those of its state
+  pub sectionsPlaced-same : (places : List ℕ) → ((k : ℕ) → InTable table k → getD places k 0 ≡ placeByteAt table k)
+      → sectionsPlaced table places ≡ s .sections
+  unfolding sectionsPlaced sectionPlaced entryPlaced upTo sectionAt entriesBetween between
+  sectionsPlaced-same places same =
+      map-numbers (sectionPlaced table places) (sectionAt table) 0 (portsIn table)
+      (λ i _ h.
+      let size : countIn table i ≡ cellLimit * i + countIn table i - cellLimit * i = omega arith in
+      map-numbers (entryPlaced table places) (entryAt table) (cellLimit * i) (countIn table i)
+      (λ k low high.
+      let place : placeOf (getD places k 0) ≡ entryAt table k .place =
+      ap placeOf (same k (inTable-number i k (omega arith) low high)) ∙ sym (entryAt-place table k) in
+      λ z. record { cell = entryAt table k .cell; place = place z })
+      ∙ ap (λ n. map (entryAt table) (numbersFrom (cellLimit * i) n)) size)
+      ∙ sym decode-sections
+
+  pub inTable-same : (places : List ℕ) → ((k : ℕ) → InTable table k → getD places k 0 ≡ placeByteAt table k)
+      → inTable table places ≡ waiting (s .sections)
+  inTable-same places same = sym (inTable-waiting table places) ∙ ap waiting (sectionsPlaced-same places same)

@@ -1,0 +1,24 @@
+-- The sections of a table whose places stand in a column of their own, as they do during the phases.
+use Prim.Native.Nat.{ℕ, _*_}
+use mathlib.Core.List.{List, map}
+use lib.ListN.{getD}
+use Rattle.laws.specs.Lists.{numbersFrom, upTo}
+use Rattle.cell.specs.Limits.{cellLimit}
+use Rattle.model.specs.State.{Entry, Switch}
+use Rattle.layout.specs.Entry.{entryAt, portsIn, clockIn, countIn}
+use Rattle.layout.specs.Table.{placeOf}
+
+unfoldable pub entryPlaced : List ℕ → List ℕ → ℕ → Entry
+entryPlaced table places k = record { cell = entryAt table k .cell; place = placeOf (getD places k 0) }
+
+unfoldable pub sectionPlaced : List ℕ → List ℕ → ℕ → List Entry
+sectionPlaced table places input =
+    map (entryPlaced table places) (numbersFrom (cellLimit * input) (countIn table input))
+
+unfoldable pub sectionsPlaced : List ℕ → List ℕ → List (List Entry)
+sectionsPlaced table places = map (sectionPlaced table places) (upTo (portsIn table))
+
+-- the switch that the table and the column stand for
+unfoldable pub switchPlaced : List ℕ → List ℕ → Switch
+switchPlaced table places =
+    record { ports = portsIn table; clock = clockIn table; sections = sectionsPlaced table places }

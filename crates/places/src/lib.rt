@@ -1,0 +1,79 @@
+// Before the phases of a slot: the places of the entries go into a column of their own, and the numbers of the crossed
+// ones to their crosspoints.
+ghost use mathlib.Core.Path.{_≡_};
+ghost use mathlib.Core.Bool.{true};
+ghost use Prim.Native.Nat.{_+_, _*_, _/_, _<_};
+ghost use lib.ListN.{length};
+ghost use Rattle.layout.specs.Entry.{portsIn, countIn};
+ghost use Rattle.places.specs.View.{InTable};
+ghost use Rattle.places.specs.Loading.{Copied, RowOf, Loaded};
+ghost use Rattle.layout.specs.Table.{IsTable};
+
+// A number that no entry has.
+pub const NOWHERE: u16 = 1024;
+
+// Fills the column and gives the crosspoints. Bytes of the column that are no entry's are kept.
+pub fn load(table: &[u8], places: &mut [u8]) -> [[u16; 16]; 16]
+    requires { ⌜ IsTable (now table) ⌝ }
+    requires { ⌜ length (now places) ≡ 1024 ⌝ }
+    ensures { λ r. ⌜ Loaded (now (table .entry)) (now (places .exit)) r ⌝ }
+{
+    let mut cross = [[NOWHERE; 16]; 16];
+    let ports = ports_of(table);
+    let mut input = 0;
+    while input < ports {
+        cross[input] = load_input(table, places, input);
+        input += 1;
+    }
+    cross
+}
+
+// The entries of one input.
+fn load_input(table: &[u8], places: &mut [u8], input: usize) -> [u16; 16]
+    requires { ⌜ IsTable (now table) ⌝ }
+    requires { ⌜ input < portsIn (now table) ⌝ }
+    requires { ⌜ Copied (now table) (now places) (64 * input) ⌝ }
+    ensures { λ r. ⌜ Copied (now (table .entry)) (now (places .exit)) (64 * (input + 1)) ⌝ }
+    ensures { λ r. ⌜ RowOf (now (table .entry)) input (64 * input + countIn (now (table .entry)) input) r ⌝ }
+{
+    let mut row = [NOWHERE; 16];
+    let end = end_of(table, input);
+    let mut k = 64 * input;
+    while k < end {
+        load_entry(table, places, &mut row, k);
+        k += 1;
+    }
+    row
+}
+
+// One entry.
+fn load_entry(table: &[u8], places: &mut [u8], row: &mut [u16; 16], k: usize)
+    requires { ⌜ IsTable (now table) ⌝ }
+    requires { ⌜ InTable (now table) k ⌝ }
+    requires { ⌜ Copied (now table) (now places) k ⌝ }
+    requires { ⌜ RowOf (now table) (k / 64) k (now row) ⌝ }
+    ensures { λ _. ⌜ Copied (now (table .entry)) (now (places .exit)) (k + 1) ⌝ }
+    ensures { λ _. ⌜ RowOf (now (table .entry)) (k / 64) (k + 1) (now (row .exit)) ⌝ }
+{
+    let place = table::entry::place_of(table, k);
+    places[k] = place;
+    if place == 2 {
+        row[table::entry::output_of(table, k) as usize] = k as u16;
+    }
+}
+
+// The number of ports.
+pub fn ports_of(table: &[u8]) -> usize
+    requires { ⌜ length (now table) ≡ 16416 ⌝ }
+    ensures { λ r. ⌜ r ≡ portsIn (now (table .entry)) ⌝ }
+{
+    table::word::read_u32(table, 4) as usize
+}
+
+// The number behind the last entry of an input.
+pub fn end_of(table: &[u8], input: usize) -> usize
+    requires { ⌜ (length (now table) ≡ 16416) × (input < 16) ⌝ }
+    ensures { λ r. ⌜ r ≡ 64 * input + countIn (now (table .entry)) input ⌝ }
+{
+    64 * input + table[16 + input] as usize
+}
