@@ -200,7 +200,7 @@ unfolding turnAfter faultIn firstFault stateOf portsIn
 looked-none table arrivals =
     record { few = omega arith; low = omega arith; before = none; after = refl; rest = refl }
 
-clear-not : {r : Refusal} {place : ℕ} → Clear ≡ At r place → ⊥
+pub clear-not : {r : Refusal} {place : ℕ} → Clear ≡ At r place → ⊥
 clear-not q = let z : _≡_ {A = ℕ} 0 1 = cc in omega arith
 
 module _ (table arrivals : List ℕ) (t : IsTable table) (turn n : ℕ) (l : Looked table arrivals turn n) where

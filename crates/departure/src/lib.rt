@@ -1,7 +1,7 @@
 // Document 01, "One slot", departure: each output sends the cell of highest output priority in its buffer, if it has
 // one. The cells that leave go into the answer. The others close up in the table, with their places from the column.
-use places::NOWHERE;
 use cell::Cell;
+use places::NOWHERE;
 ghost use mathlib.Core.Path.{_≡_};
 ghost use mathlib.Core.List.{_++_, map};
 ghost use Prim.Native.Nat.{_+_, _*_, _-_, _<_, _≤_};

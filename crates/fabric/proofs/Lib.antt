@@ -1,3 +1,5 @@
+pub mod Course
+pub mod Outcome
 pub mod Positions
 pub mod Settling
 pub mod Turn

@@ -1,2 +1,3 @@
-// The phase of a slot, put together of its steps.
+// A slot on the table of a sound state, put together of its steps.
 pub mod phase;
+pub mod slot;

@@ -1,10 +1,10 @@
 // Document 01, "One slot", scheduling: one phase. Its choices are in choosing, its moves in moving.
-use places::NOWHERE;
 use choosing::choose;
-use places::ports_of;
-use moving::move_cells;
 use matching::Matched;
 use matching::find_matching;
+use moving::move_cells;
+use places::NOWHERE;
+use places::ports_of;
 ghost use mathlib.Core.Path.{_≡_};
 ghost use mathlib.Core.Bool.{false};
 ghost use mathlib.Core.List.{[]};

@@ -1,8 +1,8 @@
 // Document 01, "One slot", rules 5 and 6: the cells move. A place is 1 in a list, 2 at a crosspoint, 3 in a buffer.
 // Each rule has a function that chooses the number of a cell, 1,024 for none, a function that moves that cell, and a
 // function that does both for every port.
-use places::NOWHERE;
 use choosing::best_crossed;
+use places::NOWHERE;
 ghost use mathlib.Core.Path.{_≡_};
 ghost use mathlib.Core.Bool.{true};
 ghost use mathlib.Core.List.{List};

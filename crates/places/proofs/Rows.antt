@@ -327,6 +327,6 @@ module _ (table : List ℕ) (good : IsTable table) (places : List ℕ) (cross : 
         cells = inTable-same table s e places own;
         places =
             λ k t. rw (own k t ∙ decode-place table s e k t) (placeByte-range (entryAt table k .place));
-        square = record { rows = r .size; columns = λ i l. squared i l (compare i (portsIn table)); };
+        square = record { rows = r .size; columns = λ i l. squared i l (compare i (portsIn table)) };
         agrees = agreed;
       }

@@ -1,0 +1,237 @@
+-- The steps of a slot, one after the other, are the course of the definition.
+--     begins, schedules     what loading and the two phases leave
+--     departs, answers, first-is, second-is    what the departure makes of it
+use Prim.Native.Nat.{ℕ, _+_, _*_, _/_, _≤_, _<_}
+use mathlib.Core.Bool.{true}
+use mathlib.Core.Path.{_≡_, refl, sym, _∙_, ap, ap₂, subst}
+use mathlib.Core.List.{List, [], _∷_, _++_, map}
+use mathlib.Core.Option.{Option, none, some}
+use lib.ListN.{length, getD, take, drop, length-map}
+use native.Mathlib.Omega.{arith}
+use Rattle.laws.specs.Lists.{upTo, numbersFrom}
+use Rattle.cell.specs.Limits.{cellLimit, clockEnd}
+use Rattle.model.specs.State.{Entry, Switch}
+use Rattle.model.specs.Sound.{sound, soundSections}
+use Rattle.model.specs.Phase.{Phase, Waiting, numberFrom, numberSections, numbered, waiting, phase, moved}
+use Rattle.model.specs.Crossbar.{leaving, departuresOf, without, run, answerOf}
+use Rattle.model.specs.Slackness.{Orderly, OneCrosspoint, relocated}
+use Rattle.model.proofs.Numbering.{waiting-moved, entryAfter, entryOf, numberFrom-entries}
+use Rattle.model.proofs.SoundOrderly.{sound-orderly, sound-one-crosspoint}
+use Rattle.model.proofs.SoundPhase.{phase-sound}
+use Rattle.model.proofs.Shapes.{waiting-injective}
+use Rattle.layout.specs.Answer.{departuresBytes, answerBytes, answerSize}
+use Rattle.layout.specs.Host.{filled}
+use Rattle.layout.specs.Number.{bytesOf}
+use Rattle.layout.specs.Entry.{portsIn, clockIn, countIn}
+use Rattle.layout.specs.Records.{placeByteAt}
+use Rattle.layout.specs.Table.{IsTable, encode, stateOf}
+use Rattle.layout.proofs.Number.{bytes?}
+use Rattle.layout.proofs.Answer.{length-departuresBytes, length-answerBytes}
+use Rattle.layout.proofs.Table.{decode-sound, decode-encode, stateOf-encode, sound-sections}
+use Rattle.places.specs.View.{inTable, InTable}
+use Rattle.places.specs.Sections.{entryPlaced, sectionPlaced, sectionsPlaced}
+use Rattle.places.specs.Loading.{Loaded}
+use Rattle.places.proofs.Placed.{inTable-waiting, length-numbers, getD-numbers, decode-readable, decode-ports, decode-clock}
+use Rattle.places.proofs.Placed.{decode-ports-few, decode-count-few, sectionsPlaced-same}
+use Rattle.arrival.specs.Arrival.{arrived}
+use Rattle.arrival.specs.Fault.{coming, faultIn}
+use Rattle.arrival.proofs.OneByOne.{arrived-sound}
+use Rattle.moving.specs.Moved.{Steady, Moved}
+use Rattle.departure.specs.Departing.{Ready, leavingIn, departed}
+use Rattle.departure.proofs.Put.{put-next}
+use Rattle.fabric.specs.Slot.{courseIn, between, settled, Scheduled}
+
+------------------------------------------------------------------------
+-- lengths of sections
+
+lengths : {A : Type 0} (f g : A → List Entry) → ((a : A) → length (f a) ≡ length (g a)) → (l : List A)
+    → map length (map f l) ≡ map length (map g l)
+lengths f g h [] = refl
+lengths f g h (a ∷ l) = ap₂ (λ x y. x ∷ y) (h a) (lengths f g h l)
+
+length-number : (at : ℕ) (es : List Entry) → length (numberFrom at es) ≡ length es
+length-number at es = sym (length-map (numberFrom at es) entryOf) ∙ ap length (numberFrom-entries at es)
+
+lengths-numbered : (p : Phase) (input : ℕ) (ss : List (List Entry))
+    → map length (map (map (entryAfter p)) (numberSections input ss)) ≡ map length ss
+unfolding numberSections
+lengths-numbered p input [] = refl
+lengths-numbered p input (s ∷ ss) =
+    ap₂ (λ x y. x ∷ y)
+    (length-map (numberFrom (cellLimit * input) s) (entryAfter p) ∙ length-number (cellLimit * input) s)
+    (lengths-numbered p (input + 1) ss)
+
+lengths-moved : (p : Phase) (ss : List (List Entry)) → map length (moved p ss) ≡ map length ss
+unfolding moved numbered
+lengths-moved p ss = lengths-numbered p 0 ss
+
+------------------------------------------------------------------------
+-- the two phases
+
+module _ (table : List ℕ) (good : IsTable table) where
+  abbrev s : Switch
+  s = stateOf table
+
+  first-sound : soundSections (s .ports) (s .clock) 0 (s .sections) ≡ true
+  first-sound = sound-sections s (decode-sound table s good)
+
+  between-sound : soundSections (s .ports) (s .clock) 0 (between table) ≡ true
+  unfolding between
+  between-sound = phase-sound (s .ports) (s .clock) (s .sections) first-sound
+
+  settled-sound : soundSections (s .ports) (s .clock) 0 (settled table) ≡ true
+  unfolding settled
+  settled-sound = phase-sound (s .ports) (s .clock) (between table) between-sound
+
+  pub begins : (places : List ℕ) (cross : List (List ℕ)) → Loaded table places cross → Steady table places cross
+  begins places cross l =
+      record {
+        readable = decode-readable table s good;
+        column = l .size;
+        places-good = l .places;
+        orderly = subst Orderly (sym (l .cells)) (sound-orderly (s .ports) (s .clock) (s .sections) first-sound);
+        single =
+            subst OneCrosspoint (sym (l .cells)) (sound-one-crosspoint (s .ports) (s .clock) (s .sections) first-sound);
+        square = l .square;
+        agrees = l .agrees;
+      }
+
+  module _ (places₁ places₂ places₃ : List ℕ) (cross₁ cross₂ cross₃ : List (List ℕ)) (l : Loaded table places₁ cross₁)
+      (m : Moved table places₁ places₂ cross₂) (n : Moved table places₂ places₃ cross₃) where
+    cells-between : inTable table places₂ ≡ waiting (between table)
+    unfolding between
+    cells-between =
+        m .cells ∙ ap (λ l. relocated (phase l) l) (l .cells)
+        ∙ sym (waiting-moved (phase (waiting (s .sections))) (s .sections))
+
+    cells-settled : inTable table places₃ ≡ waiting (settled table)
+    unfolding settled
+    cells-settled =
+        n .cells ∙ ap (λ l. relocated (phase l) l) cells-between
+        ∙ sym (waiting-moved (phase (waiting (between table))) (between table))
+
+    pub schedules : (one two : ℕ) → one ≡ phase (inTable table places₁) .proposals
+        → two ≡ phase (inTable table places₂) .proposals → Scheduled table places₃ one two
+    schedules one two e f =
+        record {
+          ready =
+              record {
+                good = good;
+                size = n .steady .column;
+                places = n .steady .places-good;
+                orderly = n .steady .orderly;
+              };
+          cells = cells-settled;
+          first = e ∙ ap (λ l. phase l .proposals) (l .cells);
+          second = f ∙ ap (λ l. phase l .proposals) cells-between;
+        }
+
+  -- the column that the table itself has
+  abbrev own : List ℕ
+  own = map (placeByteAt table) (numbersFrom 0 1024)
+
+  own-at : (k : ℕ) → InTable table k → getD own k 0 ≡ placeByteAt table k
+  own-at k i =
+      let few : countIn table (k / cellLimit) ≤ cellLimit =
+      decode-count-few table s good (k / cellLimit) (omega (arith, decode-ports-few table s good, i .input)) in
+      getD-numbers (placeByteAt table) 0 1024 k 0 (omega (arith, few, i .position, i .input, decode-ports-few table s good))
+      ∙ ap (placeByteAt table) (omega arith)
+
+  lengths-placed : (places : List ℕ) → map length (sectionsPlaced table places) ≡ map length (s .sections)
+  unfolding sectionsPlaced sectionPlaced
+  lengths-placed places =
+      lengths (sectionPlaced table places) (sectionPlaced table own)
+      (λ i. length-numbers (entryPlaced table places) (cellLimit * i) (countIn table i)
+      ∙ sym (length-numbers (entryPlaced table own) (cellLimit * i) (countIn table i)))
+      (upTo (portsIn table))
+      ∙ ap (map length) (sectionsPlaced-same table s good own own-at)
+
+  placed : (places : List ℕ) (one two : ℕ) → Scheduled table places one two → sectionsPlaced table places ≡ settled table
+  unfolding settled between
+  placed places one two h =
+      waiting-injective (sectionsPlaced table places) (settled table)
+      (lengths-placed places
+      ∙ sym (lengths-moved (phase (waiting (s .sections))) (s .sections))
+      ∙ sym (lengths-moved (phase (waiting (between table))) (between table)))
+      (inTable-waiting table places ∙ h .cells)
+
+------------------------------------------------------------------------
+-- the slot
+
+module _ (table arrivals : List ℕ) (t : IsTable table) (clear : faultIn table arrivals ≡ none)
+    (early : clockIn table < clockEnd) (bytes : bytes? arrivals ≡ true) where
+  abbrev came : List ℕ
+  came = encode (arrived table arrivals)
+
+  came-state : stateOf came ≡ arrived table arrivals
+  came-state = stateOf-encode (arrived table arrivals) (arrived-sound table arrivals t clear early bytes)
+
+  pub came-table : IsTable came
+  came-table =
+      decode-encode (arrived table arrivals) (arrived-sound table arrivals t clear early bytes) ∙ ap some (sym came-state)
+
+  module _ (places : List ℕ) (one two : ℕ) (h : Scheduled came places one two) where
+    settled-is : settled came ≡ courseIn table arrivals .settled
+    unfolding settled between courseIn run arrived
+    settled-is =
+        ap (λ ss. moved (phase (waiting (moved (phase (waiting ss)) ss))) (moved (phase (waiting ss)) ss))
+        (ap (λ s. s .sections) came-state)
+
+    out-is : leavingIn came places ≡ leaving (waiting (courseIn table arrivals .settled))
+    unfolding leavingIn
+    out-is = ap leaving (h .cells ∙ ap waiting settled-is)
+
+    pub departs : departed came places ≡ courseIn table arrivals .switch
+    unfolding departed courseIn run arrived
+    departs =
+        λ k.
+        record {
+          ports = (decode-ports came (stateOf came) came-table ∙ ap (λ s. s .ports) came-state) k;
+          clock = (decode-clock came (stateOf came) came-table ∙ ap (λ s. s .clock) came-state) k;
+          sections = ap₂ without out-is (placed came came-table places one two h ∙ settled-is) k;
+        }
+
+    pub answers : departuresOf (portsIn came) (leavingIn came places) ≡ courseIn table arrivals .departures
+    unfolding courseIn run arrived
+    answers = ap₂ departuresOf (decode-ports came (stateOf came) came-table ∙ ap (λ s. s .ports) came-state) out-is
+
+    pub first-is : one ≡ courseIn table arrivals .one .proposals
+    unfolding courseIn run arrived
+    first-is = h .first ∙ ap (λ s. phase (waiting (s .sections)) .proposals) came-state
+
+    pub second-is : two ≡ courseIn table arrivals .two .proposals
+    unfolding courseIn run arrived between
+    second-is =
+        h .second
+        ∙ ap (λ s. phase (waiting (moved (phase (waiting (s .sections))) (s .sections))) .proposals) came-state
+
+  -- the table and the answer when the departure is done and the proposals are written
+  pub ran-table : (came′ places new : List ℕ) (one two : ℕ) → came′ ≡ encode (arrived table arrivals)
+      → Scheduled came′ places one two → new ≡ encode (departed came′ places)
+      → new ≡ encode (courseIn table arrivals .switch)
+  ran-table came′ places new one two e h w =
+      w ∙ ap encode (ap (λ bs. departed bs places) e ∙ departs places one two (subst (λ bs. Scheduled bs places one two) e h))
+
+  pub ran-answer : (came′ places answer mid new : List ℕ) (one two : ℕ) → came′ ≡ encode (arrived table arrivals)
+      → Scheduled came′ places one two → answerSize ≤ length answer
+      → mid ≡ filled (departuresBytes 16 (departuresOf (portsIn came′) (leavingIn came′ places))) answer
+      → new ≡ take 448 mid ++ ((bytesOf 4 one ++ bytesOf 4 two) ++ drop 456 mid)
+      → new ≡ filled (answerBytes (answerOf (courseIn table arrivals))) answer
+  unfolding filled answerBytes answerOf bytesOf
+  ran-answer came′ places answer mid new one two e h room sent written =
+      let g : Scheduled came places one two = subst (λ bs. Scheduled bs places one two) e h in
+      let ds : List ℕ = departuresBytes 16 (departuresOf (portsIn came′) (leavingIn came′ places)) in
+      let size : length ds ≡ 448 =
+      length-departuresBytes 16 (departuresOf (portsIn came′) (leavingIn came′ places)) in
+      let same : departuresOf (portsIn came′) (leavingIn came′ places) ≡ courseIn table arrivals .departures =
+      ap (λ bs. departuresOf (portsIn bs) (leavingIn bs places)) e ∙ answers places one two g in
+      let front : mid ≡ ds ++ drop 448 answer = sent ∙ ap (λ n. ds ++ drop n answer) size in
+      let put : new ≡ (ds ++ (bytesOf 4 one ++ bytesOf 4 two)) ++ drop 456 answer =
+      put-next 0 448 8 ds (bytesOf 4 one ++ bytesOf 4 two) answer mid new size refl room front written in
+      let whole : answerBytes (answerOf (courseIn table arrivals)) ≡ ds ++ (bytesOf 4 one ++ bytesOf 4 two) =
+      ap₂ (λ x y. x ++ y) (ap (departuresBytes 16) (sym same))
+      (ap₂ (λ x y. bytesOf 4 x ++ bytesOf 4 y) (sym (first-is places one two g)) (sym (second-is places one two g))) in
+      put
+      ∙ ap (λ bs. bs ++ drop 456 answer) (sym whole)
+      ∙ ap (λ n. answerBytes (answerOf (courseIn table arrivals)) ++ drop n answer)
+      (sym (length-answerBytes (answerOf (courseIn table arrivals))))

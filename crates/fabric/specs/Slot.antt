@@ -1,0 +1,49 @@
+-- Document 01, "One slot": a slot on the bytes of a sound table and of whole records.
+use mathlib.Core.List.{List}
+use mathlib.Core.Path.{_≡_}
+use mathlib.Core.Option.{some}
+use Prim.Native.Nat.{ℕ, _/_}
+use lib.ListN.{length}
+use Rattle.cell.specs.declared.Arrival.{Arrival}
+use Rattle.model.specs.State.{Entry}
+use Rattle.model.specs.Phase.{waiting, phase, moved}
+use Rattle.model.specs.Checks.{Outcome, done, refused}
+use Rattle.model.specs.Crossbar.{Course, run, slot}
+use Rattle.layout.specs.Arrivals.{arrivalSize, arrivalsOf}
+use Rattle.layout.specs.Table.{stateOf}
+use Rattle.arrival.specs.declared.Fault.{Fault}
+use Rattle.arrival.specs.declared.Fault.the-variants.{Clear, At}
+use Rattle.arrival.specs.Fault.{coming}
+use Rattle.places.specs.View.{inTable}
+use Rattle.departure.specs.Departing.{Ready}
+
+-- the records of the bytes
+unfoldable pub recordsIn : List ℕ → List Arrival
+recordsIn arrivals = arrivalsOf (length arrivals / arrivalSize) arrivals
+
+-- what the slot does
+unfoldable pub slotIn : List ℕ → List ℕ → Outcome Course
+slotIn table arrivals = slot (stateOf table) (some (recordsIn arrivals))
+
+-- the course of a slot without a fault
+unfoldable pub courseIn : List ℕ → List ℕ → Course
+courseIn table arrivals = run (stateOf table) (coming table arrivals)
+
+-- the sections after the first phase and after the second, from those of the table
+unfoldable pub between : List ℕ → List (List Entry)
+between table = moved (phase (waiting (stateOf table .sections))) (stateOf table .sections)
+
+unfoldable pub settled : List ℕ → List (List Entry)
+settled table = moved (phase (waiting (between table))) (between table)
+
+-- what the two phases leave: the column has the places after them, and the proposals are counted
+pub record Scheduled (table places : List ℕ) (one two : ℕ) : Type 0 where
+  pub ready : Ready table places
+  pub cells : inTable table places ≡ waiting (settled table)
+  pub first : one ≡ phase (waiting (stateOf table .sections)) .proposals
+  pub second : two ≡ phase (waiting (between table)) .proposals
+
+-- the refusal of an outcome, if it is one
+unfoldable pub refusalOf : {A : Type 0} → Outcome A → Fault
+refusalOf (done a) = Clear
+refusalOf (refused r place) = At r place
