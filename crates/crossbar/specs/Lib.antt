@@ -1,2 +1,3 @@
 pub mod Cleared
 pub mod HostCalls
+pub mod Lent

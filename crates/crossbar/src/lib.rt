@@ -1,8 +1,15 @@
 // What the chassis host calls: numbers and byte slices, no call with a condition on what it is lent.
+mod lent;
 mod tally;
 
+use arrival::Fault;
 use cell::Refusal;
 use cell::Switch;
+use lent::departures_in;
+use lent::lent_slot;
+use lent::result_of;
+use tally::count_refused;
+use tally::count_run;
 ghost use mathlib.Core.Path.{_≡_};
 ghost use Prim.Native.Nat.{_≤_};
 ghost use lib.ListN.{length};
@@ -10,9 +17,13 @@ ghost use Rattle.model.specs.State.{fresh};
 ghost use Rattle.layout.specs.Table.{encode, tableSize};
 ghost use Rattle.crossbar.specs.Cleared.{cleared};
 ghost use Rattle.layout.specs.Host.{checkCall, startCall, bufferAfter, resultOf, filled};
+ghost use Rattle.layout.specs.Host.{slotCall, tableAfter, answerAfter, tallyBytesAfter};
 
 // The bytes of a table.
 pub const TABLE_BYTES: usize = 16416;
+
+// The bytes of a tally.
+pub const TALLY_BYTES: usize = 32;
 
 // Writes the table of a fresh switch into the first bytes of the buffer: 0. Refuses with 1 a number of ports that is not
 // 1 to 16, then with 10 a buffer that is too short; a refusal writes nothing.
@@ -40,6 +51,36 @@ pub extern "C" fn check(table: &[u8]) -> u32
         return 0;
     }
     Refusal::BrokenTable.number()
+}
+
+// Takes a slot on the lent table with the lent arrivals: 0. The table is then the one after the slot, the first bytes of
+// the answer's buffer are its answer, and the tally counts it. A refusal is its number and 256 times the record's place
+// (from 1; 0 for 2, 10 and 3), the first one of: 2, the table is broken, the arrivals are no whole records or the tally
+// has another length; 10, the buffer is too short for the answer; 3, the clock's end; record by record 4 to 8. A refusal
+// keeps the table and the buffer, and the tally counts a refused slot; a tally of another length is kept too.
+#[no_mangle]
+pub extern "C" fn slot(
+    table: &mut [u8],
+    arrivals: &[u8],
+    answer: &mut [u8],
+    tally: &mut [u8],
+) -> u64
+    ensures { λ r. ⌜ r ≡ resultOf (slotCall (now (table .entry)) (now (arrivals .entry)) (now (answer .entry)) (now (tally .entry))) ⌝ }
+    ensures { λ _. ⌜ now (table .exit) ≡ tableAfter (now (table .entry)) (slotCall (now (table .entry)) (now (arrivals .entry)) (now (answer .entry)) (now (tally .entry))) ⌝ }
+    ensures { λ _. ⌜ now (answer .exit) ≡ answerAfter (now (answer .entry)) (slotCall (now (table .entry)) (now (arrivals .entry)) (now (answer .entry)) (now (tally .entry))) ⌝ }
+    ensures { λ _. ⌜ now (tally .exit) ≡ tallyBytesAfter (now (arrivals .entry)) (now (tally .entry)) (slotCall (now (table .entry)) (now (arrivals .entry)) (now (answer .entry)) (now (tally .entry))) ⌝ }
+{
+    // Such a tally can count nothing.
+    if tally.len() != TALLY_BYTES {
+        return Refusal::BrokenTable.number() as u64;
+    }
+    let fault = lent_slot(table, arrivals, answer);
+    let Fault::Clear = fault else {
+        count_refused(tally);
+        return result_of(fault);
+    };
+    count_run(tally, (arrivals.len() / 20) as u64, departures_in(answer));
+    0
 }
 
 // The table of a fresh switch: its header, and zeros.
