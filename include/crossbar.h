@@ -1,8 +1,10 @@
-/* A buffered crossbar of up to sixteen ports. This header is the whole manual of the host.
+/* A buffered crossbar of up to sixteen ports. This header is the whole manual of the host; examples/host.c is an
+   example of it.
 
-   The switch is a table of bytes that the host keeps. start makes one, check looks whether bytes are one. No call asks
-   anything of what it is lent: a bad argument is a refusal. A call keeps nothing and allocates nothing. No pointer may
-   be null. The layouts are in docs/LAYOUT.md. */
+   The switch is a table of bytes that the host keeps and lends to every call: start makes one, slot runs it for one
+   slot, check says whether bytes are one. No call asks anything of the values that it is lent: a bad one is a refusal.
+   A call keeps nothing, allocates nothing and has no state of its own. No pointer may be null, not even that of no
+   bytes, and what one call is lent may not overlap. docs/LAYOUT.md has every byte. */
 #ifndef CROSSBAR_H
 #define CROSSBAR_H
 
@@ -25,7 +27,7 @@ extern "C" {
 #define CROSSBAR_ANSWER_BYTES 456u    /* 16 departures, then the proposals of both phases */
 #define CROSSBAR_TALLY_BYTES 32u      /* slots run, slots refused, cells in, cells out: 64 bits each */
 
-/* Results. 0 is done. */
+/* Refusals. 0 is done. */
 #define CROSSBAR_BAD_SIZE 1u      /* bad size: the number of ports is not 1 to 16 */
 #define CROSSBAR_BROKEN_TABLE 2u  /* broken table: the lent table is not sound or has the wrong length */
 #define CROSSBAR_CLOCK_END 3u     /* clock end: the clock stands at 4,294,967,295 */
@@ -37,12 +39,38 @@ extern "C" {
 #define CROSSBAR_BAD_LINE 9u      /* bad line: the text breaks the grammar */
 #define CROSSBAR_SHORT_BUFFER 10u /* short tray: the buffer for an answer is too short */
 
-/* Writes the table of a fresh switch into the first CROSSBAR_TABLE_BYTES of table, with ports from 1 to 16, no cells and any
-   first slot; bytes past it are kept. Returns 0, or, changing nothing, CROSSBAR_BAD_SIZE, then CROSSBAR_SHORT_BUFFER. */
+/* The result of slot, taken apart. */
+#define CROSSBAR_REFUSAL(result) ((uint32_t)((result) & 255u)) /* 0, or a refusal */
+#define CROSSBAR_PLACE(result) ((uint64_t)(result) >> 8)       /* of the refused record, from 1; 0 for 2, 3 and 10 */
+
+/* Writes the table of a fresh switch into the first CROSSBAR_TABLE_BYTES of table, with ports from 1 to 16, no cells
+   and any first slot; bytes past it are kept. Returns 0, or, changing nothing, CROSSBAR_BAD_SIZE, then
+   CROSSBAR_SHORT_BUFFER. */
 uint32_t start(uint32_t ports, uint32_t first, uint8_t *table, size_t table_bytes);
 
 /* Says whether bytes are the table of a sound state: 0, or CROSSBAR_BROKEN_TABLE. Changes nothing. */
 uint32_t check(const uint8_t *table, size_t table_bytes);
+
+/* Runs one slot. arrivals are records of CROSSBAR_ARRIVAL_BYTES, a cell each; an empty slot has none.
+
+   Done, the result is 0. table is the switch after the slot, its clock one up. The first CROSSBAR_ANSWER_BYTES of
+   answer are the departures, output 0 first, then the proposals of both phases; bytes past them are kept. tally counts
+   one slot run, the cells that arrived and those that departed; a count at its top stays there. On a table that came
+   from start by slot calls alone, the departures are those of a PIFO output-queued switch: each output sends, of all
+   cells for it in the switch, the one of the smallest rank; for equal ranks that of the smaller slot, then of the
+   smaller input.
+
+   A refusal is the first fault in this order:
+     CROSSBAR_BROKEN_TABLE  table is not sound or not CROSSBAR_TABLE_BYTES long, arrivals_bytes is no multiple of
+                            CROSSBAR_ARRIVAL_BYTES, or tally_bytes is not CROSSBAR_TALLY_BYTES
+     CROSSBAR_SHORT_BUFFER  answer_bytes is below CROSSBAR_ANSWER_BYTES
+     CROSSBAR_CLOCK_END
+     record by record: CROSSBAR_NO_SUCH_PORT, CROSSBAR_NO_SUCH_FLOW, CROSSBAR_INPUT_ORDER, CROSSBAR_RANK_ORDER,
+                       CROSSBAR_FULL, the last two by the cells in the switch before the slot
+   It changes nothing but the tally's count of refused slots, and not even that where tally_bytes is wrong. So the host
+   can mend the arrivals and call again. */
+uint64_t slot(uint8_t *table, size_t table_bytes, const uint8_t *arrivals, size_t arrivals_bytes, uint8_t *answer,
+              size_t answer_bytes, uint8_t *tally, size_t tally_bytes);
 
 #ifdef __cplusplus
 }

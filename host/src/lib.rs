@@ -1,5 +1,5 @@
-//! Safe calls of the crossbar. The layouts are in docs/LAYOUT.md, the promises of start and check in include/crossbar.h. It
-//! links once the static library has slot.
+//! Safe calls of the crossbar: a switch, what a slot answers, the tally, and refusals. The promises of the three calls are
+//! in include/crossbar.h, the layouts in docs/LAYOUT.md. It links target/staticlib/libcrossbar.a.
 
 pub const PORTS: usize = 16;
 pub const TABLE_BYTES: usize = 16416;

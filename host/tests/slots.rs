@@ -3,43 +3,12 @@
 //!
 //! SLOTS=n and SEED=n in the environment run longer or another list.
 
+mod random;
 mod reference;
 
 use crossbar_host::{check_bytes, slot_bytes, start_bytes, ANSWER_BYTES, TABLE_BYTES, TALLY_BYTES};
+use random::{setting, Random};
 use reference::{Answer, Cell, Crossbar, Entry, Pifo, Place, Record, CLOCK_END};
-
-struct Random(u64);
-
-impl Random {
-    fn next(&mut self) -> u64 {
-        self.0 ^= self.0 << 13;
-        self.0 ^= self.0 >> 7;
-        self.0 ^= self.0 << 17;
-        self.0
-    }
-
-    fn below(&mut self, n: u64) -> u64 {
-        (self.next() >> 11) % n
-    }
-
-    fn one_in(&mut self, n: u64) -> bool {
-        self.below(n) == 0
-    }
-
-    fn pick<T: Copy>(&mut self, from: &[T]) -> T {
-        from[self.below(from.len() as u64) as usize]
-    }
-
-    fn fill(&mut self, bytes: &mut [u8]) {
-        for b in bytes {
-            *b = self.next() as u8;
-        }
-    }
-}
-
-fn setting(name: &str, default: u64) -> u64 {
-    std::env::var(name).ok().map_or(default, |v| v.parse().expect("a number"))
-}
 
 fn bytes_of(records: &[Record]) -> Vec<u8> {
     records.iter().flatten().flat_map(|n| n.to_le_bytes()).collect()

@@ -1,0 +1,159 @@
+//! A crossbar in plain Rust, written for speed from document 01 and docs/LAYOUT.md. It has the bytes, the checks and
+//! the results of the proved one and shares nothing with it, so that the two can be timed side by side.
+
+mod fabric;
+pub mod load;
+mod table;
+
+use fabric::Fabric;
+use table::{count, entries, rows, word, Row, CELLS};
+
+pub use table::{Table, PORTS, TABLE_BYTES};
+pub const ARRIVAL_BYTES: usize = 20;
+pub const DEPARTURE_BYTES: usize = 28;
+pub const ANSWER_BYTES: usize = PORTS * DEPARTURE_BYTES + 8;
+pub const TALLY_BYTES: usize = 32;
+
+type Arrival = [u8; ARRIVAL_BYTES];
+type Departure = [u8; DEPARTURE_BYTES];
+
+const BAD_SIZE: u32 = 1;
+const BROKEN_TABLE: u32 = 2;
+const CLOCK_END: u32 = 3;
+const NO_SUCH_PORT: u32 = 4;
+const NO_SUCH_FLOW: u32 = 5;
+const INPUT_ORDER: u32 = 6;
+const RANK_ORDER: u32 = 7;
+const FULL: u32 = 8;
+const SHORT_BUFFER: u32 = 10;
+
+/// A refusal and its record's place, from 1, or 0.
+type Refused = (u32, usize);
+
+/// Writes the table of a fresh switch into the first bytes of the buffer: 0, or the refusal.
+pub fn start(ports: u32, first: u32, buffer: &mut [u8]) -> u32 {
+    if ports == 0 || ports as usize > PORTS {
+        return BAD_SIZE;
+    }
+    let Some(table) = buffer.first_chunk_mut::<TABLE_BYTES>() else {
+        return SHORT_BUFFER;
+    };
+    table.fill(0);
+    table[0] = 1;
+    table[4] = ports as u8;
+    table[8..12].copy_from_slice(&first.to_le_bytes());
+    0
+}
+
+/// 0 for the table of a sound state, 2 for any other bytes.
+pub fn check(table: &[u8]) -> u32 {
+    match table.try_into() {
+        Ok(table) if rows(table).is_some() => 0,
+        _ => BROKEN_TABLE,
+    }
+}
+
+/// Runs one slot: 0, or the refusal and 256 times the record's place.
+pub fn slot(table: &mut [u8], arrivals: &[u8], answer: &mut [u8], tally: &mut [u8]) -> u64 {
+    let Ok(tally) = tally.try_into() else {
+        return BROKEN_TABLE as u64;
+    };
+    match run(table, arrivals, answer) {
+        Ok((arrived, departed)) => {
+            raise(tally, [1, 0, arrived, departed]);
+            0
+        }
+        Err((refusal, place)) => {
+            raise(tally, [0, 1, 0, 0]);
+            refusal as u64 + 256 * place as u64
+        }
+    }
+}
+
+fn raise(tally: &mut [u8; TALLY_BYTES], by: [u64; 4]) {
+    for (count, by) in tally.as_chunks_mut().0.iter_mut().zip(by) {
+        *count = u64::from_le_bytes(*count).saturating_add(by).to_le_bytes();
+    }
+}
+
+/// Runs one slot on table and answer: the numbers of cells in and out. A refusal changes nothing.
+fn run(table: &mut [u8], arrivals: &[u8], answer: &mut [u8]) -> Result<(u64, u64), Refused> {
+    let table: &mut Table = table.try_into().or(Err((BROKEN_TABLE, 0)))?;
+    let rows = rows(table).ok_or((BROKEN_TABLE, 0))?;
+    let (records, []) = arrivals.as_chunks() else {
+        return Err((BROKEN_TABLE, 0));
+    };
+    let answer: &mut [u8; ANSWER_BYTES] = answer.first_chunk_mut().ok_or((SHORT_BUFFER, 0))?;
+    if table::clock(table) == u32::MAX {
+        return Err((CLOCK_END, 0));
+    }
+    let positions = accept(table, &rows, records)?;
+    let mut fabric = Fabric::new(table, rows);
+    for (r, at) in records.iter().zip(positions) {
+        fabric.arrive(r, at);
+    }
+    let (proposals, buffers) = fabric.run_phases();
+    answer.fill(0);
+    answer[448..452].copy_from_slice(&proposals[0].to_le_bytes());
+    answer[452..].copy_from_slice(&proposals[1].to_le_bytes());
+    let departed = fabric.depart(&buffers, answer.as_chunks_mut().0);
+    Ok((records.len() as u64, departed))
+}
+
+/// The position in its input's section that each record's cell takes; or the first refusal. Inputs rise, so at most
+/// sixteen records are accepted.
+fn accept(table: &Table, rows: &[Row; PORTS], records: &[Arrival]) -> Result<[usize; PORTS], Refused> {
+    let ports = table::ports(table) as u32;
+    let mut positions = [0; PORTS];
+    let mut lowest = 0;
+    for (k, r) in records.iter().enumerate() {
+        let [input, output, flow] = [0, 4, 8].map(|at| word(r, at));
+        let refused = |refusal| (refusal, k + 1);
+        if input >= ports || output >= ports {
+            return Err(refused(NO_SUCH_PORT));
+        }
+        if flow > 7 {
+            return Err(refused(NO_SUCH_FLOW));
+        }
+        if input < lowest {
+            return Err(refused(INPUT_ORDER));
+        }
+        lowest = input + 1;
+        let input = input as usize;
+        positions[k] = position(table, input, rows[input].listed, r).ok_or(refused(RANK_ORDER))?;
+        if count(table, input) == CELLS {
+            return Err(refused(FULL));
+        }
+    }
+    Ok(positions)
+}
+
+/// Right after the last cell of the record's flow in the list, or the front; none if a cell of its flow has a higher
+/// rank.
+fn position(table: &Table, input: usize, listed: u64, r: &Arrival) -> Option<usize> {
+    let (flow, rank) = (u16::from_le_bytes([r[4], r[8]]), word(r, 12));
+    let mut position = 0;
+    for (at, e) in entries(table, input).iter().enumerate() {
+        if table::flow(e) == flow {
+            if table::rank(e) > rank {
+                return None;
+            }
+            if listed >> at & 1 != 0 {
+                position = at + 1;
+            }
+        }
+    }
+    Some(position)
+}
+
+#[cfg(test)]
+mod soundness;
+
+// The host's lists of slot calls, beside the reference switch, run here on this switch under the names that they call.
+#[cfg(test)]
+extern crate self as crossbar_host;
+#[cfg(test)]
+use {check as check_bytes, slot as slot_bytes, start as start_bytes};
+#[cfg(test)]
+#[path = "../../../host/tests/slots.rs"]
+mod slots;

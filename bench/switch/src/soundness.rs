@@ -1,0 +1,146 @@
+//! `check` beside document 01's sound table and docs/LAYOUT.md written out plainly, on sound and broken tables.
+
+use crate::load::{Load, Random};
+use crate::table::{word, Table, RECORD_BYTES, TABLE_BYTES};
+use crate::{check, slot, start, ANSWER_BYTES, TALLY_BYTES};
+
+struct Entry {
+    output: u8,
+    flow: u8,
+    place: u8,
+    rank: u32,
+    slot: u32,
+}
+
+impl Entry {
+    fn read(r: &[u8]) -> Entry {
+        Entry { output: r[0], flow: r[1], place: r[2], rank: word(r, 4), slot: word(r, 12) }
+    }
+
+    fn same_flow(&self, other: &Entry) -> bool {
+        (self.output, self.flow) == (other.output, other.flow)
+    }
+}
+
+fn sound(t: &Table) -> bool {
+    let (ports, clock) = (word(t, 4), word(t, 8));
+    word(t, 0) == 1
+        && (1..=16).contains(&ports)
+        && word(t, 12) == 0
+        && (0..16).all(|input| {
+            let count = t[16 + input] as usize;
+            let most = if input < ports as usize { 64 } else { 0 };
+            count <= most && sound_section(&t[32 + 1024 * input..][..1024], count, ports, clock)
+        })
+}
+
+fn sound_section(section: &[u8], count: usize, ports: u32, clock: u32) -> bool {
+    let records = || section[..16 * count].chunks(16);
+    let entries: Vec<Entry> = records().map(Entry::read).collect();
+    let pairs = || entries.iter().enumerate().flat_map(|(k, e)| entries[k + 1..].iter().map(move |f| (e, f)));
+    section[16 * count..].iter().all(|b| *b == 0)
+        && records().all(|r| r[3] == 0)
+        && entries
+            .iter()
+            .all(|e| (e.output as u32) < ports && e.flow < 8 && (1..=3).contains(&e.place) && e.slot < clock)
+        && pairs().all(|(e, f)| e.slot != f.slot)
+        && pairs().all(|(e, f)| !(e.place == 2 && f.place == 2 && e.output == f.output))
+        && together(&entries.iter().filter(|e| e.place == 1).collect::<Vec<_>>())
+}
+
+/// Any two cells of a flow in the list are in output priority, with none of another flow between them.
+fn together(list: &[&Entry]) -> bool {
+    (0..list.len()).all(|j| {
+        (0..j).filter(|&i| list[i].same_flow(list[j])).all(|i| {
+            (list[i].rank, list[i].slot) < (list[j].rank, list[j].slot)
+                && list[i..j].iter().all(|e| e.same_flow(list[j]))
+        })
+    })
+}
+
+/// Whether the table is sound, by both.
+fn agreed(t: &Table) -> bool {
+    let sound = sound(t);
+    assert_eq!(check(t), if sound { 0 } else { 2 });
+    sound
+}
+
+/// A few entries with few values, so that every rule is kept often and broken often.
+fn small_table(r: &mut Random) -> Table {
+    let mut t = [0; TABLE_BYTES];
+    t[0] = 1;
+    t[4] = 1 + r.below(3) as u8;
+    t[8] = 6;
+    for input in 0..t[4] as usize {
+        t[16 + input] = r.below(5) as u8;
+        for at in 0..t[16 + input] as usize {
+            let record = &mut t[32 + 1024 * input + RECORD_BYTES * at..][..RECORD_BYTES];
+            record[0] = r.below(2) as u8;
+            record[1] = r.below(2) as u8;
+            record[2] = 1 + r.below(3) as u8;
+            record[4] = r.below(3) as u8;
+            record[12] = r.below(6) as u8;
+        }
+    }
+    t
+}
+
+/// A table under load.
+fn loaded_table(cells: usize) -> Table {
+    let mut t = [0; TABLE_BYTES];
+    start(16, 4_000_000_000, &mut t);
+    let mut load = Load::new(cells);
+    for _ in 0..500 {
+        let arrivals = load.arrivals(&t);
+        assert_eq!(slot(&mut t, &arrivals, &mut [0; ANSWER_BYTES], &mut [0; TALLY_BYTES]), 0);
+    }
+    t
+}
+
+/// Gives a byte another value, or copies some bytes of an entry to another entry of its input.
+fn change(r: &mut Random, t: &mut Table) {
+    if r.below(2) == 0 {
+        let at = if r.below(3) == 0 { r.below(32) } else { r.below(TABLE_BYTES as u32) } as usize;
+        let byte = t[at];
+        t[at] = [0, 1, 2, 3, 16, 65, byte.wrapping_add(1), byte.wrapping_sub(1), byte ^ 128][r.below(9) as usize];
+    } else {
+        let section = 32 + 1024 * r.below(16) as usize;
+        let [from, to] = [(); 2].map(|_| section + RECORD_BYTES * r.below(64) as usize);
+        let (first, bytes) = [(0, 1), (0, 2), (2, 1), (4, 4), (12, 4), (12, 1), (0, 16)][r.below(7) as usize];
+        t.copy_within(from + first..from + first + bytes, to + first);
+    }
+}
+
+#[test]
+fn small_tables() {
+    let mut r = Random(88172645463325252);
+    let tables = 50_000;
+    let sound = (0..tables).filter(|_| agreed(&small_table(&mut r))).count();
+    assert!(sound > tables / 20 && sound < tables - tables / 20, "{sound} sound ones");
+}
+
+#[test]
+fn changed_tables() {
+    let mut r = Random(1442695040888963407);
+    for cells in [4, 32, 64] {
+        let t = loaded_table(cells);
+        assert!(agreed(&t));
+        let changes = 5_000;
+        let changed = |_: &u32| {
+            let mut t = t;
+            change(&mut r, &mut t);
+            agreed(&t)
+        };
+        let sound = (0..changes).filter(changed).count();
+        assert!(sound > 50 && sound < changes as usize - 50, "{sound} sound ones");
+    }
+}
+
+#[test]
+fn other_lengths() {
+    let mut t = [0; TABLE_BYTES + 1];
+    start(16, 0, &mut t);
+    for bytes in [0, 1, 32, TABLE_BYTES - 1, TABLE_BYTES, TABLE_BYTES + 1] {
+        assert_eq!(check(&t[..bytes]), if bytes == TABLE_BYTES { 0 } else { 2 });
+    }
+}

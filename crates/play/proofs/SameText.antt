@@ -1,0 +1,166 @@
+-- The player's text is the text that a player over the PIFO switch would print. By induction over the blocks of a text,
+-- with what demand 3 keeps between slot calls; that the records fit 32 bits, as demand 3 asks, is the grammar's.
+--     play-finished, play-faulty, play-refused, play-done   what a player writes, by what stands next and the answer
+--     play-turned-back, play-opened                         what it writes of a whole text, by the header
+--     header-first                                          a header's first slot fits 32 bits
+--     same-from                                             from a cursor on, with two switches so kept
+--     same-text                                             for every text
+-- Assumes nothing.
+use Prim.Native.Nat.{ℕ, zero, suc, _+_}
+use mathlib.Core.Bool.{Bool, true, false}
+use mathlib.Core.List.{List, _++_}
+use mathlib.Core.Option.{Option, some}
+use mathlib.Core.Path.{_≡_, refl, sym, ap, _∙_}
+use lib.ListN.{length}
+use Rattle.cell.specs.declared.Arrival.{Arrival}
+use Rattle.cell.specs.declared.Cell.{Cell}
+use Rattle.cell.specs.declared.Refusal.{Refusal}
+use Rattle.cell.specs.declared.Refusal.the-variants.{BadLine}
+use Rattle.cell.specs.Limits.{fits32, portsInRange}
+use Rattle.model.specs.Checks.{Outcome, done, refused}
+use Rattle.model.specs.Crossbar.{Course, slot, switchAfter}
+use Rattle.model.specs.Emulation.{lent, AnswersAlike}
+use Rattle.model.specs.Pifo.{Pifo, freshPifo, Sent, slotPifo, pifoAfter}
+use Rattle.model.specs.State.{Switch, fresh}
+use Rattle.model.proofs.Demand3.{Kept, step, kept-fresh}
+use Rattle.trace.specs.declared.Key.the-variants.{Ports, First, Slot, End}
+use Rattle.trace.specs.Line.{line}
+use Rattle.trace.specs.Reader.{Cursor, Read, got, badAt, number, Next, slotAhead, finished, faulty, next}
+use Rattle.trace.specs.Reader.{Header, opened, refusedAt, header}
+use Rattle.trace.proofs.Blocks.{at, number-exact, blockFits-e, Stands, next-exact}
+use Rattle.trace.proofs.RoundTrip.{header-bad-ports, header-bad-size, header-bad-first, header-opened}
+use Rattle.trace.proofs.RoundTrip.{Opens, header-exact}
+use Rattle.play.specs.Player.{Machine, departuresText, refusalText, lineOf, playFrom, play}
+use Rattle.play.specs.Player.{crossbar, pifo, playCrossbar, playPifo}
+
+------------------------------------------------------------------------
+-- a player over any switch
+
+module _ {S : Type 0} (m : Machine S) where
+  module _ (most clock : ℕ) (s : S) (c : Cursor) where
+    pub play-finished : next clock c ≡ finished → playFrom m (suc most) clock s c ≡ line End clock
+    unfolding playFrom
+    play-finished h = rw (h, playFrom)
+
+    pub play-faulty : {l : ℕ} → next clock c ≡ faulty l → playFrom m (suc most) clock s c ≡ refusalText BadLine l
+    unfolding playFrom
+    play-faulty h = rw (h, playFrom)
+
+    module _ {records : List Arrival} {d : Cursor} (h : next clock c ≡ slotAhead records d) where
+      pub play-refused : {r : Refusal} {place : ℕ} → m .slot s records ≡ refused r place
+          → playFrom m (suc most) clock s c ≡ refusalText r (lineOf (c .line) place)
+      unfolding playFrom
+      play-refused k = rw (h, k, playFrom)
+
+      pub play-done : {x : List (Option Cell) × S} → m .slot s records ≡ done x
+          → playFrom m (suc most) clock s c
+          ≡ line Slot clock ++ (departuresText (x .0) ++ playFrom m most (clock + 1) (x .1) d)
+      unfolding playFrom
+      play-done k = rw (h, k, playFrom)
+
+  pub play-turned-back : (t : List ℕ) {r : Refusal} {l : ℕ} → header t ≡ refusedAt r l → play m t ≡ refusalText r l
+  unfolding play
+  play-turned-back t h = rw (h, play)
+
+  pub play-opened : (t : List ℕ) {n first : ℕ} {c : Cursor} → header t ≡ opened n first c
+      → play m t ≡ line Ports n ++ (line First first ++ playFrom m (length (c .text)) first (m .fresh n first) c)
+  unfolding play
+  play-opened t h = rw (h, play)
+
+------------------------------------------------------------------------
+-- the two switches as a player sees them
+
+module _ (s : Switch) (records : List Arrival) where
+  crossbar-done : {x : Course} → slot s (some records) ≡ done x
+      → crossbar .slot s records ≡ done (x .departures, x .switch)
+  unfolding crossbar
+  crossbar-done h = rw (h, crossbar)
+
+  crossbar-refused : {r : Refusal} {place : ℕ} → slot s (some records) ≡ refused r place
+      → crossbar .slot s records ≡ refused r place
+  unfolding crossbar
+  crossbar-refused h = rw (h, crossbar)
+
+module _ (q : Pifo) (records : List Arrival) where
+  pifo-done : {x : Sent} → slotPifo q (some records) ≡ done x → pifo .slot q records ≡ done (x .departures, x .pifo)
+  unfolding pifo
+  pifo-done h = rw (h, pifo)
+
+  pifo-refused : {r : Refusal} {place : ℕ} → slotPifo q (some records) ≡ refused r place
+      → pifo .slot q records ≡ refused r place
+  unfolding pifo
+  pifo-refused h = rw (h, pifo)
+
+------------------------------------------------------------------------
+-- from a cursor on
+
+abbrev Same : ℕ → ℕ → Type 0
+Same most clock =
+    (s : Switch) (q : Pifo) (c : Cursor) → Kept s q → playFrom crossbar most clock s c ≡ playFrom pifo most clock q c
+
+-- one slot, by the two answers, where what follows it comes out the same
+module _ (most clock : ℕ) (s : Switch) (q : Pifo) (c : Cursor) (records : List Arrival) (d : Cursor)
+    (ahead : next clock c ≡ slotAhead records d) (rest : Same most (clock + 1)) where
+  same-slot : (o : Outcome Course) (p : Outcome Sent) → slot s (some records) ≡ o → slotPifo q (some records) ≡ p
+      → AnswersAlike o p → Kept (switchAfter s o) (pifoAfter q p)
+      → playFrom crossbar (suc most) clock s c ≡ playFrom pifo (suc most) clock q c
+  unfolding switchAfter pifoAfter
+  same-slot (done x) (done y) e f alike kept =
+      play-done crossbar most clock s c ahead (crossbar-done s records e)
+      ∙ ap (λ t. line Slot clock ++ (departuresText (x .departures) ++ t)) (rest (x .switch) (y .pifo) d kept)
+      ∙ ap (λ ds. line Slot clock ++ (departuresText ds ++ playFrom pifo most (clock + 1) (y .pifo) d)) alike
+      ∙ sym (play-done pifo most clock q c ahead (pifo-done q records f))
+  same-slot (done x) (refused r place) e f alike kept = absurd alike
+  same-slot (refused r place) (done y) e f alike kept = absurd alike
+  same-slot (refused r place) (refused r′ place′) e f alike kept =
+      play-refused crossbar most clock s c ahead (crossbar-refused s records e)
+      ∙ ap (λ x. refusalText x (lineOf (c .line) place)) (alike .0)
+      ∙ ap (λ x. refusalText r′ (lineOf (c .line) x)) (alike .1)
+      ∙ sym (play-refused pifo most clock q c ahead (pifo-refused q records f))
+
+pub same-from : (most clock : ℕ) (s : Switch) (q : Pifo) (c : Cursor) → Kept s q
+    → playFrom crossbar most clock s c ≡ playFrom pifo most clock q c
+unfolding playFrom lent
+same-from zero clock s q c kept = refl
+same-from (suc most) clock s q c kept = go (next clock c) refl (next-exact clock c) (same-from most (clock + 1))
+  where
+    go : (n : Next) → next clock c ≡ n → Stands clock c (next clock c) → Same most (clock + 1)
+        → playFrom crossbar (suc most) clock s c ≡ playFrom pifo (suc most) clock q c
+    go finished n stands rest = play-finished crossbar most clock s c n ∙ sym (play-finished pifo most clock q c n)
+    go (faulty l) n stands rest = play-faulty crossbar most clock s c n ∙ sym (play-faulty pifo most clock q c n)
+    go (slotAhead records d) n stands rest =
+        let (i, j) = rw n at stands in
+        let t = step s q kept (some records) (blockFits-e records j .1) in
+        same-slot most clock s q c records d n rest _ _ refl refl (t .answers) (t .kept)
+
+------------------------------------------------------------------------
+-- whole texts
+
+pub header-first : (t : List ℕ) {n first : ℕ} {d : Cursor} → header t ≡ opened n first d → fits32 first ≡ true
+header-first t {first} h = go (number Ports (at 1 t)) refl
+  where
+    inRange : (m : ℕ) (c : Cursor) → number Ports (at 1 t) ≡ got m c → (b : Bool) → portsInRange m ≡ b
+        → (r : Read ℕ) → number First c ≡ r → fits32 first ≡ true
+    inRange m c p false b r q = cc (header-bad-size t p b)
+    inRange m c p true b (badAt l) q = cc (header-bad-first t p b q)
+    inRange m c p true b (got f e) q =
+        let x : f ≡ first = cc (header-opened t p b q) in
+        rw (← x) (number-exact First c f e q .1)
+
+    go : (r : Read ℕ) → number Ports (at 1 t) ≡ r → fits32 first ≡ true
+    go (badAt l) p = cc (header-bad-ports t p)
+    go (got m c) p = inRange m c p (portsInRange m) refl (number First c) refl
+
+pub same-text : (t : List ℕ) → playCrossbar t ≡ playPifo t
+unfolding playCrossbar playPifo crossbar pifo
+same-text t = go (header t) refl (header-exact t)
+  where
+    go : (k : Header) → header t ≡ k → Opens t (header t) → play crossbar t ≡ play pifo t
+    go (refusedAt r l) k opens = play-turned-back crossbar t k ∙ sym (play-turned-back pifo t k)
+    go (opened n first c) k opens =
+        let (i, j) = rw k at opens in
+        let kept = kept-fresh n first i (header-first t k) in
+        play-opened crossbar t k
+        ∙ ap (λ x. line Ports n ++ (line First first ++ x))
+        (same-from (length (c .text)) first (fresh n first) (freshPifo n first) c kept)
+        ∙ sym (play-opened pifo t k)
