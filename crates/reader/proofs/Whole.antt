@@ -1,4 +1,5 @@
 -- A whole text, block by block, as the code reads it:
+--     next-nil, next-shorter            no text is a fault, and a block takes some bytes
 --     blocks-fuel                       how many blocks may be read does not matter, if there are as many as bytes
 --     Verified                          what is read of a text, and what is left
 --     verified-start, -more             where the reading begins, and one block further
@@ -82,11 +83,11 @@ next-fault clock c h = go (begins EndKey c) refl
 next-past : (clock : ℕ) (c : Cursor) → clockEnd < clock → next clock c ≡ faulty (c .line)
 next-past clock c h = next-fault clock c λ k. exactly-past k clock c h
 
-next-nil : (clock : ℕ) (c : Cursor) → c .text ≡ [] → next clock c ≡ faulty (c .line)
+pub next-nil : (clock : ℕ) (c : Cursor) → c .text ≡ [] → next clock c ≡ faulty (c .line)
 next-nil clock c h = next-fault clock c λ k. exactly-nil k clock c h
 
 -- a block takes some bytes
-next-shorter : (clock : ℕ) (c : Cursor) {rs : List Arrival} {d : Cursor} → next clock c ≡ slotAhead rs d
+pub next-shorter : (clock : ℕ) (c : Cursor) {rs : List Arrival} {d : Cursor} → next clock c ≡ slotAhead rs d
     → length (d .text) < length (c .text)
 next-shorter clock c {rs} {d} h =
     let (e, f) = rw h at (next-exact clock c) in
@@ -96,7 +97,7 @@ next-shorter clock c {rs} {d} h =
 
 -- the blocks
 
-nil-text : (t : List ℕ) → length t ≤ 0 → t ≡ []
+pub nil-text : (t : List ℕ) → length t ≤ 0 → t ≡ []
 nil-text [] h = refl
 nil-text (b ∷ t) h = absurd (omega arith)
 

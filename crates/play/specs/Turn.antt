@@ -1,0 +1,66 @@
+-- The player, one turn after the other. A turn plays what stands at the start of the text that is there, the header, a
+-- block or the end; or it does nothing, where more text is needed. What the turns write, one behind the other, is the
+-- player's text, however the text arrives (proofs/Pieces).
+use Prim.Native.Nat.{ℕ, _+_}
+use mathlib.Core.Bool.{Bool}
+use mathlib.Core.List.{List, [], _++_}
+use mathlib.Core.Option.{some}
+use Rattle.cell.specs.declared.Refusal.{Refusal}
+use Rattle.cell.specs.declared.Refusal.the-variants.{BadLine}
+use Rattle.model.specs.State.{Switch, fresh}
+use Rattle.model.specs.Checks.{Outcome, done, refused}
+use Rattle.model.specs.Crossbar.{Course, slot}
+use Rattle.trace.specs.declared.Key.the-variants.{Ports, First, Slot, End}
+use Rattle.trace.specs.Line.{line}
+use Rattle.trace.specs.Piece.{Piece, known, more, nextIn, headerIn}
+use Rattle.trace.specs.Reader.{Cursor, Next, slotAhead, finished, faulty, Header, opened, refusedAt}
+use Rattle.play.specs.Player.{departuresText, refusalText, lineOf}
+
+-- Where the player stands: before the header; before a block or the end, with the number of the next line and the
+-- switch; or at the end of what it writes.
+pub data Standing : Type 0 where
+  opening : Standing
+  playing : ℕ → Switch → Standing
+  over : Standing
+
+-- what a turn writes, the text that it leaves, and where the player stands then
+pub record Turn : Type 0 where
+  pub written : List ℕ
+  pub left : List ℕ
+  pub after : Standing
+
+-- the last turn leaves the text alone
+unfoldable pub ending : List ℕ → List ℕ → Turn
+ending text t = record { written = text; left = t; after = over }
+
+-- a slot's block: the slot runs, or it is refused and nothing of the block is written
+unfoldable pub slotTurn : ℕ → ℕ → List ℕ → Cursor → Outcome Course → Turn
+slotTurn clock l t d (refused r place) = ending (refusalText r (lineOf l place)) t
+slotTurn clock l t d (done c) =
+    record {
+      written = line Slot clock ++ departuresText (c .departures);
+      left = d .text;
+      after = playing (l + d .line) (c .switch);
+    }
+
+unfoldable pub nextTurn : ℕ → Switch → List ℕ → Piece Next → Turn
+nextTurn l s t more = record { written = []; left = t; after = playing l s }
+nextTurn l s t (known finished) = ending (line End (s .clock)) t
+nextTurn l s t (known (faulty k)) = ending (refusalText BadLine (l + k)) t
+nextTurn l s t (known (slotAhead records d)) = slotTurn (s .clock) l t d (slot s (some records))
+
+unfoldable pub headerTurn : List ℕ → Piece Header → Turn
+headerTurn t more = record { written = []; left = t; after = opening }
+headerTurn t (known (refusedAt r l)) = ending (refusalText r l) t
+headerTurn t (known (opened ports first c)) =
+    record {
+      written = line Ports ports ++ line First first;
+      left = c .text;
+      after = playing (c .line) (fresh ports first);
+    }
+
+-- one turn on the text that is there; `last` says that no more will come
+unfoldable pub turn : Bool → Standing → List ℕ → Turn
+turn last opening t = headerTurn t (headerIn last t)
+turn last (playing l s) t = nextTurn l s t (nextIn last (s .clock) t)
+turn last over t = ending [] t
