@@ -4,9 +4,9 @@
 --     enter-place                            entering puts it behind them
 --     place-found, place-none                the same by the entries' numbers
 --     copied-up                              a record copied by two numbers of 64 bits
---     new-record                             the fields of a new entry written one by one
+--     new-written                            a new entry written over a record
 --     place-within, entered-bytes            the bytes of a switch that a cell has entered
-use Prim.Native.Nat.{ℕ, suc, _+_, _*_, _-_, _^_, _%_, _≤_, _<_}
+use Prim.Native.Nat.{ℕ, suc, _+_, _*_, _-_, _^_, _≤_, _<_}
 use mathlib.Core.Bool.{Bool, true, false, _&&_}
 use mathlib.Core.Path.{_≡_, refl, sym, _∙_, ap, ap₂, subst}
 use mathlib.Core.List.{List, [], _∷_, _++_, List·Memᴰ, List·Memᴰ·head, List·Memᴰ·tail, Memᴰ·append-right}
@@ -14,7 +14,7 @@ use native.Mathlib.Numerals.{add-one}
 use native.Mathlib.Omega.{arith}
 use borrow.Author.Tests.{eq-eqb, ne-eqb, eqb-true, eqb-false}
 use lib.Dec.{eqb}
-use lib.ListN.{length, take, drop, set, getD, length-append, length-drop, length-replicate, length-set, replicate}
+use lib.ListN.{length, take, drop, set, getD, length-append, length-drop, length-replicate, replicate}
 use lib.Seq.{take-at, drop-at, length-take-le, split-at, getD-drop, append-snoc}
 use Rattle.laws.specs.Lists.{some?, none?}
 use Rattle.laws.proofs.Lists.{some?-i, some?-false}
@@ -27,15 +27,16 @@ use Rattle.model.proofs.SoundArrival.{Enters, front, behind, enters, length-ent
 use Rattle.layout.specs.Entry.{entryAt, portsIn, countIn}
 use Rattle.layout.specs.Number.{bytesOf, numberAt}
 use Rattle.layout.specs.Records.{recordStart, recordAt}
-use Rattle.layout.specs.Table.{entrySize, placeByte, placeOf, entryBytes, entriesBytes, sectionBytes, stateOf, encode, IsTable}
+use Rattle.layout.specs.Table.{entrySize, placeOf, entryBytes, entriesBytes, sectionBytes, stateOf, encode, IsTable}
 use Rattle.layout.specs.Table.{tableSize}
 use Rattle.layout.proofs.Halves.{read-halves, put-halves}
 use Rattle.layout.proofs.Number.{bytes?, bytes?-take, bytes?-drop, bytesOf-numberOf, numberAt-below}
 use Rattle.layout.proofs.Table.{length-entryBytes, length-entriesBytes}
+use Rattle.table.specs.Entries.{entryWith}
 use Rattle.arrival.specs.Arrival.{entered, enterPlace, put, movedUp}
 use Rattle.arrival.specs.Fault.{sectionIn}
 use Rattle.arrival.proofs.Faults.{none?-at}
-use Rattle.arrival.proofs.Insert.{put-set, put-put, Around, encode-around, changedAt}
+use Rattle.arrival.proofs.Insert.{Around, encode-around, changedAt}
 use Rattle.arrival.proofs.Insert.{zerosAfter, section-old, section-new, insert-entry}
 use Rattle.arrival.proofs.Stored.{table-encode, ports-below, sections-number, section-sound, section-length}
 use Rattle.arrival.proofs.Stored.{section-entry, listed-byte}
@@ -180,57 +181,16 @@ copied-up k from to low high old mid new b size few f t l h first second =
     ∙ ap₂ (λ x y. put x (take 16 (drop y old)) old) t f
 
 ------------------------------------------------------------------------
--- the fields of a new entry
+-- the entry of a new cell
 
--- one more run of bytes behind those that were put
-put-next : (at next : ℕ) (xs ys old cur : List ℕ) → cur ≡ put at xs old → next ≡ at + length xs
-    → next + length ys ≤ length old → put next ys cur ≡ put at (xs ++ ys) old
-put-next at next xs ys old cur e q room = ap (put next ys) e ∙ put-put at next xs ys old q room
-
-module _ (at : ℕ) (c : Cell) (old : List ℕ) (room : at + 16 ≤ length old)
-    (output : c .output < 256) (flow : c .flow < 256)
-  where
-    -- the four bytes
-    abbrev pub fourBytes : List ℕ
-    fourBytes = set (set (set (set old at (c .output)) (at + 1) (c .flow)) (at + 2) 1) (at + 3) 0
-
-    pub length-four : length fourBytes ≡ length old
-    length-four = simp length-set
-
-    four-bytes : fourBytes ≡ put at (c .output ∷ c .flow ∷ 1 ∷ 0 ∷ []) old
-    four-bytes =
-        put-set (at + 3) 0 (set (set (set old at (c .output)) (at + 1) (c .flow)) (at + 2) 1)
-        (simp length-set (omega arith))
-        ∙ put-next at (at + 3) (c .output ∷ c .flow ∷ 1 ∷ []) (0 ∷ []) old _
-        (put-set (at + 2) 1 (set (set old at (c .output)) (at + 1) (c .flow)) (simp length-set (omega arith))
-        ∙ put-next at (at + 2) (c .output ∷ c .flow ∷ []) (1 ∷ []) old _
-        (put-set (at + 1) (c .flow) (set old at (c .output)) (simp length-set (omega arith))
-        ∙ put-next at (at + 1) (c .output ∷ []) (c .flow ∷ []) old _
-        (put-set at (c .output) old (omega arith))
-        refl (omega arith))
-        refl (omega arith))
-        refl (omega arith)
-
-    pub new-record : (one two new : List ℕ)
-        → one ≡ take (at + 4) fourBytes ++ (bytesOf 4 (c .rank) ++ drop (at + 4 + 4) fourBytes)
-        → two ≡ take (at + 8) one ++ (bytesOf 4 (c .tag) ++ drop (at + 8 + 4) one)
-        → new ≡ take (at + 12) two ++ (bytesOf 4 (c .slot) ++ drop (at + 12 + 4) two)
-        → new ≡ put at (entryBytes (newEntry c)) old
-    unfolding put entryBytes newEntry placeByte bytesOf
-    new-record one two new e f g =
-        let small : c .output ≡ c .output % 256 = omega arith in
-        let little : c .flow ≡ c .flow % 256 = omega arith in
-        g
-        ∙ put-next at (at + 12) ((c .output ∷ c .flow ∷ 1 ∷ 0 ∷ bytesOf 4 (c .rank)) ++ bytesOf 4 (c .tag)) (bytesOf 4 (c .slot))
-        old two
-        (f
-        ∙ put-next at (at + 8) (c .output ∷ c .flow ∷ 1 ∷ 0 ∷ bytesOf 4 (c .rank)) (bytesOf 4 (c .tag)) old one
-        (e ∙ put-next at (at + 4) (c .output ∷ c .flow ∷ 1 ∷ 0 ∷ []) (bytesOf 4 (c .rank)) old fourBytes four-bytes
-        refl (omega arith))
-        refl (omega arith))
-        refl (omega arith)
-        ∙ ap₂ (λ x y. put at (x ∷ y ∷ 1 ∷ 0 ∷ (bytesOf 4 (c .rank) ++ (bytesOf 4 (c .tag) ++ bytesOf 4 (c .slot)))) old)
-        small little
+-- written over a record
+pub new-written : (k : ℕ) (c : Cell) (bs : List ℕ)
+    → take (recordStart k) bs ++ (entryBytes (entryWith c 1) ++ drop (recordStart k + entrySize) bs)
+    ≡ put (recordStart k) (entryBytes (newEntry c)) bs
+unfolding put entryWith newEntry placeOf
+new-written k c bs =
+    ap (λ n. take (recordStart k) bs ++ (entryBytes (newEntry c) ++ drop (recordStart k + n) bs))
+    (sym (length-entryBytes (newEntry c)))
 
 ------------------------------------------------------------------------
 -- a cell enters

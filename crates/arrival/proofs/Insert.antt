@@ -1,5 +1,4 @@
 -- A new entry in a section's bytes.
---     put-set, put-put, put-parts, length-put       bytes written over others
 --     take-drop-take                                a part of a part
 --     movedUp-none, movedUp-more, put-movedUp       bytes moved up, and others put in where they stood
 --     Around, encode-around                         the bytes of a state around one section and its count
@@ -8,12 +7,11 @@
 use Prim.Native.Nat.{ℕ, zero, suc, _+_, _*_, _-_, _%_, _≤_, _<_}
 use mathlib.Core.Path.{_≡_, refl, sym, _∙_, ap, ap₂}
 use mathlib.Core.List.{List, [], _∷_, _++_, append-assoc}
-use native.Mathlib.Numerals.{add-one}
 use native.Mathlib.Omega.{arith}
 use lib.ListN.{length, take, drop, set, getD, replicate, length-append, length-drop, take-append-drop}
 use lib.ListN.{replicate-append-replicate}
 use lib.Seq.{take-at, drop-at, take-take, drop-drop, take-add, take-append-le, drop-append-le, length-take-le}
-use lib.Seq.{set-split, set-at}
+use lib.Seq.{set-at}
 use Rattle.laws.specs.Lists.{update}
 use Rattle.cell.specs.Limits.{portLimit, cellLimit}
 use Rattle.model.specs.State.{Entry, Switch}
@@ -23,50 +21,6 @@ use Rattle.layout.specs.Table.{sectionsBytes, countsBytes, encode}
 use Rattle.layout.proofs.Number.{length-bytesOf}
 use Rattle.layout.proofs.Table.{length-entriesBytes, length-sectionBytes, length-countsBytes}
 use Rattle.arrival.specs.Arrival.{put, movedUp}
-
-------------------------------------------------------------------------
--- put
-
-pub length-put : (at : ℕ) (new bs : List ℕ) → at + length new ≤ length bs → length (put at new bs) ≡ length bs
-unfolding put
-length-put at new bs room =
-    length-append (take at bs) (new ++ drop (at + length new) bs)
-    ∙ ap₂ _+_ (length-take-le at bs (omega arith))
-    (length-append new (drop (at + length new) bs) ∙ ap (λ n. length new + n) (length-drop (at + length new) bs))
-    ∙ omega arith
-
--- one byte
-pub put-set : (at b : ℕ) (bs : List ℕ) → at < length bs → set bs at b ≡ put at (b ∷ []) bs
-unfolding put
-put-set at b bs room = set-split bs at b room ∙ ap (λ n. take at bs ++ b ∷ drop n bs) (sym (add-one at))
-
--- one run of bytes and then one behind it
-pub put-put : (at next : ℕ) (xs ys bs : List ℕ) → next ≡ at + length xs → next + length ys ≤ length bs
-    → put next ys (put at xs bs) ≡ put at (xs ++ ys) bs
-unfolding put
-put-put at next xs ys bs e room =
-    let front : length (take at bs ++ xs) ≡ next =
-    length-append (take at bs) xs ∙ ap (λ n. n + length xs) (length-take-le at bs (omega arith)) ∙ sym e in
-    let split : put at xs bs ≡ (take at bs ++ xs) ++ drop (at + length xs) bs =
-    sym (append-assoc (take at bs) xs (drop (at + length xs) bs)) in
-    let head : take next (put at xs bs) ≡ take at bs ++ xs =
-    rw split (take-at (take at bs ++ xs) (drop (at + length xs) bs) next front) in
-    let both : at + length xs + length ys ≡ at + length (xs ++ ys) = omega (arith, length-append xs ys) in
-    let tail : drop (next + length ys) (put at xs bs) ≡ drop (at + length (xs ++ ys)) bs =
-    rw (split, ← drop-drop (length ys) next ((take at bs ++ xs) ++ drop (at + length xs) bs))
-    (rw (drop-at (take at bs ++ xs) (drop (at + length xs) bs) next front)
-    (drop-drop (length ys) (at + length xs) bs ∙ ap (λ n. drop n bs) both)) in
-    ap₂ (λ front back. front ++ (ys ++ back)) head tail ∙ simp append-assoc
-
--- in place of as many others
-pub put-parts : (at : ℕ) (xs old new ys : List ℕ) → length xs ≡ at → length old ≡ length new
-    → put at new (xs ++ (old ++ ys)) ≡ xs ++ (new ++ ys)
-unfolding put
-put-parts at xs old new ys e size =
-    let front : length (xs ++ old) ≡ at + length new = length-append xs old ∙ ap₂ _+_ e size in
-    ap₂ (λ front back. front ++ (new ++ back))
-    (take-at xs (old ++ ys) at e)
-    (ap (drop (at + length new)) (sym (append-assoc xs old ys)) ∙ drop-at (xs ++ old) ys (at + length new) front)
 
 ------------------------------------------------------------------------
 -- movedUp

@@ -8,10 +8,10 @@ ghost use Rattle.cell.specs.declared.Cell.{Cell};
 ghost use Rattle.cell.specs.Cell.{accepted};
 ghost use Rattle.model.specs.State.{cells};
 ghost use Rattle.model.specs.Checks.{noSuchPort, noSuchFlow, outOfTurn, fallingRank, full, fault};
-ghost use Rattle.model.specs.Crossbar.{inListOf, newEntry};
+ghost use Rattle.model.specs.Crossbar.{inListOf};
 ghost use Rattle.layout.specs.Entry.{entryAt, portsIn, clockIn, countIn};
 ghost use Rattle.layout.specs.Records.{recordStart, recordAt};
-ghost use Rattle.layout.specs.Table.{tableSize, entrySize, stateOf, encode, entryBytes, IsTable};
+ghost use Rattle.layout.specs.Table.{tableSize, entrySize, stateOf, encode, IsTable};
 ghost use Rattle.arrival.specs.Arrival.{entered, arrived, enterPlace, put, movedUp};
 ghost use Rattle.arrival.specs.Fault.{sectionIn, arrivalAt, faultIn, faultOf, faultAt};
 ghost use Rattle.arrival.specs.Fault.{turnAfter, outranks};
@@ -93,11 +93,11 @@ fn no_such_port(table: &[u8], c: Cell) -> bool
     requires { ⌜ IsTable (now table) ⌝ }
     ensures { λ r. ⌜ r ≡ noSuchPort (portsIn (now (table .entry))) c ⌝ }
 {
-    let ports = table::word::read_u32(table, 4);
-    if ports <= c.input {
+    let ports = table::entry::ports_of(table);
+    if ports <= c.input as usize {
         return true;
     }
-    ports <= c.output
+    ports <= c.output as usize
 }
 
 // 5: a flow is above 7.
@@ -121,7 +121,7 @@ fn falling_rank(table: &[u8], c: Cell) -> bool
     ensures { λ r. ⌜ r ≡ fallingRank (cells (stateOf (now (table .entry)))) c ⌝ }
 {
     let input = c.input as usize;
-    let end = 64 * input + count_of(table, input);
+    let end = places::end_of(table, input);
     let mut k = 64 * input;
     while k < end {
         if outranked(table, k, c) {
@@ -150,7 +150,7 @@ fn input_full(table: &[u8], c: Cell) -> bool
     requires { ⌜ c .input < portsIn (now table) ⌝ }
     ensures { λ r. ⌜ r ≡ full (cells (stateOf (now (table .entry)))) c ⌝ }
 {
-    Switch::input_full(count_of(table, c.input as usize) as u32)
+    Switch::input_full(table::entry::count_of(table, c.input as usize) as u32)
 }
 
 // Lets a cell enter the list of its input, which has room for it.
@@ -161,10 +161,10 @@ fn enter(table: &mut [u8], c: Cell)
     ensures { λ _. ⌜ now (table .exit) ≡ encode (entered c (stateOf (now (table .entry)))) ⌝ }
 {
     let input = c.input as usize;
-    let count = count_of(table, input);
+    let count = table::entry::count_of(table, input);
     let at = new_place(table, c);
     move_up(table, at, 64 * input + count);
-    put_entry(table, at, c);
+    table::entry::write_entry(table, at, c, 1);
     table[16 + input] = (count + 1) as u8;
 }
 
@@ -177,7 +177,7 @@ fn new_place(table: &[u8], c: Cell) -> usize
 {
     let input = c.input as usize;
     let first = 64 * input;
-    let end = first + count_of(table, input);
+    let end = places::end_of(table, input);
     let mut k = end;
     while first < k {
         if in_list(table, k - 1, c) {
@@ -224,22 +224,6 @@ fn copy_up(table: &mut [u8], k: usize)
     table::word::write_u64(table, to + 8, high);
 }
 
-// Writes the entry of a new cell.
-fn put_entry(table: &mut [u8], k: usize, c: Cell)
-    requires { ⌜ (length (now table) ≡ tableSize) × (k < 1024) ⌝ }
-    requires { ⌜ (c .output < 256) × (c .flow < 256) ⌝ }
-    ensures { λ _. ⌜ now (table .exit) ≡ put (recordStart k) (entryBytes (newEntry c)) (now (table .entry)) ⌝ }
-{
-    let at = table::entry::start_of(k);
-    table[at] = c.output as u8;
-    table[at + 1] = c.flow as u8;
-    table[at + 2] = 1;
-    table[at + 3] = 0;
-    table::word::write_u32(table, at + 4, c.rank);
-    table::word::write_u32(table, at + 8, c.tag);
-    table::word::write_u32(table, at + 12, c.slot);
-}
-
 // The cell that a record would become.
 fn record_at(arrivals: &[u8], k: usize, clock: u32) -> Cell
     requires { ⌜ 20 * k + 20 ≤ length (now arrivals) ⌝ }
@@ -254,12 +238,4 @@ fn record_at(arrivals: &[u8], k: usize, clock: u32) -> Cell
         tag: table::word::read_u32(arrivals, at + 16),
         slot: clock,
     }
-}
-
-// How many entries an input has.
-fn count_of(table: &[u8], input: usize) -> usize
-    requires { ⌜ (length (now table) ≡ tableSize) × (input < 16) ⌝ }
-    ensures { λ r. ⌜ r ≡ countIn (now (table .entry)) input ⌝ }
-{
-    table[16 + input] as usize
 }

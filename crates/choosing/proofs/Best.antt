@@ -1,20 +1,18 @@
 -- The best cell at the crosspoints of an output, crosspoint by crosspoint.
---     better-   which of two numbers is the better
---     Best      what is known of the best of the first inputs' crosspoints; best-none, best-more
---     best-of   over all inputs it is the definition's choice
+--     BestUpTo   the choice among the first inputs' crosspoints; best-zero, best-more
+--     best-of    over all inputs it is the definition's choice
 use Prim.Native.Nat.{ℕ, _+_, _/_, _<_, _≤_}
 use native.Mathlib.Omega.{arith}
 use mathlib.Core.Bool.{Bool, true, false}
 use mathlib.Core.Path.{_≡_, refl, sym, _∙_, ap, ap₂, subst}
 use mathlib.Core.Logic.{_⊎_, inl, inr}
 use mathlib.Core.List.{List, [], _∷_, List·Memᴰ, List·Memᴰ·head, List·Memᴰ·not-nil}
-use borrow.Author.Tests.{le-leb, lt-leb, leb-true, leb-false, eqb-true, eq-eqb}
+use borrow.Author.Tests.{leb-true, leb-false, eqb-true, eq-eqb}
 use lib.Dec.{leb, eqb}
 use Rattle.laws.specs.Lists.{none?, least, first?}
 use Rattle.laws.proofs.Tests.{clash, by-fail}
 use Rattle.laws.proofs.Lists.{none?-i, keep-mem, mem-keep-in, mem-keep-passes}
 use Rattle.laws.proofs.Least.{Below, least-below, least-mem, mem-least-in, mem-least-first}
-use Rattle.cell.specs.declared.Cell.{Cell}
 use Rattle.cell.specs.Limits.{cellLimit}
 use Rattle.cell.specs.Order.{over}
 use Rattle.cell.proofs.Order.{Compared, below, equal, above, compare, over-irrefl, over-trans, over-total}
@@ -23,31 +21,10 @@ use Rattle.model.proofs.WaitingOrder.{beats-i, beats-output, beats-over, beats-
 use Rattle.layout.proofs.Records.{entryAt-input}
 use Rattle.layout.specs.Entry.{entryAt, portsIn}
 use Rattle.places.specs.View.{crosspointAt}
-use Rattle.places.specs.Choices.{nowhere, numberOf, toOutput, bestOf}
+use Rattle.places.specs.Choices.{nowhere, numberOf, toOutput, bestOf, betterOf, BestAmong, empty, best}
 use Rattle.places.specs.Scan.{Holds}
-use Rattle.choosing.specs.Walk.{betterOf}
-
-------------------------------------------------------------------------
--- the better of two
-
-module _ (table : List ℕ) (a b : ℕ) where
-  pub better-none : nowhere ≤ b → betterOf table a b ≡ a
-  unfolding betterOf
-  better-none h = rw (le-leb nowhere b h)
-
-  pub better-first : b < nowhere → nowhere ≤ a → betterOf table a b ≡ b
-  unfolding betterOf
-  better-first h k = rw (lt-leb nowhere b h, le-leb nowhere a k)
-
-  pub better-over : b < nowhere → a < nowhere → over (entryAt table b .cell) (entryAt table a .cell) ≡ true
-      → betterOf table a b ≡ b
-  unfolding betterOf
-  better-over h k o = rw (lt-leb nowhere b h, lt-leb nowhere a k, o)
-
-  pub better-under : b < nowhere → a < nowhere → over (entryAt table b .cell) (entryAt table a .cell) ≡ false
-      → betterOf table a b ≡ a
-  unfolding betterOf
-  better-under h k o = rw (lt-leb nowhere b h, lt-leb nowhere a k, o)
+use Rattle.places.proofs.Choices
+use Rattle.places.proofs.Choices.{Ordered, better-none, best-same}
 
 ------------------------------------------------------------------------
 -- the first of a list
@@ -92,164 +69,67 @@ module _ (output : ℕ) where
 ------------------------------------------------------------------------
 -- the best of the crosspoints of the first inputs
 
+-- a number that stands at a crosspoint of an output, of one of the first n inputs
+pub record Crossed (cross : List (List ℕ)) (output n k : ℕ) : Type 0 where
+  pub some : k < nowhere
+  pub holder : ℕ
+  pub early : holder < n
+  pub held : crosspointAt cross holder output ≡ k
+
 module _ (table : List ℕ) (cross : List (List ℕ)) (output : ℕ) where
-  -- the cell at the crosspoint of an input
-  abbrev pub row : ℕ → Cell
-  row input = entryAt table (crosspointAt cross input output) .cell
-
-  -- r is the number at the crosspoint of `holder`, and its cell is over all others of the first n inputs
-  pub record Best (n r : ℕ) : Type 0 where
-    pub some : r < nowhere
-    pub holder : ℕ
-    pub early : holder < n
-    pub held : crosspointAt cross holder output ≡ r
-    pub upper : (i : ℕ) → i < n → crosspointAt cross i output < nowhere
-        → (i ≡ holder) ⊎ (over (entryAt table r .cell) (row i) ≡ true)
-
-  -- r is the choice among the first n inputs, or there is none
-  pub data BestUpTo (n r : ℕ) : Type 0 where
-    empty : r ≡ nowhere → ((i : ℕ) → i < n → nowhere ≤ crosspointAt cross i output) → BestUpTo n r
-    best : Best n r → BestUpTo n r
+  -- the choice among those of the first n inputs
+  abbrev pub BestUpTo : ℕ → ℕ → Type 0
+  BestUpTo n r = BestAmong table (Crossed cross output n) r
 
   pub best-zero : BestUpTo 0 nowhere
-  best-zero = empty refl (λ i l. absurd (omega arith))
+  best-zero = empty refl (λ k c. omega (arith, c .early))
+
+  later : (n k : ℕ) → Crossed cross output n k → Crossed cross output (n + 1) k
+  later n k c = record { some = c .some; holder = c .holder; early = omega (arith, c .early); held = c .held }
+
+  earlier : (n k : ℕ) → Crossed cross output (n + 1) k
+      → Crossed cross output n k ⊎ (k ≡ crosspointAt cross n output)
+  earlier n k c = go (compare (c .holder) n)
+    where
+      go : Compared (c .holder) n → Crossed cross output n k ⊎ (k ≡ crosspointAt cross n output)
+      go (below l) = inl (record { some = c .some; holder = c .holder; early = l; held = c .held })
+      go (equal e) = inr (sym (c .held) ∙ ap (λ i. crosspointAt cross i output) e)
+      go (above l) = absurd (omega (arith, c .early))
 
   module _ {cells : List Waiting} (h : Holds table cross cells) (o : output < 16) where
-    -- what stands at a crosspoint is of its input
-    row-input : (i : ℕ) → i < 16 → crosspointAt cross i output < nowhere
-        → entryAt table (crosspointAt cross i output) .cell .input ≡ i
-    row-input i l k =
-        let w = h .real i output l o k in
-        ap (λ n. entryAt table n .cell .input) (sym (w .2)) ∙ ap (λ c. c .input) (sym (h .cell (w .0) (w .1))) ∙ w .3
+    -- the cell at a crosspoint is of its input
+    held-input : (k i : ℕ) → i < 16 → k < nowhere → crosspointAt cross i output ≡ k → entryAt table k .cell .input ≡ i
+    held-input k i l s e =
+        let w = h .real i output l o (omega arith) in
+        ap (λ n. entryAt table n .cell .input) (sym (w .2 ∙ e)) ∙ ap (λ c. c .input) (sym (h .cell (w .0) (w .1))) ∙ w .3
 
-    -- of two crosspoints of an output, the cell of one is over the other's
-    row-over : (i j : ℕ) → i < 16 → j < 16 → crosspointAt cross i output < nowhere
-        → crosspointAt cross j output < nowhere → (i ≡ j → ⊥) → over (row i) (row j) ≡ false → over (row j) (row i) ≡ true
-    row-over i j li lj ki kj d f =
-        go (over-total (row i) (row j) (inl (λ e. d (sym (row-input i li ki) ∙ e ∙ row-input j lj kj))))
-      where
-        go : (over (row i) (row j) ≡ true) ⊎ (over (row j) (row i) ≡ true) → over (row j) (row i) ≡ true
-        go (inl t) = absurd (clash t f)
-        go (inr t) = t
-
-    -- the next crosspoint is empty
-    best-skip : (n r : ℕ) → nowhere ≤ crosspointAt cross n output → BestUpTo n r → BestUpTo (n + 1) r
-    best-skip n r k (empty e f) = empty e (λ i l. go i (compare i n) l)
-      where
-        go : (i : ℕ) → Compared i n → i < n + 1 → nowhere ≤ crosspointAt cross i output
-        go i (below b) l = f i b
-        go i (equal b) l = subst (λ j. nowhere ≤ crosspointAt cross j output) (sym b) k
-        go i (above b) l = absurd (omega arith)
-    best-skip n r k (best b) = best (record {
-      some = b .some;
-      holder = b .holder;
-      early = omega (arith, b .early);
-      held = b .held;
-      upper = λ i l m. go i (compare i n) l m;
-    })
-      where
-        go : (i : ℕ) → Compared i n → i < n + 1 → crosspointAt cross i output < nowhere
-            → (i ≡ b .holder) ⊎ (over (entryAt table r .cell) (row i) ≡ true)
-        go i (below l) _ m = b .upper i l m
-        go i (equal e) _ m = absurd (let z : crosspointAt cross n output < nowhere = rw e at m in omega arith)
-        go i (above l) t m = absurd (omega arith)
-
-    -- the next crosspoint is full, and none was
-    best-start : (n r : ℕ) → crosspointAt cross n output < nowhere
-        → ((i : ℕ) → i < n → nowhere ≤ crosspointAt cross i output) → BestUpTo (n + 1) (crosspointAt cross n output)
-    best-start n r k f = best (record {
-      some = k;
-      holder = n;
-      early = omega arith;
-      held = refl;
-      upper = λ i l m. go i (compare i n) l m;
-    })
-      where
-        go : (i : ℕ) → Compared i n → i < n + 1 → crosspointAt cross i output < nowhere
-            → (i ≡ n) ⊎ (over (row n) (row i) ≡ true)
-        go i (below l) _ m = absurd (omega (arith, f i l))
-        go i (equal e) _ m = inl e
-        go i (above l) t m = absurd (omega arith)
-
-    -- the next crosspoint's cell is over the best so far
-    best-win : (n r : ℕ) → crosspointAt cross n output < nowhere → Best n r
-        → over (row n) (entryAt table r .cell) ≡ true → BestUpTo (n + 1) (crosspointAt cross n output)
-    best-win n r k b t = best (record {
-      some = k;
-      holder = n;
-      early = omega arith;
-      held = refl;
-      upper = λ i l m. go i (compare i n) l m;
-    })
-      where
-        old : (i : ℕ) → (i ≡ b .holder) ⊎ (over (entryAt table r .cell) (row i) ≡ true) → over (row n) (row i) ≡ true
-        old i (inl e) =
-            subst (λ c. over (row n) c ≡ true) (ap (λ k. entryAt table k .cell) (sym (b .held)) ∙ ap row (sym e)) t
-        old i (inr u) = over-trans (row n) (entryAt table r .cell) (row i) t u
-
-        go : (i : ℕ) → Compared i n → i < n + 1 → crosspointAt cross i output < nowhere
-            → (i ≡ n) ⊎ (over (row n) (row i) ≡ true)
-        go i (below l) _ m = inr (old i (b .upper i l m))
-        go i (equal e) _ m = inl e
-        go i (above l) t m = absurd (omega arith)
-
-    -- the best so far is over the next crosspoint's cell
-    best-stay : (n r : ℕ) → n < 16 → crosspointAt cross n output < nowhere → Best n r
-        → over (row n) (entryAt table r .cell) ≡ false
-        → BestUpTo (n + 1) r
-    best-stay n r s k b f = best (record {
-      some = b .some;
-      holder = b .holder;
-      early = omega (arith, b .early);
-      held = b .held;
-      upper = λ i l m. go i (compare i n) l m;
-    })
-      where
-        mine : row (b .holder) ≡ entryAt table r .cell
-        mine = ap (λ k. entryAt table k .cell) (b .held)
-
-        small : b .holder < 16
-        small = omega (arith, b .early)
-
-        full : crosspointAt cross (b .holder) output < nowhere
-        full = omega (arith, b .held, b .some)
-
-        other : n ≡ b .holder → ⊥
-        other e = omega (arith, b .early)
-
-        next : over (entryAt table r .cell) (row n) ≡ true
-        next =
-            subst (λ c. over c (row n) ≡ true) mine
-            (row-over n (b .holder) s small k full other (ap (over (row n)) mine ∙ f))
-
-        go : (i : ℕ) → Compared i n → i < n + 1 → crosspointAt cross i output < nowhere
-            → (i ≡ b .holder) ⊎ (over (entryAt table r .cell) (row i) ≡ true)
-        go i (below l) _ m = b .upper i l m
-        go i (equal e) _ m = inr (subst (λ j. over (entryAt table r .cell) (row j) ≡ true) (sym e) next)
-        go i (above l) t m = absurd (omega arith)
-
-    pub best-more : (n r : ℕ) → n < 16 → BestUpTo n r
-        → BestUpTo (n + 1) (betterOf table r (crosspointAt cross n output))
-    best-more n r s b = go (leb nowhere x) refl b
+    pub best-more : (n r : ℕ) → n < 16 → BestUpTo n r → BestUpTo (n + 1) (betterOf table r (crosspointAt cross n output))
+    best-more n r s b = go (leb nowhere x) refl
       where
         x : ℕ
         x = crosspointAt cross n output
 
-        is : {y z : ℕ} → y ≡ z → BestUpTo (n + 1) z → BestUpTo (n + 1) y
-        is e w = subst (BestUpTo (n + 1)) (sym e) w
+        -- two crosspoints of an output have cells of two inputs
+        apart : x < nowhere → Crossed cross output n r → Ordered table x r
+        apart k c =
+            inr (over-total (entryAt table x .cell) (entryAt table r .cell) (inl (λ e.
+            let own = held-input x n s k refl in
+            let other = held-input r (c .holder) (omega (arith, c .early)) (c .some) (c .held) in
+            omega (arith, c .early))))
 
-        both : Best n r → x < nowhere → (t : Bool) → over (entryAt table x .cell) (entryAt table r .cell) ≡ t
-            → BestUpTo (n + 1) (betterOf table r x)
-        both b k true o = is (better-over table r x k (b .some) o) (best-win n r k b o)
-        both b k false o = is (better-under table r x k (b .some) o) (best-stay n r s k b o)
-
-        go : (t : Bool) → leb nowhere x ≡ t → BestUpTo n r → BestUpTo (n + 1) (betterOf table r x)
-        go true e b = let k = leb-true nowhere x e in is (better-none table r x k) (best-skip n r k b)
-        go false e (empty q f) =
-            let k = leb-false nowhere x e in
-            let l : nowhere ≤ r = omega arith in
-            is (better-first table r x k l) (best-start n r k f)
-        go false e (best b) = both b (leb-false nowhere x e) _ refl
+        go : (t : Bool) → leb nowhere x ≡ t → BestUpTo (n + 1) (betterOf table r x)
+        go true e =
+            let none = leb-true nowhere x e in
+            subst (BestUpTo (n + 1)) (sym (better-none table r x none))
+            (best-same table (later n) r (λ k c. back k c (earlier n k c)) b)
+          where
+            back : (k : ℕ) → Crossed cross output (n + 1) k → Crossed cross output n k ⊎ (k ≡ x) → Crossed cross output n k
+            back k c (inl m) = m
+            back k c (inr q) = absurd (omega (arith, c .some, leb-true nowhere x e))
+        go false e =
+            let some = leb-false nowhere x e in
+            Choices.best-more table (later n) r x some
+            (record { some = some; holder = n; early = omega arith; held = refl }) (earlier n) (apart some) b
 
     ------------------------------------------------------------------------
     -- over all inputs
@@ -261,6 +141,17 @@ module _ (table : List ℕ) (cross : List (List ℕ)) (output : ℕ) where
         sym (ap (λ c. c .input) (h .cell e m) ∙ entryAt-input table (e .at)) in
         omega (arith, h .inside e m .input)
 
+    -- and stands at its crosspoint
+    stands : portsIn table ≤ 16 → {e : Waiting} → List·Memᴰ e cells → e .cell .output ≡ output
+        → Crossed cross output (portsIn table) (e .at)
+    stands ports {e} m q =
+        record {
+          some = omega (arith, h .inside e m .input);
+          holder = e .cell .input;
+          early = port m;
+          held = rw q at (h .filled e m);
+        }
+
     pub best-of : (r : ℕ) → portsIn table ≤ 16 → BestUpTo (portsIn table) r → r ≡ bestOf cells output
     unfolding bestOf
     best-of r ports (empty e f) =
@@ -271,25 +162,27 @@ module _ (table : List ℕ) (cross : List (List ℕ)) (output : ℕ) where
         none : (c : Waiting) → List·Memᴰ c (least beats cells) → c .cell .output ≡ output → ⊥
         none c m q =
             let k = mem-least-in beats cells m in
-            let at : crosspointAt cross (c .cell .input) output ≡ c .at = rw q at (h .filled c k) in
-            omega (arith, f (c .cell .input) (port k), h .inside c k .input)
-    best-of r ports (best b) =
+            f (c .at) (stands ports k q)
+    best-of r ports (best s b) =
         sym (numberOf-first (toOutput output (least beats cells)) r
         (toOutput-i output (least-mem beats (w .1) first) (w .4))
         (λ g m. only g (toOutput-in output _ m) (toOutput-output output _ m)))
       where
-        small : b .holder < 16
-        small = omega (arith, b .early)
+        own : Crossed cross output (portsIn table) r
+        own = b .own
 
-        full : crosspointAt cross (b .holder) output < 1024
-        full = omega (arith, b .held, b .some)
+        small : own .holder < 16
+        small = omega (arith, own .early)
 
-        w : (e : Waiting) × List·Memᴰ e cells × (e .at ≡ crosspointAt cross (b .holder) output)
-            × (e .cell .input ≡ b .holder) × (e .cell .output ≡ output)
-        w = h .real (b .holder) output small o full
+        full : crosspointAt cross (own .holder) output < 1024
+        full = omega (arith, own .held, s)
+
+        w : (e : Waiting) × List·Memᴰ e cells × (e .at ≡ crosspointAt cross (own .holder) output)
+            × (e .cell .input ≡ own .holder) × (e .cell .output ≡ output)
+        w = h .real (own .holder) output small o full
 
         at : w .0 .at ≡ r
-        at = w .2 ∙ b .held
+        at = w .2 ∙ own .held
 
         mine : entryAt table r .cell ≡ w .0 .cell
         mine = ap (λ k. entryAt table k .cell) (sym at) ∙ sym (h .cell (w .0) (w .1))
@@ -297,17 +190,12 @@ module _ (table : List ℕ) (cross : List (List ℕ)) (output : ℕ) where
         -- it is the best of each cell that goes to the output
         rank : (f : Waiting) → List·Memᴰ f cells → f .cell .output ≡ output
             → (f .at ≡ r) ⊎ (over (w .0 .cell) (f .cell) ≡ true)
-        rank f m q = go (b .upper (f .cell .input) (port m) (omega (arith, stands, h .inside f m .input)))
+        rank f m q = go (b .upper (f .at) (stands ports m q))
           where
-            stands : crosspointAt cross (f .cell .input) output ≡ f .at
-            stands = rw q at (h .filled f m)
-
-            go : (f .cell .input ≡ b .holder)
-                ⊎ (over (entryAt table r .cell) (row (f .cell .input)) ≡ true)
+            go : (f .at ≡ r) ⊎ (over (entryAt table r .cell) (entryAt table (f .at) .cell) ≡ true)
                 → (f .at ≡ r) ⊎ (over (w .0 .cell) (f .cell) ≡ true)
-            go (inl e) = inl (sym stands ∙ ap (λ i. crosspointAt cross i output) e ∙ b .held)
-            go (inr t) =
-                inr (ap₂ over (sym mine) (h .cell f m ∙ ap (λ k. entryAt table k .cell) (sym stands)) ∙ t)
+            go (inl e) = inl e
+            go (inr t) = inr (ap₂ over (sym mine) (h .cell f m) ∙ t)
 
         first : none? (λ f. beats f (w .0)) cells ≡ true
         first =

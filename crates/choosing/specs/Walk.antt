@@ -1,31 +1,25 @@
 -- The walk along the cells of each input by which a phase chooses: rules 1 to 3 as tests of one cell, how far the walk
 -- has come, and what it finds. Only the functions of the choice cite these.
 use Prim.Native.Nat.{ℕ, _+_, _*_, _-_, _<_, _≤_}
-use mathlib.Core.Bool.{Bool, true, false, cond, _&&_}
+use mathlib.Core.Bool.{Bool, true, false, _&&_}
 use mathlib.Core.Path.{_≡_}
 use mathlib.Core.Logic.{_⊎_}
 use mathlib.Core.List.{List, map}
-use lib.Dec.{leb, eqb}
+use lib.Dec.{eqb}
 use lib.ListN.{length, getD}
 use Rattle.laws.specs.Lists.{keep, some?, none?, all?}
 use Rattle.cell.specs.Flow.{sameFlow}
 use Rattle.cell.specs.Limits.{portLimit, cellLimit}
-use Rattle.cell.specs.Order.{over}
 use Rattle.model.specs.State.{isListed}
 use Rattle.model.specs.Phase.{Waiting, sameOutput, ahead, beats, blocked, crosspointEmpty, Phase, phase}
 use Rattle.model.proofs.PhaseFacts.{lists, crosspoints}
 use Rattle.layout.specs.Entry.{entryAt, portsIn, countIn}
-use Rattle.places.specs.Choices.{nowhere, ofInput, scheduledOf, bestOf}
+use Rattle.places.specs.Choices.{ofInput, scheduledOf, bestOf}
 use Rattle.places.specs.View.{window, inTable, Agrees}
 use Rattle.places.specs.Scan.{Readable, Column}
 use Rattle.choosing.specs.declared.Found.{Found}
 use Rattle.choosing.specs.declared.Kind.{Kind}
 use Rattle.choosing.specs.declared.Kind.the-variants.{Ready, Pressing, Other}
-
--- of two numbers of cells the one that an output sends first; either may be of none
-unfoldable pub betterOf : List ℕ → ℕ → ℕ → ℕ
-betterOf table a b =
-    cond (leb nowhere b) a (cond (leb nowhere a) b (cond (over (entryAt table b .cell) (entryAt table a .cell)) b a))
 
 ------------------------------------------------------------------------
 -- rules 1 to 3 as tests of one cell

@@ -10,7 +10,6 @@ ghost use lib.Dec.{eqb};
 ghost use lib.ListN.{length, getD, set};
 ghost use Rattle.laws.specs.Lists.{none?, numbersFrom};
 ghost use Rattle.cell.specs.Limits.{cellLimit};
-ghost use Rattle.cell.specs.Order.{over};
 ghost use Rattle.model.specs.Phase.{Waiting, phase};
 ghost use Rattle.layout.specs.Table.{tableSize};
 ghost use Rattle.layout.specs.Entry.{entryAt, portsIn, countIn};
@@ -19,7 +18,7 @@ ghost use Rattle.places.specs.Choices.{bestOf, candidatesOf};
 ghost use Rattle.places.specs.Scan.{Readable, Holds, Scheduled, Written, Described, Chosen};
 ghost use Rattle.places.specs.Scan.{someUrgent, outputAt, rankAt, slotAt};
 ghost use Rattle.choosing.specs.Walk.{Walkable, Reached, Means, Scanned, Any, Filled, Sound};
-ghost use Rattle.choosing.specs.Walk.{betterOf, flowIndex, urgentOf};
+ghost use Rattle.choosing.specs.Walk.{flowIndex, urgentOf};
 
 // The byte of the place of a cell in a list.
 const LISTED: u8 = 1;
@@ -93,7 +92,7 @@ pub fn best_crossed(table: &[u8], cross: &[[u16; 16]; 16], ports: usize, output:
     while input < ports {
         let number = cross[input][output];
         input += 1;
-        best = better(table, best, number);
+        best = places::better(table, best, number);
     }
     best
 }
@@ -160,7 +159,7 @@ fn scan(
 {
     let mut seen = [false; 128];
     let first = 64 * input;
-    let end = first + table[16 + input] as usize;
+    let end = places::end_of(table, input);
     let mut urgent = 0;
     let mut k = first;
     while k < end {
@@ -215,7 +214,7 @@ fn kind_of(
     if held >= NOWHERE {
         return Kind::Ready;
     }
-    if is_over(table, k, rival) {
+    if places::is_over(table, k, rival) {
         return Kind::Pressing;
     }
     Kind::Other
@@ -358,34 +357,6 @@ fn describe_part(
         slots[m] = table::entry::slot_of(table, k);
         m += 1;
     }
-}
-
-// Of two numbers of cells the one that an output sends first; either may be of none.
-fn better(table: &[u8], a: u16, b: u16) -> u16
-    requires { ⌜ length (now table) ≡ tableSize ⌝ }
-    ensures { λ r. ⌜ r ≡ betterOf (now (table .entry)) a b ⌝ }
-{
-    if b >= NOWHERE {
-        return a;
-    }
-    if a >= NOWHERE {
-        return b;
-    }
-    if is_over(table, wide(b), a) {
-        return b;
-    }
-    a
-}
-
-// Whether an output sends the first of two cells first.
-fn is_over(table: &[u8], k: usize, other: u16) -> bool
-    requires { ⌜ (length (now table) ≡ tableSize) × (k < 1024) × (other < 1024) ⌝ }
-    ensures { λ r. ⌜ r ≡ over (entryAt (now (table .entry)) k .cell) (entryAt (now (table .entry)) other .cell) ⌝ }
-{
-    cell::over(
-        table::entry::cell_of(table, k),
-        table::entry::cell_of(table, wide(other)),
-    )
 }
 
 fn wide(n: u16) -> usize

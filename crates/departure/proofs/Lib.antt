@@ -1,5 +1,4 @@
 pub mod Departing
 pub mod Leaving
-pub mod Put
 pub mod Sending
 pub mod Staying

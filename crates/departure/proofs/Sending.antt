@@ -34,12 +34,12 @@ use Rattle.layout.specs.Host.{filled}
 use Rattle.layout.specs.Entry.{entryAt, portsIn}
 use Rattle.layout.proofs.Answer.{length-departureBytes, length-departuresBytes}
 use Rattle.places.specs.View.{waitingAt, inTable, InTable}
-use Rattle.places.specs.Choices.{nowhere}
-use Rattle.departure.specs.Departing.{Ready, Buffered, Best, BestBelow, empty, best, Chosen, departureAt, sevenBytes}
+use Rattle.places.specs.Choices.{nowhere, Best, BestAmong, empty, best}
+use Rattle.departure.specs.Departing.{Ready, Buffered, BufferedBelow, Chosen, departureAt, sevenBytes}
 use Rattle.departure.specs.Departing.{noCell, leavingIn}
 use Rattle.places.proofs.Window
 use Rattle.places.proofs.Placed.{getD-numbers, length-numbers}
-use Rattle.departure.proofs.Put.{put, put-next}
+use Rattle.table.proofs.Put.{put, put-next}
 use Rattle.departure.proofs.Leaving.{ready-readable}
 
 ------------------------------------------------------------------------
@@ -67,15 +67,15 @@ module _ {table places : List ℕ} (r : Ready table places) where
         goes = ap (λ w. w .cell .output) (sym (x .0));
       }
 
-  leaves-i : (output n : ℕ) → Best table places output 1024 n → List·Memᴰ (cellAt n) (leaving all)
+  leaves-i : (output n : ℕ) → Best table (BufferedBelow table places output 1024) n → List·Memᴰ (cellAt n) (leaving all)
   unfolding leaving waitingAt isIn
   leaves-i output n h =
-      least-mem beats (keep-mem isIn (Window.inTable-i table places (ready-readable r) n (h .own .entry)) (h .own .place))
+      least-mem beats (keep-mem isIn (Window.inTable-i table places (ready-readable r) n (h .own .cell .entry)) (h .own .cell .place))
       (none?-i (λ e. beats e (cellAt n)) (keep isIn all)
       (λ e m. by-fail _ (λ w. go e (mem-keep-in isIn all m) (mem-keep-passes isIn all m) w)))
     where
       go : (e : Waiting) → List·Memᴰ e all → isBuffered (e .place) ≡ true → beats e (cellAt n) ≡ true → ⊥
-      go e m b w = past (h .upper (e .at) small own)
+      go e m b w = past (h .upper (e .at) (record { early = small; cell = own }))
         where
           x : (e ≡ cellAt (e .at)) × InTable table (e .at)
           x = Window.inTable-e table places (ready-readable r) m
@@ -84,7 +84,7 @@ module _ {table places : List ℕ} (r : Ready table places) where
           small = Window.inTable-below table places (ready-readable r) (e .at) (x .1)
 
           own : Buffered table places output (e .at)
-          own = subst (λ o. Buffered table places o (e .at)) (beats-output e (cellAt n) w ∙ h .own .goes) (buffered-e m b)
+          own = subst (λ o. Buffered table places o (e .at)) (beats-output e (cellAt n) w ∙ h .own .cell .goes) (buffered-e m b)
 
           wins : over (entryAt table (e .at) .cell) (entryAt table n .cell) ≡ true
           wins = ap (λ d. over (d .cell) (entryAt table n .cell)) (sym (x .0)) ∙ beats-over e (cellAt n) w
@@ -114,19 +114,19 @@ module _ {table places : List ℕ} (r : Ready table places) where
         port : e .cell .output < 16
         port = omega (arith, own .goes, ready-readable r .outputs (e .at) (x .1), ready-readable r .ports)
 
-        past : (n : ℕ) → Best table places (e .cell .output) 1024 n
+        past : (n : ℕ) → Best table (BufferedBelow table places (e .cell .output) 1024) n
             → (e .at ≡ n) ⊎ (over (entryAt table n .cell) (entryAt table (e .at) .cell) ≡ true) → n ≡ e .at
         past n b (inl q) = sym q
         past n b (inr q) =
             absurd
             (clash
-            (beats-i (cellAt n) e (b .own .goes) (ap (λ w. over (entryAt table n .cell) (w .cell)) (x .0) ∙ q))
-            (leaving-first all m (Window.inTable-i table places (ready-readable r) n (b .own .entry)) (b .own .place)))
+            (beats-i (cellAt n) e (b .own .cell .goes) (ap (λ w. over (entryAt table n .cell) (w .cell)) (x .0) ∙ q))
+            (leaving-first all m (Window.inTable-i table places (ready-readable r) n (b .own .cell .entry)) (b .own .cell .place)))
 
-        go : BestBelow table places (e .cell .output) 1024 (getD numbers (e .cell .output) 0)
+        go : BestAmong table (BufferedBelow table places (e .cell .output) 1024) (getD numbers (e .cell .output) 0)
             → getD numbers (e .cell .output) 0 ≡ e .at
-        go (empty q f) = absurd (f (e .at) small own)
-        go (best s b) = past _ b (b .upper (e .at) small own)
+        go (empty q f) = absurd (f (e .at) (record { early = small; cell = own }))
+        go (best s b) = past _ b (b .upper (e .at) (record { early = small; cell = own }))
 
     -- a cell leaves if it is its output's choice
     pub among-leaving : {e : Waiting} → List·Memᴰ e all
@@ -149,7 +149,7 @@ module _ {table places : List ℕ} (r : Ready table places) where
             (arith, ap (λ w. w .cell .output) (x .0), ready-readable r .outputs (e .at) (x .1), ready-readable r .ports)
 
         go : getD numbers (e .cell .output) 0 ≡ e .at
-            → BestBelow table places (e .cell .output) 1024 (getD numbers (e .cell .output) 0)
+            → BestAmong table (BufferedBelow table places (e .cell .output) 1024) (getD numbers (e .cell .output) 0)
             → among (leaving all) e ≡ true
         go q (empty d f) = absurd (omega (arith, small))
         go q (best s b) =
@@ -325,27 +325,27 @@ module _ {table places : List ℕ} (r : Ready table places) {numbers : List ℕ}
       n : ℕ
       n = getD numbers o 0
 
-      go : BestBelow table places o 1024 (getD numbers o 0)
+      go : BestAmong table (BufferedBelow table places o 1024) (getD numbers o 0)
           → departureAt table (getD numbers o 0)
           ≡ Option·map (λ e. e .cell) (first? (keep (goesTo o) (leaving (inTable table places))))
       go (empty q f) =
           departureAt-none table n (omega arith)
-          ∙ sym (ap (Option·map (λ e. e .cell)) (first-none _ (λ e m. f (e .at) (number-small o m) (is-buffered o m))))
+          ∙ sym (ap (Option·map (λ e. e .cell)) (first-none _ (λ e m. f (e .at) (record { early = number-small o m; cell = is-buffered o m }))))
       go (best s b) =
           departureAt-some table n s
           ∙ sym
           (ap (Option·map (λ e. e .cell))
-          (first-of _ (keep-mem (goesTo o) (leaves-i r o n b) (eq-eqb _ _ (b .own .goes)))
+          (first-of _ (keep-mem (goesTo o) (leaves-i r o n b) (eq-eqb _ _ (b .own .cell .goes)))
           (λ e m. waits o m .0 ∙ ap (waitingAt table places) (number-is o m))))
 
   -- an output that the switch does not have sends none
   departure-past : (o : ℕ) → o < 16 → portsIn table ≤ o → departureAt table (getD numbers o 0) ≡ none
   departure-past o l h = go (c .each o l)
     where
-      go : BestBelow table places o 1024 (getD numbers o 0) → departureAt table (getD numbers o 0) ≡ none
+      go : BestAmong table (BufferedBelow table places o 1024) (getD numbers o 0) → departureAt table (getD numbers o 0) ≡ none
       go (empty q f) = departureAt-none table (getD numbers o 0) (omega arith)
       go (best s b) =
-          absurd (omega (arith, b .own .goes, ready-readable r .outputs (getD numbers o 0) (b .own .entry)))
+          absurd (omega (arith, b .own .cell .goes, ready-readable r .outputs (getD numbers o 0) (b .own .cell .entry)))
 
   pub departures-chosen : departuresBytes 16 (map (departureAt table) numbers)
       ≡ departuresBytes 16 (departuresOf (portsIn table) (leavingIn table places))

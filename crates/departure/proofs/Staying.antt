@@ -1,15 +1,14 @@
 -- The entries that stay close up in a section.
---     entry-words         the words of a record
 --     cleared-            one record more is cleared
 --     staying-, Closing   one entry more closes up
 --     removed-section     a section that has closed up
-use Prim.Native.Nat.{ℕ, zero, suc, _+_, _*_, _-_, _/_, _%_, _≤_, _<_}
+use Prim.Native.Nat.{ℕ, zero, suc, _+_, _*_, _-_, _/_, _≤_, _<_}
 use native.Mathlib.Omega.{arith}
 use native.Mathlib.Nat.{add-zero}
 use mathlib.Core.Bool.{Bool, true, false, not}
 use mathlib.Core.Path.{_≡_, refl, sym, _∙_, ap, ap₂}
 use mathlib.Core.List.{List, [], _∷_, _++_, map, append-assoc, append-nil}
-use borrow.Author.Tests.{eqb-true, eqb-false, eq-eqb, ne-eqb}
+use borrow.Author.Tests.{eq-eqb, ne-eqb}
 use lib.Dec.{eqb}
 use lib.ListN.{length, getD, set, take, drop, replicate, take-append-drop, length-append, length-map, length-replicate}
 use lib.ListN.{replicate-append-replicate}
@@ -19,70 +18,28 @@ use Rattle.laws.proofs.Lists.{keep-append, keep-pass, keep-fail, keep-nil}
 use Rattle.laws.proofs.Count.{length-keep, count-le-length}
 use Rattle.cell.specs.declared.Cell.{Cell}
 use Rattle.cell.specs.Limits.{cellLimit}
-use Rattle.model.specs.State.{Entry, listed, crossed, buffered}
+use Rattle.model.specs.State.{Entry}
 use Rattle.model.proofs.Sections.{map-append}
 use Rattle.layout.specs.Number.{bytesOf}
-use Rattle.layout.specs.Table.{headerSize, entrySize, sectionSize, tableSize, placeByte, placeOf, entryOf, entryBytes}
+use Rattle.layout.specs.Table.{headerSize, entrySize, sectionSize, tableSize, placeOf, entryOf, entryBytes}
 use Rattle.layout.specs.Table.{entriesBytes}
 use Rattle.layout.specs.Table.{sectionBytes}
 use Rattle.layout.specs.Entry.{entryAt, countIn}
 use Rattle.layout.specs.Records.{recordStart}
 use Rattle.layout.proofs.Table.{length-entryBytes, length-entriesBytes}
 use Rattle.places.specs.Sections.{entryPlaced}
-use Rattle.departure.specs.Departing.{stays, staying, entryWith, putAt, freeAfter, closedOne, closed, cleared}
+use Rattle.table.specs.Entries.{entryWith}
+use Rattle.departure.specs.Departing.{stays, staying, putAt, freeAfter, closedOne, closed, cleared}
 use Rattle.departure.specs.Departing.{Movable, Removable, removed}
 use Rattle.places.proofs.Window.{numbersFrom-suc}
-use Rattle.departure.proofs.Put.{put, put-next, drop-put, length-put}
+use Rattle.table.proofs.Put.{put, put-next, drop-put, length-put}
 
 ------------------------------------------------------------------------
--- the words of a record
-
-placeByte-placeOf : (b : ℕ) → 1 ≤ b → b ≤ 3 → placeByte (placeOf b) ≡ b
-unfolding placeByte placeOf
-placeByte-placeOf b low high = go (eqb b 1) (eqb b 2) refl refl
-  where
-    go : (x y : Bool) → eqb b 1 ≡ x → eqb b 2 ≡ y
-        → placeByte (elim x [ true ↦ listed | false ↦ elim y [ true ↦ crossed | false ↦ buffered ] ]) ≡ b
-    go true y d e = sym (eqb-true b 1 d)
-    go false true d e = sym (eqb-true b 2 e)
-    go false false d e = omega (arith, eqb-false b 1 d, eqb-false b 2 e)
-
--- a byte and a number behind it
-bytesOf-split : (w b m : ℕ) → b < 256 → bytesOf (suc w) (b + 256 * m) ≡ bytesOf 1 b ++ bytesOf w m
-unfolding bytesOf
-bytesOf-split w b m h =
-    let first : (b + 256 * m) % 256 ≡ b % 256 = omega arith in
-    let others : (b + 256 * m) / 256 ≡ m = omega arith in
-    ap₂ _∷_ first (ap (bytesOf w) others)
-
--- the first word has the output, the flow and the place
-head-bytes : (o f p : ℕ) → o < 256 → f < 256 → p < 256
-    → bytesOf 4 (o + 256 * f + 65536 * p) ≡ bytesOf 1 o ++ (bytesOf 1 f ++ (bytesOf 1 p ++ bytesOf 1 0))
-head-bytes o f p ho hf hp =
-    let nested : o + 256 * f + 65536 * p ≡ o + 256 * (f + 256 * (p + 256 * 0)) = omega arith in
-    ap (bytesOf 4) nested
-    ∙ bytesOf-split 3 o (f + 256 * (p + 256 * 0)) ho
-    ∙ ap (λ bs. bytesOf 1 o ++ bs)
-    (bytesOf-split 2 f (p + 256 * 0) hf ∙ ap (λ bs. bytesOf 1 f ++ bs) (bytesOf-split 1 p 0 hp))
-
-pub entry-words : (c : Cell) (p : ℕ) → c .output < 256 → c .flow < 256 → 1 ≤ p → p ≤ 3
-    → ((bytesOf 4 (c .output + 256 * c .flow + 65536 * p) ++ bytesOf 4 (c .rank)) ++ bytesOf 4 (c .tag))
-    ++ bytesOf 4 (c .slot)
-    ≡ entryBytes (entryWith c p)
-unfolding entryBytes entryWith
-entry-words c p ho hf low high =
-    ap (λ bs. ((bs ++ bytesOf 4 (c .rank)) ++ bytesOf 4 (c .tag)) ++ bytesOf 4 (c .slot))
-    (head-bytes (c .output) (c .flow) p ho hf (omega arith)
-    ∙ ap (λ b. bytesOf 1 (c .output) ++ (bytesOf 1 (c .flow) ++ (bytesOf 1 b ++ bytesOf 1 0)))
-    (sym (placeByte-placeOf p low high)))
-    ∙ simp append-assoc
+-- one record more is cleared
 
 pub zero-words : bytesOf 8 0 ++ bytesOf 8 0 ≡ replicate 16 0
 unfolding bytesOf
 zero-words = refl
-
-------------------------------------------------------------------------
--- one record more is cleared
 
 -- nothing put in changes nothing
 put-nil : (at : ℕ) (old : List ℕ) → take at old ++ ([] ++ drop (at + 0) old) ≡ old

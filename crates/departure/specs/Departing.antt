@@ -1,17 +1,15 @@
 -- What a departure chooses, sends and keeps.
 --     Ready                  what it asks of the table and the column
---     Buffered, BestBelow    the best buffered cell of an output among the entries so far
+--     Buffered, BufferedBelow    the buffered cells of an output, among the entries so far
 --     Chosen                 the numbers of the best, output by output
---     goesFirst              an output's choice between two
 --     departureAt, sevenBytes    what an output with this choice sends
 --     stays, staying         the entries that stay, of a run of them
 --     closed, cleared, removed   the table with a section closed up
 --     Movable, Removable     what the closing up of a section asks
 --     leavingIn, departed    the cells that leave, and the switch without them
 use Prim.Native.Nat.{ℕ, _+_, _*_, _-_, _<_, _≤_}
-use mathlib.Core.Bool.{Bool, true, false, cond, not, _||_}
+use mathlib.Core.Bool.{Bool, true, false, cond, not}
 use mathlib.Core.Path.{_≡_}
-use mathlib.Core.Logic.{_⊎_}
 use mathlib.Core.List.{List, _++_, map}
 use mathlib.Core.Option.{Option, none, some}
 use lib.Dec.{eqb, leb}
@@ -19,7 +17,6 @@ use lib.ListN.{length, getD, set, take, drop, replicate}
 use Rattle.laws.specs.Lists.{keep, numbersFrom}
 use Rattle.cell.specs.declared.Cell.{Cell}
 use Rattle.cell.specs.Limits.{cellLimit}
-use Rattle.cell.specs.Order.{over}
 use Rattle.model.specs.State.{Entry, Switch, isBuffered}
 use Rattle.model.specs.Phase.{Waiting}
 use Rattle.model.specs.Crossbar.{leaving, without}
@@ -29,7 +26,7 @@ use Rattle.layout.specs.Table.{headerSize, entrySize, sectionSize, tableSize, p
 use Rattle.layout.specs.Table.{sectionBytes}
 use Rattle.layout.specs.Entry.{entryAt, portsIn, clockIn, countIn}
 use Rattle.layout.specs.Records.{recordStart}
-use Rattle.places.specs.Choices.{nowhere}
+use Rattle.places.specs.Choices.{nowhere, BestAmong}
 use Rattle.places.specs.View.{inTable, InTable}
 use Rattle.places.specs.Sections.{entryPlaced, sectionsPlaced}
 use Rattle.places.specs.Loading.{InPlace}
@@ -50,25 +47,15 @@ pub record Buffered (table places : List ℕ) (output k : ℕ) : Type 0 where
   pub place : isBuffered (placeOf (getD places k 0)) ≡ true
   pub goes : entryAt table k .cell .output ≡ output
 
--- it is over every other one with a number below `end`
-pub record Best (table places : List ℕ) (output end n : ℕ) : Type 0 where
-  pub early : n < end
-  pub own : Buffered table places output n
-  pub upper : (k : ℕ) → k < end → Buffered table places output k
-      → (k ≡ n) ⊎ (over (entryAt table n .cell) (entryAt table k .cell) ≡ true)
-
-pub data BestBelow (table places : List ℕ) (output end n : ℕ) : Type 0 where
-  empty : n ≡ nowhere → ((k : ℕ) → k < end → Buffered table places output k → ⊥) → BestBelow table places output end n
-  best : n < nowhere → Best table places output end n → BestBelow table places output end n
+-- its number is below `end`
+pub record BufferedBelow (table places : List ℕ) (output end k : ℕ) : Type 0 where
+  pub early : k < end
+  pub cell : Buffered table places output k
 
 -- the choices of the sixteen outputs
 pub record Chosen (table places : List ℕ) (end : ℕ) (numbers : List ℕ) : Type 0 where
   pub size : length numbers ≡ 16
-  pub each : (output : ℕ) → output < 16 → BestBelow table places output end (getD numbers output 0)
-
--- an output would send the entry with a number rather than the one that it has so far, if it has one
-unfoldable pub goesFirst : List ℕ → ℕ → ℕ → Bool
-goesFirst table k held = leb nowhere held || over (entryAt table k .cell) (entryAt table held .cell)
+  pub each : (output : ℕ) → output < 16 → BestAmong table (BufferedBelow table places output end) (getD numbers output 0)
 
 -- what an output with this choice sends
 unfoldable pub departureAt : List ℕ → ℕ → Option Cell
@@ -95,10 +82,6 @@ stays table numbers k = not (eqb (getD numbers (entryAt table k .cell .output) 0
 -- those of n entries from a number on that stay, with their places from the column
 unfoldable pub staying : List ℕ → List ℕ → List ℕ → ℕ → ℕ → List Entry
 staying table places numbers from n = map (entryPlaced table places) (keep (stays table numbers) (numbersFrom from n))
-
--- an entry with this byte for its place
-unfoldable pub entryWith : Cell → ℕ → Entry
-entryWith c place = record { cell = c; place = placeOf place }
 
 -- the table with bytes put in from a record on
 abbrev pub putAt : ℕ → List ℕ → List ℕ → List ℕ

@@ -7,14 +7,14 @@ ghost use mathlib.Core.List.{_++_, map};
 ghost use Prim.Native.Nat.{_+_, _*_, _-_, _<_, _≤_};
 ghost use lib.ListN.{length, getD, take, drop, replicate};
 ghost use Rattle.model.specs.Crossbar.{departuresOf};
-ghost use Rattle.layout.specs.Table.{tableSize, entryBytes, encode};
+ghost use Rattle.layout.specs.Table.{tableSize, encode};
 ghost use Rattle.layout.specs.Records.{recordStart};
 ghost use Rattle.layout.specs.Answer.{departureBytes, departuresBytes};
 ghost use Rattle.layout.specs.Host.{filled};
 ghost use Rattle.layout.specs.Entry.{entryAt, portsIn};
 ghost use Rattle.places.specs.View.{InTable};
-ghost use Rattle.departure.specs.Departing.{Ready, Chosen, goesFirst, departureAt, noCell, sevenBytes, staying};
-ghost use Rattle.departure.specs.Departing.{freeAfter, closedOne, closed, entryWith, cleared, Movable, Removable};
+ghost use Rattle.departure.specs.Departing.{Ready, Chosen, departureAt, noCell, sevenBytes, staying};
+ghost use Rattle.departure.specs.Departing.{freeAfter, closedOne, closed, cleared, Movable, Removable};
 ghost use Rattle.departure.specs.Departing.{removed, leavingIn, departed};
 
 // Fills the first 448 bytes of the answer, and takes the cells that leave out of the table.
@@ -35,7 +35,7 @@ fn choose(table: &[u8], places: &[u8]) -> [u16; 16]
     ensures { λ r. ⌜ Chosen (now (table .entry)) (now (places .entry)) 1024 r ⌝ }
 {
     let mut best = [NOWHERE; 16];
-    let ports = places::ports_of(table);
+    let ports = table::entry::ports_of(table);
     let mut input = 0;
     while input < ports {
         choose_input(table, places, &mut best, input);
@@ -70,22 +70,7 @@ fn choose_entry(table: &[u8], places: &[u8], best: &mut [u16; 16], k: usize)
         return;
     }
     let output = table::entry::output_of(table, k) as usize;
-    if goes_first(table, k, best[output]) {
-        best[output] = k as u16;
-    }
-}
-
-// The choice of an output between a buffered cell and the one that it would send so far, which may be none.
-fn goes_first(table: &[u8], k: usize, held: u16) -> bool
-    requires { ⌜ (length (now table) ≡ tableSize) × (k < 1024) ⌝ }
-    ensures { λ r. ⌜ r ≡ goesFirst (now (table .entry)) k held ⌝ }
-{
-    if held >= NOWHERE {
-        return true;
-    }
-    let next = table::entry::cell_of(table, k);
-    let last = table::entry::cell_of(table, held as usize);
-    cell::over(next, last)
+    best[output] = places::better(table, best[output], k as u16);
 }
 
 // The departures of the sixteen outputs.
@@ -146,7 +131,7 @@ fn remove(table: &mut [u8], places: &[u8], best: &[u16; 16])
     requires { ⌜ Chosen (now table) (now places) 1024 (now best) ⌝ }
     ensures { λ _. ⌜ now (table .exit) ≡ encode (departed (now (table .entry)) (now (places .entry))) ⌝ }
 {
-    let ports = places::ports_of(table);
+    let ports = table::entry::ports_of(table);
     let mut input = 0;
     while input < ports {
         remove_from(table, places, best, input);
@@ -193,21 +178,8 @@ fn close_one(table: &mut [u8], places: &[u8], best: &[u16; 16], k: usize, free: 
         return free;
     }
     let c = table::entry::cell_of(table, k);
-    write_entry(table, free, c, places[k]);
+    table::entry::write_entry(table, free, c, places[k]);
     free + 1
-}
-
-// Puts an entry into a record.
-fn write_entry(table: &mut [u8], k: usize, c: Cell, place: u8)
-    requires { ⌜ (length (now table) ≡ tableSize) × (k < 1024) ⌝ }
-    requires { ⌜ (c .output < 256) × (c .flow < 256) × (1 ≤ place) × (place ≤ 3) ⌝ }
-    ensures { λ _. ⌜ now (table .exit) ≡ take (recordStart k) (now (table .entry)) ++ (entryBytes (entryWith c place) ++ drop (recordStart k + 16) (now (table .entry))) ⌝ }
-{
-    let at = 32 + 16 * k;
-    table::word::write_u32(table, at, c.output + 256 * c.flow + 65536 * place as u32);
-    table::word::write_u32(table, at + 4, c.rank);
-    table::word::write_u32(table, at + 8, c.tag);
-    table::word::write_u32(table, at + 12, c.slot);
 }
 
 // Clears the records from one up to another.

@@ -28,6 +28,7 @@ use Rattle.layout.specs.Table.{IsTable, encode, stateOf}
 use Rattle.layout.proofs.Number.{bytes?}
 use Rattle.layout.proofs.Answer.{length-departuresBytes, length-answerBytes}
 use Rattle.layout.proofs.Table.{decode-sound, decode-encode, stateOf-encode, sound-sections}
+use Rattle.table.proofs.Put.{put-next}
 use Rattle.places.specs.View.{inTable, InTable}
 use Rattle.places.specs.Sections.{entryPlaced, sectionPlaced, sectionsPlaced}
 use Rattle.places.specs.Loading.{Loaded}
@@ -38,7 +39,6 @@ use Rattle.arrival.specs.Fault.{coming, faultIn}
 use Rattle.arrival.proofs.OneByOne.{arrived-sound}
 use Rattle.moving.specs.Moved.{Steady, Moved}
 use Rattle.departure.specs.Departing.{Ready, leavingIn, departed}
-use Rattle.departure.proofs.Put.{put-next}
 use Rattle.fabric.specs.Slot.{courseIn, between, settled, Scheduled}
 
 ------------------------------------------------------------------------

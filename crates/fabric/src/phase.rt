@@ -4,7 +4,7 @@ use matching::Matched;
 use matching::find_matching;
 use moving::move_cells;
 use places::NOWHERE;
-use places::ports_of;
+use table::entry::ports_of;
 ghost use mathlib.Core.Path.{_≡_};
 ghost use mathlib.Core.Bool.{false};
 ghost use mathlib.Core.List.{[]};

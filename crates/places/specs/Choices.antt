@@ -1,10 +1,16 @@
--- The choices of a phase as numbers of entries, input by input and output by output; 1,024 where there is none.
-use Prim.Native.Nat.{ℕ}
+-- The choices of a phase and of a departure as numbers of entries, input by input and output by output; 1,024 where
+-- there is none.
+use Prim.Native.Nat.{ℕ, _<_}
+use mathlib.Core.Bool.{true, cond}
+use mathlib.Core.Path.{_≡_}
+use mathlib.Core.Logic.{_⊎_}
 use mathlib.Core.List.{List, map}
 use mathlib.Core.Option.{Option, none, some}
-use lib.Dec.{eqb}
+use lib.Dec.{leb, eqb}
 use Rattle.laws.specs.Lists.{keep, least, first?}
+use Rattle.cell.specs.Order.{over}
 use Rattle.model.specs.Phase.{Waiting, beats, Phase, phase}
+use Rattle.layout.specs.Entry.{entryAt}
 
 abbrev pub nowhere : ℕ
 nowhere = 1024
@@ -30,3 +36,23 @@ candidatesOf p input = map (λ e. e .at) (ofInput input (p .candidates))
 -- the best of some crosspoint cells of an output
 unfoldable pub bestOf : List Waiting → ℕ → ℕ
 bestOf crosspoints output = numberOf (first? (toOutput output (least beats crosspoints)))
+
+------------------------------------------------------------------------
+-- the choice of an output, cell by cell
+
+-- of two numbers of cells the one that an output sends first; either may be of none
+unfoldable pub betterOf : List ℕ → ℕ → ℕ → ℕ
+betterOf table held number =
+    cond (leb nowhere number) held
+    (cond (leb nowhere held) number
+    (cond (over (entryAt table number .cell) (entryAt table held .cell)) number held))
+
+-- one of some cells is over every other
+pub record Best (table : List ℕ) (Among : ℕ → Type 0) (n : ℕ) : Type 0 where
+  pub own : Among n
+  pub upper : (k : ℕ) → Among k → (k ≡ n) ⊎ (over (entryAt table n .cell) (entryAt table k .cell) ≡ true)
+
+-- the choice among some cells: the best of them, or none where there are none
+pub data BestAmong (table : List ℕ) (Among : ℕ → Type 0) (n : ℕ) : Type 0 where
+  empty : n ≡ nowhere → ((k : ℕ) → Among k → ⊥) → BestAmong table Among n
+  best : n < nowhere → Best table Among n → BestAmong table Among n

@@ -1,13 +1,15 @@
 // Before the phases of a slot: the places of the entries go into a column of their own, and the numbers of the crossed
-// ones to their crosspoints.
+// ones to their crosspoints. And the choice of an output between two cells, which the phases and the departure share.
 ghost use mathlib.Core.Path.{_≡_};
 ghost use mathlib.Core.Bool.{true};
 ghost use Prim.Native.Nat.{_+_, _*_, _/_, _<_};
 ghost use lib.ListN.{length};
-ghost use Rattle.layout.specs.Entry.{portsIn, countIn};
+ghost use Rattle.cell.specs.Order.{over};
+ghost use Rattle.layout.specs.Entry.{entryAt, portsIn, countIn};
 ghost use Rattle.places.specs.View.{InTable};
+ghost use Rattle.places.specs.Choices.{betterOf};
 ghost use Rattle.places.specs.Loading.{Copied, RowOf, Loaded};
-ghost use Rattle.layout.specs.Table.{IsTable};
+ghost use Rattle.layout.specs.Table.{tableSize, IsTable};
 
 // A number that no entry has.
 pub const NOWHERE: u16 = 1024;
@@ -19,7 +21,7 @@ pub fn load(table: &[u8], places: &mut [u8]) -> [[u16; 16]; 16]
     ensures { λ r. ⌜ Loaded (now (table .entry)) (now (places .exit)) r ⌝ }
 {
     let mut cross = [[NOWHERE; 16]; 16];
-    let ports = ports_of(table);
+    let ports = table::entry::ports_of(table);
     let mut input = 0;
     while input < ports {
         cross[input] = load_input(table, places, input);
@@ -62,18 +64,39 @@ fn load_entry(table: &[u8], places: &mut [u8], row: &mut [u16; 16], k: usize)
     }
 }
 
-// The number of ports.
-pub fn ports_of(table: &[u8]) -> usize
-    requires { ⌜ length (now table) ≡ 16416 ⌝ }
-    ensures { λ r. ⌜ r ≡ portsIn (now (table .entry)) ⌝ }
-{
-    table::word::read_u32(table, 4) as usize
-}
-
 // The number behind the last entry of an input.
 pub fn end_of(table: &[u8], input: usize) -> usize
-    requires { ⌜ (length (now table) ≡ 16416) × (input < 16) ⌝ }
+    requires { ⌜ (length (now table) ≡ tableSize) × (input < 16) ⌝ }
     ensures { λ r. ⌜ r ≡ 64 * input + countIn (now (table .entry)) input ⌝ }
 {
-    64 * input + table[16 + input] as usize
+    64 * input + table::entry::count_of(table, input)
+}
+
+// The choice of an output between the cell that it would send so far and another one, by their numbers. Either may be
+// none.
+pub fn better(table: &[u8], held: u16, number: u16) -> u16
+    requires { ⌜ length (now table) ≡ tableSize ⌝ }
+    ensures { λ r. ⌜ r ≡ betterOf (now (table .entry)) held number ⌝ }
+{
+    if number >= NOWHERE {
+        return held;
+    }
+    if held >= NOWHERE {
+        return number;
+    }
+    if is_over(table, number as usize, held) {
+        return number;
+    }
+    held
+}
+
+// Whether an output sends the first of two cells first.
+pub fn is_over(table: &[u8], k: usize, other: u16) -> bool
+    requires { ⌜ (length (now table) ≡ tableSize) × (k < 1024) × (other < 1024) ⌝ }
+    ensures { λ r. ⌜ r ≡ over (entryAt (now (table .entry)) k .cell) (entryAt (now (table .entry)) other .cell) ⌝ }
+{
+    cell::over(
+        table::entry::cell_of(table, k),
+        table::entry::cell_of(table, other as usize),
+    )
 }

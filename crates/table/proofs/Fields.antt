@@ -30,7 +30,7 @@ use Rattle.table.proofs.Parts.{length-recordAt}
 ------------------------------------------------------------------------
 -- the byte of a place
 
-place-i : (b : ℕ) → 1 ≤ b → b ≤ 3 → placeByte (placeOf b) ≡ b
+pub place-i : (b : ℕ) → 1 ≤ b → b ≤ 3 → placeByte (placeOf b) ≡ b
 unfolding placeByte placeOf
 place-i b low high = go (eqb b 1) refl (eqb b 2) refl
   where

@@ -1,7 +1,9 @@
 pub mod Accepted
 pub mod Apart
+pub mod Entries
 pub mod Fields
 pub mod Flows
 pub mod Parts
+pub mod Put
 pub mod Seen
 pub mod Walks

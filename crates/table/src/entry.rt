@@ -1,12 +1,31 @@
-// The fields of the records of a table. The record k = 64 * input + position stands at byte 32 + 16 * k.
+// The ports and the counts of a table, and the fields of its records. The record k = 64 * input + position stands at
+// byte 32 + 16 * k.
 // A caller shows that the bytes have a table's length and that there is such a record; the bytes may be any.
 use cell::Cell;
 ghost use mathlib.Core.Path.{_≡_};
-ghost use Prim.Native.Nat.{_+_, _*_, _<_};
-ghost use lib.ListN.{length};
-ghost use Rattle.layout.specs.Table.{tableSize, placeOf};
-ghost use Rattle.layout.specs.Entry.{entryAt};
+ghost use mathlib.Core.List.{_++_};
+ghost use Prim.Native.Nat.{_+_, _*_, _<_, _≤_};
+ghost use lib.ListN.{length, take, drop};
+ghost use Rattle.layout.specs.Table.{tableSize, placeOf, entryBytes};
+ghost use Rattle.layout.specs.Entry.{entryAt, portsIn, countIn};
 ghost use Rattle.layout.specs.Records.{placeByteAt, recordStart};
+ghost use Rattle.table.specs.Entries.{entryWith};
+
+// The number of ports.
+pub fn ports_of(bytes: &[u8]) -> usize
+    requires { ⌜ length (now bytes) ≡ tableSize ⌝ }
+    ensures { λ r. ⌜ r ≡ portsIn (now (bytes .entry)) ⌝ }
+{
+    crate::word::read_u32(bytes, 4) as usize
+}
+
+// How many entries an input has.
+pub fn count_of(bytes: &[u8], input: usize) -> usize
+    requires { ⌜ (length (now bytes) ≡ tableSize) × (input < 16) ⌝ }
+    ensures { λ r. ⌜ r ≡ countIn (now (bytes .entry)) input ⌝ }
+{
+    bytes[16 + input] as usize
+}
 
 // The cell of a record.
 pub fn cell_of(bytes: &[u8], k: usize) -> Cell
@@ -72,4 +91,17 @@ pub fn start_of(k: usize) -> usize
     ensures { λ r. ⌜ r ≡ recordStart k ⌝ }
 {
     32 + 16 * k
+}
+
+// Writes an entry into a record.
+pub fn write_entry(bytes: &mut [u8], k: usize, c: Cell, place: u8)
+    requires { ⌜ (length (now bytes) ≡ tableSize) × (k < 1024) ⌝ }
+    requires { ⌜ (c .output < 256) × (c .flow < 256) × (1 ≤ place) × (place ≤ 3) ⌝ }
+    ensures { λ _. ⌜ now (bytes .exit) ≡ take (recordStart k) (now (bytes .entry)) ++ (entryBytes (entryWith c place) ++ drop (recordStart k + 16) (now (bytes .entry))) ⌝ }
+{
+    let at = start_of(k);
+    crate::word::write_u32(bytes, at, c.output + 256 * c.flow + 65536 * place as u32);
+    crate::word::write_u32(bytes, at + 4, c.rank);
+    crate::word::write_u32(bytes, at + 8, c.tag);
+    crate::word::write_u32(bytes, at + 12, c.slot);
 }

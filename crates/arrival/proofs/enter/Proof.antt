@@ -4,7 +4,7 @@ use native.Mathlib.Omega.{arith}
 use borrow.Author.Needs.{needs}
 use lib.ListN.{length-set}
 use Rattle.arrival.proofs.Stored.{table-length, ports-below}
-use Rattle.arrival.proofs.Arriving.{place-within, entered-bytes}
+use Rattle.arrival.proofs.Arriving.{new-written, place-within, entered-bytes}
 use Rattle.arrival.proofs.enter.Statement.{statement}
 use Rattle.arrival.proofs.enter.Tie as tie
 
@@ -38,15 +38,18 @@ move-up-requires c κs =
       omega (arith, count .count-of .ensures),
     )
 
-put-entry-requires : tie.Need-put-entry-requires
-put-entry-requires c κs =
+write-entry-requires : tie.Need-write-entry-requires
+write-entry-requires c κs =
     let moved = c .before .before .before in
     let at = moved .before .before in
     let start = at .before .before .before .before .before .before in
     let input = start .pre .1 .0 in
     let below = place-within _ (start .pre .0) (start .args .c) (input .0) (input .1) in
     let ports = ports-below _ (start .pre .0) in
-    ((moved .move-up .kept .0 ∙ table-length _ (start .pre .0), omega (arith, at .new-place .ensures)), start .pre .1 .1)
+    let fits = start .pre .1 .1 in (
+      (moved .move-up .kept .0 ∙ table-length _ (start .pre .0), omega (arith, at .new-place .ensures)),
+      (fits .0, fits .1, omega arith, omega arith),
+    )
 
 add-table : tie.Need-add-table
 add-table c = search needs
@@ -64,13 +67,13 @@ slice-write-table c =
     let start = moved .before .before .before .before .before .before .before .before in
     let size = table-length _ (start .pre .0) in
     let ports = ports-below _ (start .pre .0) in
-    omega (arith, new .put-entry .kept .0, moved .move-up .kept .0, start .pre .1 .0 .0)
+    omega (arith, new .write-entry .kept .0, moved .move-up .kept .0, start .pre .1 .0 .0)
 
 same-length : tie.Need-same-length
 same-length c =
     let new = c .before .before in
     let moved = new .before .before .before .before in
-    simp length-set (new .put-entry .kept .0 ∙ moved .move-up .kept .0)
+    simp length-set (new .write-entry .kept .0 ∙ moved .move-up .kept .0)
 
 returns : tie.Need-returns
 returns c =
@@ -80,8 +83,9 @@ returns c =
     let count = at .before .before in
     let start = count .before .before .before .before in
     entered-bytes _ (start .pre .0) _ (start .pre .1 .0 .0) (start .pre .1 .0 .1) (at .new-place .result)
-    (count .count-of .result) (moved .move-up .last .0) (new .put-entry .last .0) (at .new-place .ensures)
-    (count .count-of .ensures) (moved .move-up .ensures) (new .put-entry .ensures)
+    (count .count-of .result) (moved .move-up .last .0) (new .write-entry .last .0) (at .new-place .ensures)
+    (count .count-of .ensures) (moved .move-up .ensures)
+    (new .write-entry .ensures ∙ new-written (at .new-place .result) (start .args .c) (moved .move-up .last .0))
 
 pub enter-spec : {M : Type 1} → statement M
 enter-spec =
@@ -93,7 +97,7 @@ enter-spec =
     mul-move-up
     add-move-up
     move-up-requires
-    put-entry-requires
+    write-entry-requires
     add-table
     cast-table
     add-table-2

@@ -21,19 +21,9 @@ abbrev μ-loop : tie.MeasureT-loop
 cast-input : tie.Need-cast-input Inv-loop μ-loop
 cast-input c = omega (arith, ports-below _ (c .before .before .pre .0))
 
-mul-end : tie.Need-mul-end Inv-loop μ-loop
-mul-end c = omega (arith, ports-below _ (c .before .before .pre .0))
-
-count-of-requires : tie.Need-count-of-requires Inv-loop μ-loop
-count-of-requires c κs =
+end-of-requires : tie.Need-end-of-requires Inv-loop μ-loop
+end-of-requires c κs =
     (table-length _ (c .before .before .pre .0), omega (arith, ports-below _ (c .before .before .pre .0)))
-
-add-end : tie.Need-add-end Inv-loop μ-loop
-add-end c =
-    let start = c .before .before .before in
-    let ports = ports-below _ (start .pre .0) in
-    let few = count-below _ (start .pre .0) _ (start .pre .1) in
-    omega (arith, start .pre, c .count-of .ensures)
 
 mul-k : tie.Need-mul-k Inv-loop μ-loop
 mul-k c =
@@ -48,14 +38,14 @@ outranked-requires c κs =
     let start = c .before .before .before .before .before in
     let ports = ports-below _ (start .pre .0) in
     let few = count-below _ (start .pre .0) _ (start .pre .1) in
-    (table-length _ (start .pre .0), omega (arith, start .pre, c .before .before .count-of .ensures))
+    (table-length _ (start .pre .0), omega (arith, start .pre, c .before .before .end-of .ensures))
 
 returns : tie.Need-returns Inv-loop μ-loop
 returns c =
     let at = c .before .before .before in
     let start = at .before .before .before .before in
     sym (rank-falls _ (start .pre .0) _ (start .pre .1) (at .loop .k) (at .loop .inv .0)
-    (omega (arith, at .before .count-of .ensures)) (sym (c .before .outranked .ensures) ∙ c .if1 .taken))
+    (omega (arith, at .before .end-of .ensures)) (sym (c .before .outranked .ensures) ∙ c .if1 .taken))
 
 add-k : tie.Need-add-k Inv-loop μ-loop
 add-k c =
@@ -63,7 +53,7 @@ add-k c =
     let start = at .before .before .before .before in
     let ports = ports-below _ (start .pre .0) in
     let few = count-below _ (start .pre .0) _ (start .pre .1) in
-    omega (arith, start .pre, at .before .count-of .ensures)
+    omega (arith, start .pre, at .before .end-of .ensures)
 
 loop-less : tie.Need-loop-less Inv-loop μ-loop
 loop-less c = omega arith
@@ -78,7 +68,7 @@ returns-2 c =
     let at = c .before in
     let start = at .before .before .before .before in
     sym (rank-holds _ (start .pre .0) _ (start .pre .1)
-    (λ j a b. at .loop .inv .1 j (omega (arith, at .before .count-of .ensures)) a))
+    (λ j a b. at .loop .inv .1 j (omega (arith, at .before .end-of .ensures)) a))
 
 pub falling-rank-spec : {M : Type 1} → statement M
 falling-rank-spec =
@@ -87,9 +77,7 @@ falling-rank-spec =
     Inv-loop
     μ-loop
     cast-input
-    mul-end
-    count-of-requires
-    add-end
+    end-of-requires
     mul-k
     loop-holds
     outranked-requires

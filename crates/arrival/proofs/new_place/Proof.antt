@@ -24,19 +24,12 @@ cast-input c = omega (arith, ports-below _ (c .before .before .pre .0))
 mul-first : tie.Need-mul-first Inv-loop μ-loop
 mul-first c = omega (arith, ports-below _ (c .before .before .pre .0))
 
-count-of-requires : tie.Need-count-of-requires Inv-loop μ-loop
-count-of-requires c κs =
+end-of-requires : tie.Need-end-of-requires Inv-loop μ-loop
+end-of-requires c κs =
     (table-length _ (c .before .before .pre .0), omega (arith, ports-below _ (c .before .before .pre .0)))
 
-add-end : tie.Need-add-end Inv-loop μ-loop
-add-end c =
-    let start = c .before .before .before in
-    let ports = ports-below _ (start .pre .0) in
-    let few = count-below _ (start .pre .0) _ (start .pre .1) in
-    omega (arith, start .pre, c .count-of .ensures)
-
 loop-holds : tie.Need-loop-holds Inv-loop μ-loop
-loop-holds c = (omega arith, omega (arith, c .count-of .ensures), λ j a b. absurd (omega (arith, c .count-of .ensures)))
+loop-holds c = (omega arith, omega (arith, c .end-of .ensures), λ j a b. absurd (omega (arith, c .end-of .ensures)))
 
 sub-in-list : tie.Need-sub-in-list Inv-loop μ-loop
 sub-in-list c = omega arith
@@ -83,8 +76,7 @@ new-place-spec =
     μ-loop
     cast-input
     mul-first
-    count-of-requires
-    add-end
+    end-of-requires
     loop-holds
     sub-in-list
     in-list-requires

@@ -1,6 +1,6 @@
 -- Cell by cell, none so far was ready, and the numbers of the pressing ones are written down.
 use borrow.Author.Needs.{needs}
-use Prim.Native.Nat.{_+_, _-_}
+use Prim.Native.Nat.{_+_, _*_, _-_, _<_}
 use native.Mathlib.Omega.{arith}
 use mathlib.Core.Path.{subst}
 use Rattle.choosing.specs.Walk.{Means}
@@ -20,21 +20,16 @@ abbrev μ-loop : tie.MeasureT-loop
 mul-first : tie.Need-mul-first Inv-loop μ-loop
 mul-first c = search needs
 
-add-end : tie.Need-add-end Inv-loop μ-loop
-add-end c = search needs
+end-of-requires : tie.Need-end-of-requires Inv-loop μ-loop
+end-of-requires c κs =
+    let start = c .before .before .before in
+    let readable = start .pre .0 .readable in
+    (readable .size, omega (arith, readable .ports, start .pre .1 .0))
 
-shared-slice-read-end : tie.Need-shared-slice-read-end Inv-loop μ-loop
-shared-slice-read-end c = search needs
-
-cast-end : tie.Need-cast-end Inv-loop μ-loop
-cast-end c =
-    let input = c .before .before .before .before .args .input in
-    omega (arith, c .shared-slice-known3 .given (16 + input))
-
-add-end-2 : tie.Need-add-end-2 Inv-loop μ-loop
-add-end-2 c =
-    let input = c .before .before .before .before .args .input in
-    omega (arith, c .shared-slice-known3 .given (16 + input))
+-- the walk has come to a cell of the input
+inside : (t : tie.In-loop Inv-loop μ-loop) → let start = t .before .before .before .before .before .before in
+    t .before .loop .k < 64 * start .args .input + countIn (start .args .table .now) (start .args .input)
+inside t = omega (arith, t .loop-test .taken, t .before .before .end-of .ensures)
 
 loop-holds : tie.Need-loop-holds Inv-loop μ-loop
 loop-holds c =
@@ -42,41 +37,37 @@ loop-holds c =
     walked-start _ _ _ _ (start .pre .1 .0)
 
 add-k : tie.Need-add-k Inv-loop μ-loop
-unfolding countIn
 add-k c =
     let start = c .before .before .before .before .before .before in
-    omega (arith, walked-small _ _ _ (c .before .loop .inv) (start .pre .0 .readable) (c .loop-test .taken))
+    omega (arith, walked-small _ _ _ (c .before .loop .inv) (start .pre .0 .readable) (inside c))
 
 kind-of-requires : tie.Need-kind-of-requires Inv-loop μ-loop
-unfolding countIn
 kind-of-requires c κs =
     let start = c .before .before .before .before .before .before .before in
-    (start .pre .0, (c .before .before .loop .inv .reached, c .before .loop-test .taken))
+    (start .pre .0, (c .before .before .loop .inv .reached, inside (c .before)))
 
 enum-told : tie.Need-enum-told Inv-loop μ-loop
 enum-told c = search needs
 
-cast-t20 : tie.Need-cast-t20 Inv-loop μ-loop
-unfolding countIn
-cast-t20 c =
+cast-t16 : tie.Need-cast-t16 Inv-loop μ-loop
+cast-t16 c =
     let start = c .before .before .before .before .before .before .before .before .before .before in
     let loop = c .before .before .before .before .before .loop in
-    let test = c .before .before .before .before .loop-test .taken in
+    let test = inside (c .before .before .before .before) in
     omega (arith, walked-small _ _ _ (loop .inv) (start .pre .0 .readable) test)
 
 same-length : tie.Need-same-length Inv-loop μ-loop
 same-length c =
     let start = c .before .before .before .before .before .before .before .before .before .before in
     let loop = c .before .before .before .before .before .loop in
-    let test = c .before .before .before .before .loop-test .taken in
+    let test = inside (c .before .before .before .before) in
     loop .inv .size
 
 returns : tie.Need-returns Inv-loop μ-loop
-unfolding countIn
 returns c =
     let start = c .before .before .before .before .before .before .before .before .before .before in
     let loop = c .before .before .before .before .before .loop in
-    let test = c .before .before .before .before .loop-test .taken in
+    let test = inside (c .before .before .before .before) in
     let ready = subst (Means _ _) (c .enum-told .given .1) (c .before .before .kind-of .ensures .0) in
     walked-stop _ _ _ (loop .inv) (start .pre .0 .readable) test ready
 
@@ -84,19 +75,17 @@ enum-told-2 : tie.Need-enum-told-2 Inv-loop μ-loop
 enum-told-2 c = search needs
 
 cast-numbers : tie.Need-cast-numbers Inv-loop μ-loop
-unfolding countIn
 cast-numbers c =
     let start = c .before .before .before .before .before .before .before .before .before .before in
     let loop = c .before .before .before .before .before .loop in
-    let test = c .before .before .before .before .loop-test .taken in
+    let test = inside (c .before .before .before .before) in
     omega (arith, walked-small _ _ _ (loop .inv) (start .pre .0 .readable) test)
 
 add-numbers : tie.Need-add-numbers Inv-loop μ-loop
-unfolding countIn
 add-numbers c =
     let start = c .before .before .before .before .before .before .before .before .before .before in
     let loop = c .before .before .before .before .before .loop in
-    let test = c .before .before .before .before .loop-test .taken in
+    let test = inside (c .before .before .before .before) in
     omega (
       arith,
       walked-room _ _ _ (loop .inv),
@@ -106,11 +95,10 @@ add-numbers c =
     )
 
 mul-numbers : tie.Need-mul-numbers Inv-loop μ-loop
-unfolding countIn
 mul-numbers c =
     let start = c .before .before .before .before .before .before .before .before .before .before in
     let loop = c .before .before .before .before .before .loop in
-    let test = c .before .before .before .before .loop-test .taken in
+    let test = inside (c .before .before .before .before) in
     omega (
       arith,
       walked-room _ _ _ (loop .inv),
@@ -120,11 +108,10 @@ mul-numbers c =
     )
 
 slice-write-numbers : tie.Need-slice-write-numbers Inv-loop μ-loop
-unfolding countIn
 slice-write-numbers c =
     let start = c .before .before .before .before .before .before .before .before .before .before in
     let loop = c .before .before .before .before .before .loop in
-    let test = c .before .before .before .before .loop-test .taken in
+    let test = inside (c .before .before .before .before) in
     omega (
       arith,
       walked-room _ _ _ (loop .inv),
@@ -134,11 +121,10 @@ slice-write-numbers c =
     )
 
 add-urgent : tie.Need-add-urgent Inv-loop μ-loop
-unfolding countIn
 add-urgent c =
     let start = c .before .before .before .before .before .before .before .before .before .before in
     let loop = c .before .before .before .before .before .loop in
-    let test = c .before .before .before .before .loop-test .taken in
+    let test = inside (c .before .before .before .before) in
     omega (
       arith,
       walked-room _ _ _ (loop .inv),
@@ -151,11 +137,10 @@ loop-less : tie.Need-loop-less Inv-loop μ-loop
 loop-less c = search needs
 
 loop-again : tie.Need-loop-again Inv-loop μ-loop
-unfolding countIn
 loop-again c =
     let start = c .before .before .before .before .before .before .before .before .before .before in
     let loop = c .before .before .before .before .before .loop in
-    let test = c .before .before .before .before .loop-test .taken in
+    let test = inside (c .before .before .before .before) in
     let pressing = subst (Means _ _) (c .enum-told2 .given .1) (c .before .before .kind-of .ensures .0) in
     walked-write _ _ _ (loop .inv) (start .pre .0 .readable) (start .pre .1 .1) test
     (c .before .before .kind-of .ensures .1)
@@ -171,7 +156,7 @@ loop-again-2 : tie.Need-loop-again-2 Inv-loop μ-loop
 loop-again-2 c =
     let start = c .before .before .before .before .before .before .before .before .before .before in
     let loop = c .before .before .before .before .before .loop in
-    let test = c .before .before .before .before .loop-test .taken in
+    let test = inside (c .before .before .before .before) in
     let other = subst (Means _ _) (c .enum-told3 .given .1) (c .before .before .kind-of .ensures .0) in
     walked-on _ _ _ (loop .inv) (c .before .before .kind-of .ensures .1) (other .0) (other .1)
 
@@ -180,10 +165,10 @@ same-length-2 c =
     c .before .loop .inv .size
 
 returns-2 : tie.Need-returns-2 Inv-loop μ-loop
-unfolding countIn
 returns-2 c =
     let start = c .before .before .before .before .before .before in
-    walked-end _ _ _ (c .before .loop .inv) (start .pre .0 .readable) (c .loop-test .left)
+    walked-end _ _ _ (c .before .loop .inv) (start .pre .0 .readable)
+    (omega (arith, c .loop-test .left, c .before .before .end-of .ensures))
 
 pub scan-spec : {M : Type 1} → statement M
 scan-spec =
@@ -192,15 +177,12 @@ scan-spec =
     Inv-loop
     μ-loop
     mul-first
-    add-end
-    shared-slice-read-end
-    cast-end
-    add-end-2
+    end-of-requires
     loop-holds
     add-k
     kind-of-requires
     enum-told
-    cast-t20
+    cast-t16
     same-length
     returns
     enum-told-2

@@ -1,14 +1,13 @@
--- One entry more: it is not buffered, or it goes first, or it does not.
+-- One entry more: it is not buffered, or its output chooses between it and the best so far.
 use native.Mathlib.Omega.{arith}
-use mathlib.Core.Path.{sym, _∙_}
-use Prim.Native.Nat.{_<_}
+use mathlib.Core.Path.{sym, subst}
+use Prim.Native.Nat.{_+_, _<_}
 use borrow.Author.Needs.{needs}
-use lib.ListN.{getD}
+use lib.ListN.{getD, set}
 use Rattle.laws.proofs.Tests.{by-fail}
-use Rattle.departure.specs.Departing.{Buffered}
+use Rattle.departure.specs.Departing.{Buffered, Chosen}
 use Rattle.places.proofs.Window
-use Rattle.departure.proofs.Leaving.{ready-readable, byte-buffered, buffered-byte, chosen-skip, chosen-take}
-use Rattle.departure.proofs.Leaving.{chosen-hold}
+use Rattle.departure.proofs.Leaving.{ready-readable, byte-buffered, buffered-byte, chosen-skip, chosen-next}
 use Rattle.departure.proofs.choose_entry.Statement.{statement}
 use Rattle.departure.proofs.choose_entry.Tie as tie
 
@@ -49,38 +48,33 @@ output-of-requires c κs =
 cast-output : tie.Need-cast-output
 cast-output c = search needs
 
-mul-goes-first : tie.Need-mul-goes-first
-mul-goes-first c = search needs
+mul-better : tie.Need-mul-better
+mul-better c = search needs
 
-element-copy-out-goes-first : tie.Need-element-copy-out-goes-first
-element-copy-out-goes-first c = port c
+element-copy-out-better : tie.Need-element-copy-out-better
+element-copy-out-better c = port c
 
-goes-first-requires : tie.Need-goes-first-requires
-goes-first-requires c κs =
-    (ready-readable (c .before .before .before .before .before .before .pre .0) .size, small (c .before .before .before .before .before .before))
+cast-better : tie.Need-cast-better
+cast-better c = omega (arith, small (c .before .before .before .before .before .before))
 
-cast-best : tie.Need-cast-best
-cast-best c = omega (arith, small (c .before .before .before .before .before .before .before .before))
+better-requires : tie.Need-better-requires
+better-requires c κs = ready-readable (c .before .before .before .before .before .before .pre .0) .size
 
 mul-best : tie.Need-mul-best
 mul-best c = search needs
 
 element-write-best : tie.Need-element-write-best
-element-write-best c = port (c .before .before .before)
+element-write-best c = port (c .before .before)
 
 returns-2 : tie.Need-returns-2
 returns-2 c =
-    let start = c .before .before .before .before .before .before .before .before in
-    chosen-take (start .pre .0) (start .args .k) (start .args .best .now) (start .pre .1 .1)
-    (c .before .before .before .output-of .result) (buffered (c .before .before .before))
-    (sym (c .before .goes-first .ensures) ∙ c .if2 .taken)
-
-returns-3 : tie.Need-returns-3
-returns-3 c =
-    let start = c .before .before .before .before .before .before .before .before in
-    chosen-hold (start .pre .0) (start .args .k) (start .args .best .now) (start .pre .1 .1)
-    (c .before .before .before .output-of .result) (buffered (c .before .before .before))
-    (sym (c .before .goes-first .ensures) ∙ c .if2 .left)
+    let found = c .before .before in
+    let start = found .before .before .before .before .before in
+    let best = start .args .best .now in
+    let output = found .output-of .result in
+    subst (λ n. Chosen (start .args .table .now) (start .args .places .now) (start .args .k + 1) (set best output n))
+    (sym (c .better .ensures))
+    (chosen-next (start .pre .0) (start .args .k) best (start .pre .1 .1) output (buffered found))
 
 pub choose-entry-spec : {M : Type 1} → statement M
 choose-entry-spec =
@@ -90,11 +84,10 @@ choose-entry-spec =
     returns
     output-of-requires
     cast-output
-    mul-goes-first
-    element-copy-out-goes-first
-    goes-first-requires
-    cast-best
+    mul-better
+    element-copy-out-better
+    cast-better
+    better-requires
     mul-best
     element-write-best
-    returns-2
-    returns-3)
+    returns-2)

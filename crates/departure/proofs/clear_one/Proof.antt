@@ -3,7 +3,7 @@ use native.Mathlib.Omega.{arith}
 use mathlib.Core.Path.{_∙_, ap}
 use borrow.Author.Needs.{needs}
 use Rattle.layout.specs.Records.{recordStart}
-use Rattle.departure.proofs.Put.{put, put-two}
+use Rattle.table.proofs.Put.{put, put-two}
 use Rattle.departure.proofs.Staying.{zero-words}
 use Rattle.departure.proofs.clear_one.Statement.{statement}
 use Rattle.departure.proofs.clear_one.Tie as tie

@@ -1,7 +1,7 @@
 -- The numbers of the departure, or zeros.
 use mathlib.Core.Path.{_∙_, ap}
 use borrow.Author.Needs.{needs}
-use Rattle.departure.proofs.Put.{put}
+use Rattle.table.proofs.Put.{put}
 use Rattle.departure.proofs.Sending.{departure-none, departure-some}
 use Rattle.departure.proofs.send_one.Statement.{statement}
 use Rattle.departure.proofs.send_one.Tie as tie

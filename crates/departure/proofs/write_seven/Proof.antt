@@ -2,7 +2,7 @@
 use native.Mathlib.Omega.{arith}
 use borrow.Author.Needs.{needs}
 use Rattle.departure.specs.Departing.{sevenBytes}
-use Rattle.departure.proofs.Put.{put-seven}
+use Rattle.table.proofs.Put.{put-seven}
 use Rattle.departure.proofs.write_seven.Statement.{statement}
 use Rattle.departure.proofs.write_seven.Tie as tie
 

@@ -1,7 +1,7 @@
--- The count of an input is its byte.
-use Prim.Native.Nat.{_+_}
+-- The entries of an input begin at 64 times its number. Their count is a byte, so that the sum fits.
+use Prim.Native.Nat.{_+_, _*_}
 use native.Mathlib.Omega.{arith}
-use mathlib.Core.Path.{refl}
+use mathlib.Core.Path.{ap}
 use borrow.Author.Needs.{needs}
 use Rattle.layout.specs.Entry.{countIn}
 use Rattle.places.proofs.end_of.Statement.{statement}
@@ -10,23 +10,17 @@ use Rattle.places.proofs.end_of.Tie as tie
 mul-result : tie.Need-mul-result
 mul-result c = search needs
 
+count-of-requires : tie.Need-count-of-requires
+count-of-requires c κs = search needs
+
 add-result : tie.Need-add-result
-add-result c = search needs
-
-shared-slice-read-result : tie.Need-shared-slice-read-result
-shared-slice-read-result c = search needs
-
-cast-result : tie.Need-cast-result
-cast-result c = omega (arith, c .shared-slice-known .given (16 + c .before .args .input))
-
-add-result-2 : tie.Need-add-result-2
-add-result-2 c = omega (arith, c .shared-slice-known .given (16 + c .before .args .input))
+unfolding countIn
+add-result c =
+    let start = c .before .before in
+    omega (arith, c .count-of .ensures, c .before .shared-slice-known .given (16 + start .args .input))
 
 returns : tie.Need-returns
-unfolding countIn
-returns c = refl
+returns c = ap (λ n. 64 * c .before .before .args .input + n) (c .count-of .ensures)
 
 pub end-of-spec : {M : Type 1} → statement M
-end-of-spec =
-    tie.close
-    (tie.spec mul-result add-result shared-slice-read-result cast-result add-result-2 returns)
+end-of-spec = tie.close (tie.spec mul-result count-of-requires add-result returns)

@@ -5,7 +5,7 @@ use Rattle.fabric.proofs.slot.write_proposals.Tie as tie
 use native.Mathlib.Omega.{arith}
 use mathlib.Core.Path.{refl}
 use Rattle.layout.specs.Number.{bytesOf}
-use Rattle.departure.proofs.Put.{put-next}
+use Rattle.table.proofs.Put.{put-next}
 
 write-u32-requires : tie.Need-write-u32-requires
 write-u32-requires c κs = search needs

@@ -1,19 +1,15 @@
--- Four words one behind the other.
+-- Four numbers one behind the other.
 use native.Mathlib.Omega.{arith}
-use mathlib.Core.Path.{_∙_, ap}
+use mathlib.Core.Path.{_∙_, ap₂}
 use Prim.Native.Nat.{_+_, _*_}
 use borrow.Author.Needs.{needs}
-use Rattle.layout.specs.Records.{recordStart}
-use Rattle.departure.proofs.Put.{put, put-four}
-use Rattle.departure.proofs.Staying.{entry-words}
-use Rattle.departure.proofs.write_entry.Statement.{statement}
-use Rattle.departure.proofs.write_entry.Tie as tie
+use Rattle.table.proofs.Put.{put, put-four}
+use Rattle.table.proofs.Entries.{entry-words}
+use Rattle.table.proofs.entry.write_entry.Statement.{statement}
+use Rattle.table.proofs.entry.write_entry.Tie as tie
 
-mul-at : tie.Need-mul-at
-mul-at c = search needs
-
-add-at : tie.Need-add-at
-add-at c = search needs
+start-of-requires : tie.Need-start-of-requires
+start-of-requires c κs = search needs
 
 mul-write-u32 : tie.Need-mul-write-u32
 mul-write-u32 c = search needs
@@ -57,23 +53,24 @@ returns c =
     let x = d .before .before .before .before in
     let b = x .before .before .before .before in
     let a = b .before .before .before .before in
-    let start = a .before .before .before .before .before in
+    let at = a .before .before .before .before in
+    let start = at .before .before in
     let cell = start .args .c in
     let p = start .args .place in
-    let old = start .args .table .now in
+    let old = start .args .bytes .now in
     let fits = start .pre .1 in
-    put-four (recordStart (start .args .k)) (cell .output + 256 * cell .flow + 65536 * p) (cell .rank) (cell .tag) (cell .slot)
+    put-four (at .start-of .result) (cell .output + 256 * cell .flow + 65536 * p) (cell .rank) (cell .tag) (cell .slot)
     old (a .write-u32 .last .0) (b .write-u322 .last .0) (x .write-u323 .last .0) (d .write-u324 .last .0)
-    (omega (arith, start .pre .0 .0, start .pre .0 .1))
+    (omega (arith, at .start-of .ensures, start .pre .0 .0, start .pre .0 .1))
     (a .write-u32 .ensures) (b .write-u322 .ensures) (x .write-u323 .ensures) (d .write-u324 .ensures)
-    ∙ ap (λ bs. put (recordStart (start .args .k)) 16 bs old) (entry-words cell p (fits .0) (fits .1) (fits .2) (fits .3))
+    ∙ ap₂ (λ n bs. put n 16 bs old) (at .start-of .ensures)
+    (entry-words cell p (fits .0) (fits .1) (fits .2) (fits .3))
 
 pub write-entry-spec : {M : Type 1} → statement M
 write-entry-spec =
     tie.close
     (tie.spec
-    mul-at
-    add-at
+    start-of-requires
     mul-write-u32
     add-write-u32
     mul-write-u32-2

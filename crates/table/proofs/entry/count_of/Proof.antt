@@ -4,8 +4,8 @@ use mathlib.Core.Path.{refl}
 use native.Mathlib.Omega.{arith}
 use borrow.Author.Needs.{needs}
 use Rattle.layout.specs.Entry.{countIn}
-use Rattle.arrival.proofs.count_of.Statement.{statement}
-use Rattle.arrival.proofs.count_of.Tie as tie
+use Rattle.table.proofs.entry.count_of.Statement.{statement}
+use Rattle.table.proofs.entry.count_of.Tie as tie
 
 add-result : tie.Need-add-result
 add-result c = search needs

@@ -1,8 +1,8 @@
 -- The number of ports stands in the header.
 use borrow.Author.Needs.{needs}
 use Rattle.layout.specs.Entry.{portsIn}
-use Rattle.places.proofs.ports_of.Statement.{statement}
-use Rattle.places.proofs.ports_of.Tie as tie
+use Rattle.table.proofs.entry.ports_of.Statement.{statement}
+use Rattle.table.proofs.entry.ports_of.Tie as tie
 
 read-u32-requires : tie.Need-read-u32-requires
 read-u32-requires c κs = search needs

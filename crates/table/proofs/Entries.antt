@@ -1,0 +1,40 @@
+-- An entry is written as four numbers of 32 bits.
+use Prim.Native.Nat.{ℕ, suc, _+_, _*_, _/_, _%_, _≤_, _<_}
+use native.Mathlib.Omega.{arith}
+use mathlib.Core.Path.{_≡_, sym, _∙_, ap, ap₂}
+use mathlib.Core.List.{_∷_, _++_, append-assoc}
+use Rattle.cell.specs.declared.Cell.{Cell}
+use Rattle.layout.specs.Number.{bytesOf}
+use Rattle.layout.specs.Table.{entryBytes}
+use Rattle.table.specs.Entries.{entryWith}
+use Rattle.table.proofs.Fields.{place-i}
+
+-- a byte and a number behind it
+bytesOf-split : (w b m : ℕ) → b < 256 → bytesOf (suc w) (b + 256 * m) ≡ bytesOf 1 b ++ bytesOf w m
+unfolding bytesOf
+bytesOf-split w b m h =
+    let first : (b + 256 * m) % 256 ≡ b % 256 = omega arith in
+    let others : (b + 256 * m) / 256 ≡ m = omega arith in
+    ap₂ _∷_ first (ap (bytesOf w) others)
+
+-- the first number has the output, the flow and the place
+head-bytes : (o f p : ℕ) → o < 256 → f < 256 → p < 256
+    → bytesOf 4 (o + 256 * f + 65536 * p) ≡ bytesOf 1 o ++ (bytesOf 1 f ++ (bytesOf 1 p ++ bytesOf 1 0))
+head-bytes o f p ho hf hp =
+    let nested : o + 256 * f + 65536 * p ≡ o + 256 * (f + 256 * (p + 256 * 0)) = omega arith in
+    ap (bytesOf 4) nested
+    ∙ bytesOf-split 3 o (f + 256 * (p + 256 * 0)) ho
+    ∙ ap (λ bs. bytesOf 1 o ++ bs)
+    (bytesOf-split 2 f (p + 256 * 0) hf ∙ ap (λ bs. bytesOf 1 f ++ bs) (bytesOf-split 1 p 0 hp))
+
+pub entry-words : (c : Cell) (p : ℕ) → c .output < 256 → c .flow < 256 → 1 ≤ p → p ≤ 3
+    → ((bytesOf 4 (c .output + 256 * c .flow + 65536 * p) ++ bytesOf 4 (c .rank)) ++ bytesOf 4 (c .tag))
+    ++ bytesOf 4 (c .slot)
+    ≡ entryBytes (entryWith c p)
+unfolding entryBytes entryWith
+entry-words c p ho hf low high =
+    ap (λ bs. ((bs ++ bytesOf 4 (c .rank)) ++ bytesOf 4 (c .tag)) ++ bytesOf 4 (c .slot))
+    (head-bytes (c .output) (c .flow) p ho hf (omega arith)
+    ∙ ap (λ b. bytesOf 1 (c .output) ++ (bytesOf 1 (c .flow) ++ (bytesOf 1 b ++ bytesOf 1 0)))
+    (sym (place-i p low high)))
+    ∙ simp append-assoc
