@@ -41,6 +41,7 @@ use Rattle.reader.proofs.Whole.{nil-text, next-nil, next-shorter}
 use Rattle.play.specs.Player.{Machine, departuresText, refusalText, lineOf}
 use Rattle.play.specs.Player.{playFrom, play, crossbar, playCrossbar}
 use Rattle.play.specs.Turn.{Standing, opening, playing, over, Turn, ending, slotTurn, nextTurn, headerTurn, turn}
+use Rattle.play.specs.Turn.{followed, turns}
 
 -- what is still to be written when t is all the text that is left
 unfoldable pub rest : Standing → List ℕ → List ℕ
@@ -394,17 +395,6 @@ unfolding rest
 whatever-pieces ps w r = plays-rest r
 
 -- one run
-
--- the turn x, and behind it the turns y
-unfoldable pub followed : Turn → Turn → Turn
-followed x y = record { written = x .written ++ y .written; left = y .left; after = y .after }
-
--- turns one after the other until one writes nothing, at most so many
-unfoldable pub turns : ℕ → Bool → Standing → List ℕ → Turn
-turns zero last s t = record { written = []; left = t; after = s }
-turns (suc most) last s t =
-    let x = turn last s t in
-    elim (x .written) [ [] ↦ x | b ∷ w ↦ followed x (turns most last (x .after) (x .left)) ]
 
 -- all of them: each that writes something takes a byte or is the last
 unfoldable pub allTurns : Bool → Standing → List ℕ → Turn

@@ -1,9 +1,9 @@
 -- The player, one turn after the other. A turn plays what stands at the start of the text that is there, the header, a
 -- block or the end; or it does nothing, where more text is needed. What the turns write, one behind the other, is the
 -- player's text, however the text arrives (proofs/Pieces).
-use Prim.Native.Nat.{ℕ, _+_}
+use Prim.Native.Nat.{ℕ, zero, suc, _+_}
 use mathlib.Core.Bool.{Bool}
-use mathlib.Core.List.{List, [], _++_}
+use mathlib.Core.List.{List, [], _∷_, _++_}
 use mathlib.Core.Option.{some}
 use Rattle.cell.specs.declared.Refusal.{Refusal}
 use Rattle.cell.specs.declared.Refusal.the-variants.{BadLine}
@@ -64,3 +64,14 @@ unfoldable pub turn : Bool → Standing → List ℕ → Turn
 turn last opening t = headerTurn t (headerIn last t)
 turn last (playing l s) t = nextTurn l s t (nextIn last (s .clock) t)
 turn last over t = ending [] t
+
+-- the turn x, and behind it the turns y
+unfoldable pub followed : Turn → Turn → Turn
+followed x y = record { written = x .written ++ y .written; left = y .left; after = y .after }
+
+-- turns one after the other until one writes nothing, at most so many
+unfoldable pub turns : ℕ → Bool → Standing → List ℕ → Turn
+turns zero last s t = record { written = []; left = t; after = s }
+turns (suc most) last s t =
+    let x = turn last s t in
+    elim (x .written) [ [] ↦ x | b ∷ w ↦ followed x (turns most last (x .after) (x .left)) ]

@@ -8,15 +8,15 @@
 --     next-unfinished          enough text does not end there
 --     header-append            the header, with more text behind it
 --     cut-anywhere, cut-header the answer for a piece is the answer for the whole text
-use Prim.Native.Nat.{ℕ, zero, suc, _+_, _*_, _/_, _≤_, _<_}
+use Prim.Native.Nat.{ℕ, zero, suc, _+_, _*_, _≤_, _<_}
 use native.Mathlib.Omega.{arith}
 use mathlib.Core.Bool.{Bool, true, false}
 use mathlib.Core.List.{List, [], _∷_, _++_, append-nil}
 use mathlib.Core.Logic.{_⊎_, inl, inr, ⊎-elim, _≢_}
 use mathlib.Core.Option.{Option, none, some, bind, Option·map}
 use mathlib.Core.Path.{_≡_, refl, sym, ap, _∙_}
-use borrow.Author.Tests.{ltb-true, ltb-false, leb-true, eqb-true, eqb-false, le-leb}
-use lib.Dec.{ltb, leb, eqb}
+use borrow.Author.Tests.{leb-true, eqb-true, eqb-false, le-leb}
+use lib.Dec.{leb, eqb}
 use lib.ListN.{length, length-append}
 use Rattle.cell.specs.declared.Arrival.{Arrival}
 use Rattle.laws.proofs.Tests.{or-r}
@@ -28,15 +28,14 @@ use Rattle.trace.specs.declared.Key.the-variants.{Ports, First, Slot, In, Out, 
 use Rattle.reader.specs.declared.Digits.the-variants.{Worth, Bad}
 use Rattle.reader.specs.declared.Digits.{Digits}
 use Rattle.trace.specs.Ascii.{ascii}
-use Rattle.trace.specs.Line.{keyName, keyText, decimal, line, after, readLine}
+use Rattle.trace.specs.Line.{keyName, keyText, line, after, readLine}
 use Rattle.trace.specs.Reader.{Cursor, Read, got, badAt, Reader, give, _>>=_, number, exactly, begins}
 use Rattle.trace.specs.Reader.{arrival, arrivals, block, Next, slotAhead, finished, faulty, afterEnd, next}
 use Rattle.trace.specs.Reader.{Header, opened, refusedAt, header}
 use Rattle.trace.specs.Contents.{blockLimit}
 use Rattle.trace.specs.Piece.{known, enough, decided, nextIn, headerIn}
 use Rattle.reader.specs.Reading.{from, withDigit, readBody}
-use Rattle.trace.proofs.Tests.{fits32-e}
-use Rattle.trace.proofs.Lengths.{length-decimal-small, length-decimal-tens, length-line}
+use Rattle.trace.proofs.Lengths.{length-line-le}
 use Rattle.trace.proofs.Line.{after-exact}
 use Rattle.trace.proofs.Blocks.{bind-got, bind-bad, bind-exact, number-some, number-none, number-exact}
 use Rattle.trace.proofs.Blocks.{exactly-same, exactly-other, exactly-bad, exactly-exact}
@@ -74,11 +73,6 @@ reach-mono : (d m n : ℕ) → m ≤ n → reach m d ≤ reach n d
 unfolding reach
 reach-mono zero m n h = h
 reach-mono (suc d) m n h = reach-mono d (10 * m) (10 * n) (omega arith)
-
-reach-ten : (d n : ℕ) → reach (10 * n) d ≡ 10 * reach n d
-unfolding reach
-reach-ten zero n = refl
-reach-ten (suc d) n = reach-ten d (10 * n)
 
 scan-more : (d n : ℕ) (t u : List ℕ) → clockEnd < reach n d → n ≤ clockEnd → d ≤ length t
     → scan n (t ++ u) ≡ Option·map (more u) (scan n t)
@@ -162,25 +156,6 @@ readLine-more k t u h = go (after (keyText k) t) refl
         readLine-some k (t ++ u) (after-more (keyText k) t u (omega arith) ∙ rw e)
         ∙ readBody-more body u m
         ∙ sym (rw (readLine-some k t e))
-
--- a line takes no more bytes than its key, ten digits and the line feed
-length-decimal-below : (d n : ℕ) → n < reach 10 d → length (decimal n) ≤ suc d
-unfolding reach
-length-decimal-below zero n h = omega (arith, length-decimal-small n h)
-length-decimal-below (suc d) n h = go (ltb n 10) refl (length-decimal-below d (n / 10))
-  where
-    go : (b : Bool) → ltb n 10 ≡ b → (n / 10 < reach 10 d → length (decimal (n / 10)) ≤ suc d)
-        → length (decimal n) ≤ suc (suc d)
-    go true e fewer = omega (arith, length-decimal-small n (ltb-true n 10 e))
-    go false e fewer =
-        let f : n / 10 < reach 10 d = omega (arith, reach-ten d 10) in
-        omega (arith, length-decimal-tens n (ltb-false n 10 e), fewer f)
-
-length-line-le : (k : Key) (n : ℕ) → fits32 n ≡ true → length (line k n) ≤ length (keyText k) + 11
-unfolding reach
-length-line-le k n h =
-    let l : length (decimal n) ≤ 10 = length-decimal-below 9 n (omega (arith, fits32-e n h)) in
-    omega (arith, length-line k n)
 
 -- readers
 

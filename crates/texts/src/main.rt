@@ -144,10 +144,8 @@ fn write(name: &[u8], ports: u32, first: u32, counts: &[u32], numbers: &[u32]) {
 // The refusal's two lines.
 fn refused(refusal: Refusal, line: usize) {
     let mut out = [0u8; 64];
-    if line <= 4294967295 {
-        let end = writer::put_refusal(&mut out, 0, refusal, line as u32);
-        print_first(&out, end);
-    }
+    let end = writer::put_refusal(&mut out, 0, refusal, line);
+    print_first(&out, end);
 }
 
 // The first bytes of a buffer, if it has so many.

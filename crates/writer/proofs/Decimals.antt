@@ -1,15 +1,13 @@
 -- The digits of a number, as they are written and counted:
---     length-decimal              how many there are
+--     length-line-parts           how many a line has
 --     poured-small, poured-tens   one digit is poured, and one digit more
-use Prim.Native.Nat.{ℕ, zero, suc, _+_, _*_, _-_, _/_, _%_, _≤_, _<_}
+use Prim.Native.Nat.{ℕ, _+_, _/_, _%_, _≤_, _<_}
 use native.Mathlib.Omega.{arith}
-use mathlib.Core.Bool.{Bool, true, false}
-use mathlib.Core.List.{List, [], _∷_, _++_}
-use mathlib.Core.Path.{_≡_, ap, _∙_}
-use lib.Dec.{ltb}
+use mathlib.Core.List.{List, [], _∷_}
+use mathlib.Core.Path.{_≡_}
 use lib.ListN.{length, length-append}
 use Rattle.trace.specs.declared.Key.{Key}
-use Rattle.trace.specs.Line.{digitsWithin, decimal, line}
+use Rattle.trace.specs.Line.{decimal, line}
 use Rattle.writer.specs.Keys.{keyLength}
 use Rattle.writer.specs.Writing.{lastPlace, Poured}
 use Rattle.trace.proofs.Lengths.{decimal-tens}
@@ -18,23 +16,6 @@ use Rattle.writer.proofs.Keys.{length-keyText}
 use Rattle.writer.proofs.Pour.{poured-then}
 
 -- how many there are
-
-length-digitsWithin : (k n : ℕ) → length (digitsWithin k n) ≤ suc k
-unfolding digitsWithin
-length-digitsWithin zero n = omega arith
-length-digitsWithin (suc k) n = go (ltb n 10) (length-digitsWithin k (n / 10))
-  where
-    more : List ℕ
-    more = digitsWithin k (n / 10) ++ ((48 + n % 10) ∷ [])
-
-    go : (b : Bool) → length (digitsWithin k (n / 10)) ≤ suc k
-        → length {A = ℕ} (elim b [ true ↦ (48 + n) ∷ [] | false ↦ more ]) ≤ suc (suc k)
-    go true h = omega arith
-    go false h = omega (arith, length-append (digitsWithin k (n / 10)) ((48 + n % 10) ∷ []))
-
-pub length-decimal-le : (n : ℕ) → length (decimal n) ≤ suc n
-unfolding decimal
-length-decimal-le n = length-digitsWithin n n
 
 pub length-line-parts : (k : Key) (n : ℕ) → length (line k n) ≡ keyLength k + length (decimal n) + 1
 unfolding line

@@ -99,7 +99,7 @@ arrivalAt-fits : (ns : List ℕ) → Fit32 ns → arrivalFits (arrivalAt ns) ≡
 unfolding arrivalFits arrivalAt
 arrivalAt-fits ns f = rw (f 0, f 1, f 2, f 3, f 4)
 
-arrivalsFrom-fits : (n : ℕ) (ns : List ℕ) → Fit32 ns → all? arrivalFits (arrivalsFrom n ns) ≡ true
+pub arrivalsFrom-fits : (n : ℕ) (ns : List ℕ) → Fit32 ns → all? arrivalFits (arrivalsFrom n ns) ≡ true
 unfolding arrivalsFrom
 arrivalsFrom-fits zero ns f = all?-nil arrivalFits
 arrivalsFrom-fits (suc n) ns f =

@@ -54,7 +54,7 @@ pub fn write(ports: u32, first: u32, counts: &[u32], numbers: &[u32], out: &mut 
 pub fn put_line(out: &mut [u8], at: usize, key: Key, n: u32) -> usize
     ensures { λ r. ⌜ Put (now (out .entry)) at (line key n) (now (out .exit)) r ⌝ }
 {
-    let end = line_end(at, key, n);
+    let end = line_end(at, key, n as usize);
     if out.len() < end {
         return end;
     }
@@ -68,17 +68,17 @@ pub fn put_departure(out: &mut [u8], at: usize, cell: Cell) -> usize
         ++ (line In (cell .input) ++ (line Flow (cell .flow) ++ (line Rank (cell .rank) ++ line Tag (cell .tag)))))
         (now (out .exit)) r ⌝ }
 {
-    let flow = pair_end(at, Key::Out, cell.output, Key::In, cell.input);
+    let flow = pair_end(at, Key::Out, cell.output, Key::In, cell.input as usize);
     let end = fields_end(flow, cell.flow, cell.rank, cell.tag);
     if out.len() < end {
         return end;
     }
-    let fields = pour_pair(out, at, Key::Out, cell.output, Key::In, cell.input);
+    let fields = pour_pair(out, at, Key::Out, cell.output, Key::In, cell.input as usize);
     pour_fields(out, fields, cell.flow, cell.rank, cell.tag)
 }
 
 // The lines of a refusal, `refused` and `line`, the line at fault, if they fit.
-pub fn put_refusal(out: &mut [u8], at: usize, refusal: Refusal, fault: u32) -> usize
+pub fn put_refusal(out: &mut [u8], at: usize, refusal: Refusal, fault: usize) -> usize
     ensures { λ r. ⌜ Put (now (out .entry)) at
         (line Refused (number refusal) ++ line Line fault)
         (now (out .exit)) r ⌝ }
@@ -92,7 +92,7 @@ pub fn put_refusal(out: &mut [u8], at: usize, refusal: Refusal, fault: u32) -> u
 }
 
 // How many bytes a line has.
-pub fn line_length(key: Key, n: u32) -> usize
+pub fn line_length(key: Key, n: usize) -> usize
     ensures { λ r. ⌜ r ≡ length (line key n) ⌝ }
 {
     key_length(key) + digits(n) + 1
@@ -148,7 +148,7 @@ fn pour_contents(out: &mut [u8], ports: u32, first: u32, counts: &[u32], numbers
         (text (contentsOf ports first (now (counts .entry)) (now (numbers .entry))))
         (now (out .exit)) r ⌝ }
 {
-    let slots = pour_pair(out, 0, Key::Ports, ports, Key::First, first);
+    let slots = pour_pair(out, 0, Key::Ports, ports, Key::First, first as usize);
     pour_slots(out, slots, first, counts, numbers)
 }
 
@@ -207,7 +207,7 @@ fn pour_arrivals(out: &mut [u8], at: usize, count: u32, numbers: &[u32]) -> usiz
 fn pour_arrival(out: &mut [u8], at: usize, a: Arrival) -> usize
     ensures { λ r. ⌜ Poured (now (out .entry)) at (arrivalText a) (now (out .exit)) r ⌝ }
 {
-    let flow = pour_pair(out, at, Key::In, a.input, Key::Out, a.output);
+    let flow = pour_pair(out, at, Key::In, a.input, Key::Out, a.output as usize);
     pour_fields(out, flow, a.flow, a.rank, a.tag)
 }
 
@@ -217,16 +217,16 @@ fn pour_fields(out: &mut [u8], at: usize, flow: u32, rank: u32, tag: u32) -> usi
         (line Flow flow ++ (line Rank rank ++ line Tag tag))
         (now (out .exit)) r ⌝ }
 {
-    let next = pour_pair(out, at, Key::Flow, flow, Key::Rank, rank);
+    let next = pour_pair(out, at, Key::Flow, flow, Key::Rank, rank as usize);
     pour_line(out, next, Key::Tag, tag as usize)
 }
 
-// Two lines.
-fn pour_pair(out: &mut [u8], at: usize, first: Key, m: u32, second: Key, n: u32) -> usize
+// Two lines. The second's number may count the lines of a text, which can be more than 32 bits hold.
+fn pour_pair(out: &mut [u8], at: usize, first: Key, m: u32, second: Key, n: usize) -> usize
     ensures { λ r. ⌜ Poured (now (out .entry)) at (line first m ++ line second n) (now (out .exit)) r ⌝ }
 {
     let next = pour_line(out, at, first, m as usize);
-    pour_line(out, next, second, n as usize)
+    pour_line(out, next, second, n)
 }
 
 // line = key `=` number line-feed
@@ -340,21 +340,21 @@ fn fields_end(at: usize, flow: u32, rank: u32, tag: u32) -> usize
     ensures { λ r. ⌜ Ends at (line Flow flow ++ (line Rank rank ++ line Tag tag)) r ⌝ }
 {
     line_end(
-        pair_end(at, Key::Flow, flow, Key::Rank, rank),
+        pair_end(at, Key::Flow, flow, Key::Rank, rank as usize),
         Key::Tag,
-        tag,
+        tag as usize,
     )
 }
 
 // The place after two lines.
-fn pair_end(at: usize, first: Key, m: u32, second: Key, n: u32) -> usize
+fn pair_end(at: usize, first: Key, m: u32, second: Key, n: usize) -> usize
     ensures { λ r. ⌜ Ends at (line first m ++ line second n) r ⌝ }
 {
-    line_end(line_end(at, first, m), second, n)
+    line_end(line_end(at, first, m as usize), second, n)
 }
 
 // The place after a line.
-fn line_end(at: usize, key: Key, n: u32) -> usize
+fn line_end(at: usize, key: Key, n: usize) -> usize
     ensures { λ r. ⌜ Ends at (line key n) r ⌝ }
 {
     place_after(at, line_length(key, n))
@@ -380,7 +380,7 @@ fn key_length(key: Key) -> usize
 }
 
 // How many decimal digits a number has.
-fn digits(n: u32) -> usize
+fn digits(n: usize) -> usize
     ensures { λ r. ⌜ r ≡ length (decimal n) ⌝ }
 {
     let mut rest = n;

@@ -6,8 +6,7 @@ use native.Mathlib.Omega.{arith}
 use mathlib.Core.Path.{_≡_, refl}
 use lib.ListN.{length}
 use Rattle.trace.specs.Line.{decimal}
-use Rattle.trace.proofs.Lengths.{length-decimal-small, length-decimal-tens}
-use Rattle.writer.proofs.Decimals.{length-decimal-le}
+use Rattle.trace.proofs.Lengths.{length-decimal-small, length-decimal-tens, length-decimal-below}
 use Rattle.writer.proofs.digits.Statement.{statement}
 use Rattle.writer.proofs.digits.Tie as tie
 
@@ -21,7 +20,7 @@ loop-holds : tie.Need-loop-holds Inv-loop μ-loop
 loop-holds c = refl
 
 add-count : tie.Need-add-count Inv-loop μ-loop
-add-count c = omega (arith, length-decimal-le (c .before .before .args .n))
+add-count c = omega (arith, length-decimal-below 19 (c .before .before .args .n) (omega arith))
 
 loop-less : tie.Need-loop-less Inv-loop μ-loop
 loop-less c = omega arith

@@ -2,7 +2,8 @@
 -- Assumes nothing.
 use borrow.Author.Needs.{needs}
 use native.Mathlib.Omega.{arith}
-use Rattle.writer.proofs.Decimals.{length-decimal-le, length-line-parts}
+use Rattle.trace.proofs.Lengths.{length-decimal-below}
+use Rattle.writer.proofs.Decimals.{length-line-parts}
 use Rattle.writer.proofs.Keys.{keyLength-le}
 use Rattle.writer.proofs.line_length.Statement.{statement}
 use Rattle.writer.proofs.line_length.Tie as tie
@@ -16,12 +17,12 @@ digits-requires c κs = search needs
 add-result : tie.Need-add-result
 add-result c =
     let s = c .before .before .args in
-    omega (arith, keyLength-le (s .key), length-decimal-le (s .n))
+    omega (arith, keyLength-le (s .key), length-decimal-below 19 (s .n) (omega arith))
 
 add-result-2 : tie.Need-add-result-2
 add-result-2 c =
     let s = c .before .before .args in
-    omega (arith, keyLength-le (s .key), length-decimal-le (s .n))
+    omega (arith, keyLength-le (s .key), length-decimal-below 19 (s .n) (omega arith))
 
 returns : tie.Need-returns
 returns c = omega (arith, length-line-parts (c .before .before .args .key) (c .before .before .args .n))

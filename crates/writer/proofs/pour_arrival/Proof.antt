@@ -8,6 +8,9 @@ use borrow.Author.Needs.{needs}
 use Rattle.writer.proofs.pour_arrival.Statement.{statement}
 use Rattle.writer.proofs.pour_arrival.Tie as tie
 
+cast-pour-pair : tie.Need-cast-pour-pair
+cast-pour-pair c = search needs
+
 pour-pair-requires : tie.Need-pour-pair-requires
 pour-pair-requires c κs = search needs
 
@@ -27,4 +30,4 @@ returns c =
 
 pub pour-arrival-spec : {M : Type 1} → statement M
 pour-arrival-spec =
-    tie.close (tie.spec pour-pair-requires pour-fields-requires same-length returns)
+    tie.close (tie.spec cast-pour-pair pour-pair-requires pour-fields-requires same-length returns)

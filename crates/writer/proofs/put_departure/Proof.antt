@@ -7,6 +7,9 @@ use Rattle.writer.proofs.Pour.{ends-then, poured-then, put-short, put-p
 use Rattle.writer.proofs.put_departure.Statement.{statement}
 use Rattle.writer.proofs.put_departure.Tie as tie
 
+cast-pair-end : tie.Need-cast-pair-end
+cast-pair-end c = search needs
+
 pair-end-requires : tie.Need-pair-end-requires
 pair-end-requires c κs = search needs
 
@@ -17,6 +20,9 @@ returns : tie.Need-returns
 returns c =
     let e = ends-then (c .before .before .pair-end .ensures) (c .before .fields-end .ensures) in
     put-short (rw append-assoc at e) (c .if1 .taken)
+
+cast-pour-pair : tie.Need-cast-pour-pair
+cast-pour-pair c = search needs
 
 pour-pair-requires : tie.Need-pour-pair-requires
 pour-pair-requires c κs = search needs
@@ -31,7 +37,7 @@ returns-2 : tie.Need-returns-2
 returns-2 c =
     let f = c .before .before in
     let p = f .before .before .before .before in
-    let m = p .before .before .before in
+    let m = p .before .before .before .before in
     let e = ends-then (m .before .pair-end .ensures) (m .fields-end .ensures) in
     let w = poured-then (omega arith) (p .pour-pair .ensures) (f .pour-fields .ensures) in
     put-poured (rw append-assoc at e) (omega arith) (omega arith) (rw append-assoc at w)
@@ -40,9 +46,11 @@ pub put-departure-spec : {M : Type 1} → statement M
 put-departure-spec =
     tie.close
     (tie.spec
+    cast-pair-end
     pair-end-requires
     fields-end-requires
     returns
+    cast-pour-pair
     pour-pair-requires
     pour-fields-requires
     same-length

@@ -1,0 +1,7 @@
+pub mod Limits
+pub mod Lines
+pub mod Numbers
+pub mod Sent
+pub mod Slots
+pub mod Taking
+pub mod Turns

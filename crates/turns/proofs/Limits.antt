@@ -1,0 +1,111 @@
+-- The course of a slot that runs: sixteen departures at most, of numbers of 32 bits, and a sound switch one slot on.
+use Prim.Native.Nat.{ℕ, _+_, _≤_, _<_}
+use native.Mathlib.Omega.{arith}
+use mathlib.Core.Bool.{true, false}
+use mathlib.Core.List.{List, [], _∷_, map, List·Memᴰ, List·Memᴰ·head}
+use mathlib.Core.Option.{none, some, Option·map}
+use mathlib.Core.Path.{_≡_, refl, sym, _∙_}
+use borrow.Author.Tests.{ltb-true}
+use lib.Dec.{eqb}
+use lib.ListN.{length, length-map}
+use Rattle.cell.specs.declared.Arrival.{Arrival}
+use Rattle.cell.specs.Cell.{accepted, arrivalFits}
+use Rattle.cell.specs.Limits.{clockEnd, fits32, flowLimit, portLimit}
+use Rattle.laws.specs.Lists.{keep, all?, first?, upTo}
+use Rattle.laws.proofs.Least.{mem-least-in}
+use Rattle.laws.proofs.Lists.{all?-i, all?-map, mem-keep-in}
+use Rattle.laws.proofs.Tests.{and-i}
+use Rattle.model.specs.State.{Switch, cells, Entry}
+use Rattle.model.specs.Checks.{done, firstFault}
+use Rattle.model.specs.Crossbar.{Course, run, slot, leaving, departuresOf}
+use Rattle.model.specs.Phase.{Waiting, waiting}
+use Rattle.model.specs.Sound.{sound, soundSections}
+use Rattle.model.proofs.Numbering.{entryOf, length-without, mem-waiting, stands-entry}
+use Rattle.model.proofs.SoundLaws.{SoundEntry}
+use Rattle.model.proofs.SoundOrderly.{sound-section}
+use Rattle.model.proofs.SoundSlot.{Called, runs, refuses, called, settled-sound, run-sound}
+use Rattle.trace.proofs.Tests.{fits32-i, fits32-e}
+use Rattle.layout.proofs.Answer.{cellFits, departureFits}
+use Rattle.layout.proofs.Records.{length-numbersFrom}
+use Rattle.layout.proofs.Table.{sound-clock, sound-length, sound-ports}
+
+pub record Goes (s : Switch) (c : Course) : Type 0 where
+  pub few : length (c .departures) ≤ portLimit
+  pub fit : all? departureFits (c .departures) ≡ true
+  pub good : sound (c .switch) ≡ true
+  pub clock : c .switch .clock ≡ s .clock + 1
+
+-- one departure for each output
+length-departures : (ports : ℕ) (out : List Waiting) → length (departuresOf ports out) ≡ ports
+unfolding departuresOf upTo
+length-departures ports out = length-map (upTo ports) _ ∙ length-numbersFrom 0 ports
+
+-- the cells of sound sections
+entry-fits : (ports clock k : ℕ) (e : Entry) → ports ≤ portLimit → k < portLimit → clock ≤ clockEnd + 1
+    → SoundEntry ports clock k e → cellFits (e .cell) ≡ true
+unfolding cellFits
+entry-fits ports clock k e p b t h =
+    let i : fits32 (e .cell .input) ≡ true = fits32-i _ (omega (arith, h .input)) in
+    let o : fits32 (e .cell .output) ≡ true = fits32-i _ (omega (arith, h .output)) in
+    let f : fits32 (e .cell .flow) ≡ true = fits32-i _ (omega (arith, ltb-true (e .cell .flow) flowLimit (h .flow))) in
+    let s : fits32 (e .cell .slot) ≡ true = fits32-i _ (omega (arith, h .slot)) in
+    and-i _ _ i (and-i _ _ o (and-i _ _ f (and-i _ _ (h .rank) (and-i _ _ (h .tag) s))))
+
+module _ (ports clock : ℕ) (sections : List (List Entry)) (h : soundSections ports clock 0 sections ≡ true)
+    (p : ports ≤ portLimit) (n : length sections ≡ ports) (t : clock ≤ clockEnd + 1) where
+  waiting-fits : (w : Waiting) → List·Memᴰ w (waiting sections) → cellFits (w .cell) ≡ true
+  waiting-fits w m =
+      let s = mem-waiting sections m in
+      entry-fits ports clock (s .input) (entryOf w) p (omega (arith, s .within)) t
+      (sound-section ports clock sections h (s .input) .entries (entryOf w) (stands-entry sections w s))
+
+  leaving-fits : (w : Waiting) → List·Memᴰ w (leaving (waiting sections)) → cellFits (w .cell) ≡ true
+  unfolding leaving
+  leaving-fits w m = waiting-fits w (mem-keep-in _ (waiting sections) (mem-least-in _ _ m))
+
+  departure-fits : (l : List Waiting) → ((w : Waiting) → List·Memᴰ w l → cellFits (w .cell) ≡ true)
+      → departureFits (Option·map (λ e. e .cell) (first? l)) ≡ true
+  unfolding departureFits first?
+  departure-fits [] f = refl
+  departure-fits (w ∷ l) f = f w (List·Memᴰ·head refl)
+
+  departures-fit : all? departureFits (departuresOf ports (leaving (waiting sections))) ≡ true
+  unfolding departuresOf
+  departures-fit =
+      all?-map departureFits _ (upTo ports)
+      ∙ all?-i _ (upTo ports)
+      (λ o _. departure-fits (keep (λ e. eqb (e .cell .output) o) (leaving (waiting sections)))
+      (λ w m. leaving-fits w (mem-keep-in _ (leaving (waiting sections)) m)))
+
+module _ (s : Switch) (records : List Arrival) (h : sound s ≡ true) (fits : all? arrivalFits records ≡ true) where
+  abbrev ran : Course
+  ran = run s (map (accepted (s .clock)) records)
+
+  run-goes : eqb (s .clock) clockEnd ≡ false
+      → firstFault (s .ports) (cells s) (map (accepted (s .clock)) records) ≡ none
+      → Goes s ran
+  unfolding run
+  run-goes t f =
+      let good : sound (ran .switch) ≡ true = run-sound s records h fits t f in
+      let inputs : length (ran .settled) ≡ s .ports =
+      sym (length-without (leaving (waiting (ran .settled))) (ran .settled)) ∙ sound-length (ran .switch) good in
+      let clock : s .clock + 1 ≤ clockEnd + 1 = omega (arith, fits32-e (s .clock) (sound-clock s h)) in
+      record {
+        few = omega (arith, length-departures (s .ports) (leaving (waiting (ran .settled))), sound-ports s h);
+        fit =
+            departures-fit (s .ports) (s .clock + 1) (ran .settled) (settled-sound s records h fits t f)
+            (sound-ports s h) inputs clock;
+        good = good;
+        clock = refl;
+      }
+
+  pub goes : (c : Course) → slot s (some records) ≡ done c → Goes s c
+  goes c e = go (called s records)
+    where
+      go : Called s records → Goes s c
+      go (runs t f r) =
+          let same : ran ≡ c = cc in
+          rw same at (run-goes t f)
+      go (refuses r place f) =
+          let never : _≡_ {A = ℕ} 0 1 = cc in
+          absurd (omega arith)

@@ -1,0 +1,228 @@
+-- The block's answer says how the turn goes: a slot, the end, a bad line, or more text is needed.
+use Prim.Native.Nat.{_+_, _*_, _≤_}
+use native.Mathlib.Omega.{arith}
+use mathlib.Core.Path.{_≡_, sym}
+use borrow.Author.Needs.{needs}
+use lib.ListN.{length}
+use Rattle.cell.specs.declared.Refusal.the-variants.{BadLine}
+use Rattle.trace.specs.declared.Key.the-variants.{End}
+use Rattle.trace.proofs.Tests.{fits32-i}
+use Rattle.layout.specs.Entry.{clockIn}
+use Rattle.layout.proofs.Table.{decode-length}
+use Rattle.play.specs.Player.{refusalText}
+use Rattle.turns.proofs.Lines.{line-le, wrote-put, wrote-refusal}
+use Rattle.turns.proofs.Turns.{block-size, next-more, next-end, next-bad, next-stopped, next-ran}
+use Rattle.turns.proofs.next_turn.Statement.{statement}
+use Rattle.turns.proofs.next_turn.Tie as tie
+
+-- the number of the line is small enough for what is added to it
+line-room : (c : tie.After-read-u32) → c .before .before .before .before .before .args .line ≤ 3 + 81 * 4294967295
+unfolding clockIn
+line-room c = omega (arith, c .before .before .before .before .before .pre .1 .0, c .read-u32 .ensures, c .read-u32 .ok)
+
+-- the sizes of a block
+sizes : (c : tie.After-answer) → (c .answer .given .0 .0 ≤ 16) × (c .answer .given .0 .1 .1 .0 ≤ 81)
+    × (length (c .before .before .before .read-block .result .records) ≡ 80)
+sizes c =
+    let block = c .before .before .before in
+    let read = block .before in
+    let start = read .before .before .before .before .before in
+    let a = start .args in
+    block-size (a .last) (a .line) (a .text .now) (a .table .now) (a .out .now) (start .pre .0) (start .pre .1 .0)
+    (read .read-u32 .result) (read .read-u32 .ensures) (block .read-block .ensures) (c .answer .given .1)
+
+read-u32-requires : tie.Need-read-u32-requires
+read-u32-requires c κs = omega (arith, decode-length _ _ (c .before .before .before .before .pre .0))
+
+read-block-requires : tie.Need-read-block-requires
+read-block-requires c κs = search needs
+
+enum-known-answer : tie.Need-enum-known-answer
+enum-known-answer c = search needs
+
+slice-aggregate-play-slot : tie.Need-slice-aggregate-play-slot
+slice-aggregate-play-slot c = sym (sizes (c .before .before) .2)
+
+play-slot-requires : tie.Need-play-slot-requires
+unfolding clockIn
+play-slot-requires c κs =
+    let answer = c .before .before .before .before in
+    let read = answer .before .before .before .before in
+    let start = read .before .before .before .before .before in
+    let few : start .args .line ≤ 3 + 81 * read .read-u32 .result = omega (arith, start .pre .1 .0, read .read-u32 .ensures) in
+    (start .pre .0, ((read .read-u32 .ensures, few), ((sizes answer .2, sizes answer .0), start .pre .1 .1)))
+
+enum-known-written : tie.Need-enum-known-written
+enum-known-written c = search needs
+
+cast-t28 : tie.Need-cast-t28
+cast-t28 c = search needs
+
+add-t29 : tie.Need-add-t29
+add-t29 c =
+    let answer = c .before .before .before .before .before .before .before .before .before .before .before .before in
+    omega (arith, line-room (answer .before .before .before .before), sizes answer .1)
+
+enum-known-written-2 : tie.Need-enum-known-written-2
+enum-known-written-2 c = search needs
+
+ended-requires : tie.Need-ended-requires
+ended-requires c κs = search needs
+
+enum-told : tie.Need-enum-told
+enum-told c = search needs
+
+put-line-requires : tie.Need-put-line-requires
+put-line-requires c κs = search needs
+
+ended-requires-2 : tie.Need-ended-requires-2
+ended-requires-2 c κs = search needs
+
+enum-known-answer-2 : tie.Need-enum-known-answer-2
+enum-known-answer-2 c = search needs
+
+cast-put-refusal : tie.Need-cast-put-refusal
+cast-put-refusal c = search needs
+
+add-put-refusal : tie.Need-add-put-refusal
+add-put-refusal c = omega (arith, line-room (c .before .before .before .before .before .before))
+
+put-refusal-requires : tie.Need-put-refusal-requires
+put-refusal-requires c κs = search needs
+
+ended-requires-3 : tie.Need-ended-requires-3
+ended-requires-3 c κs = search needs
+
+enum-told-2 : tie.Need-enum-told-2
+enum-told-2 c = search needs
+
+same-length : tie.Need-same-length
+same-length c = search needs
+
+same-length-2 : tie.Need-same-length-2
+same-length-2 c = search needs
+
+returns : tie.Need-returns
+returns c =
+    let played = c .before .before .before .before .before .before .before in
+    let answer = played .before .before .before .before .before in
+    let block = answer .before .before .before in
+    let read = block .before in
+    let start = read .before .before .before .before .before in
+    let a = start .args in
+    next-ran (a .last) (a .line) (a .text .now) (a .table .now) (a .out .now) (start .pre .0) (start .pre .1 .0)
+    (read .read-u32 .result) (read .read-u32 .ensures) (block .read-block .ensures) (answer .answer .given .1)
+    (played .play-slot .ensures) (c .before .written .given .1)
+
+same-length-3 : tie.Need-same-length-3
+same-length-3 c = search needs
+
+same-length-4 : tie.Need-same-length-4
+same-length-4 c = search needs
+
+returns-2 : tie.Need-returns-2
+returns-2 c =
+    let played = c .before .before .before .before .before .before .before .before in
+    let answer = played .before .before .before .before .before in
+    let block = answer .before .before .before in
+    let read = block .before in
+    let start = read .before .before .before .before .before in
+    let a = start .args in
+    next-stopped (a .last) (a .line) (a .text .now) (a .table .now) (a .out .now) (start .pre .0) (start .pre .1 .0)
+    (read .read-u32 .result) (read .read-u32 .ensures) (block .read-block .ensures) (answer .answer .given .1)
+    (played .play-slot .ensures) (c .before .before .written2 .given .1) (c .ended .result .stage) (c .ended .result .line)
+    (c .ended .result .used) (c .ended .result .written) (c .ended .ensures .0) (c .ended .ensures .1) (c .ended .ensures .2)
+
+same-length-5 : tie.Need-same-length-5
+same-length-5 c = search needs
+
+same-length-6 : tie.Need-same-length-6
+same-length-6 c = search needs
+
+returns-3 : tie.Need-returns-3
+returns-3 c =
+    let put = c .before .before .before in
+    let block = put .before .before .before .before .before in
+    let read = block .before in
+    let start = read .before .before .before .before .before in
+    let a = start .args in
+    let size = line-le End (read .read-u32 .result) (fits32-i _ (omega (arith, read .read-u32 .ok))) in
+    next-end (a .last) (a .line) (a .text .now) (a .table .now) (a .out .now) (start .pre .0) (start .pre .1 .0)
+    (read .read-u32 .result) (read .read-u32 .ensures) (block .read-block .ensures) (put .put-line .last .0)
+    (c .ended2 .result .stage) (c .ended2 .result .line) (c .ended2 .result .used) (put .put-line .result)
+    (c .ended2 .result .written) (c .ended2 .ensures .0) (c .ended2 .ensures .1) (c .ended2 .ensures .2)
+    (put .before .before .enum-told .given .1)
+    (wrote-put (omega (arith, size, start .pre .1 .1)) (omega (arith, start .good)) (put .put-line .ensures))
+
+same-length-7 : tie.Need-same-length-7
+same-length-7 c = search needs
+
+same-length-8 : tie.Need-same-length-8
+same-length-8 c = search needs
+
+returns-4 : tie.Need-returns-4
+unfolding refusalText
+returns-4 c =
+    let put = c .before .before .before in
+    let told = put .before .before .before in
+    let block = told .before .before .before in
+    let read = block .before in
+    let start = read .before .before .before .before .before in
+    let a = start .args in
+    next-bad (a .last) (a .line) (a .text .now) (a .table .now) (a .out .now) (start .pre .0) (start .pre .1 .0)
+    (read .read-u32 .result) (read .read-u32 .ensures) (block .read-block .ensures) (put .put-refusal .last .0)
+    (c .ended3 .result .stage) (c .ended3 .result .line) (c .ended3 .result .used) (put .put-refusal .result)
+    (c .ended3 .result .written) (c .ended3 .ensures .0) (c .ended3 .ensures .1) (c .ended3 .ensures .2)
+    (told .answer2 .given .1)
+    (wrote-refusal BadLine (a .line + told .answer2 .given .0 .0) (omega (arith, line-room read, put .before)) (start .pre .1 .1)
+    (omega (arith, start .good)) (put .put-refusal .ensures))
+
+same-length-9 : tie.Need-same-length-9
+same-length-9 c = search needs
+
+returns-5 : tie.Need-returns-5
+returns-5 c =
+    let block = c .before .before .before in
+    let read = block .before in
+    let start = read .before .before .before .before .before in
+    let a = start .args in
+    next-more (a .last) (a .line) (a .text .now) (a .table .now) (a .out .now) (start .pre .0) (start .pre .1 .0)
+    (read .read-u32 .result) (read .read-u32 .ensures) (block .read-block .ensures) (c .enum-told2 .given .1)
+
+pub next-turn-spec : {M : Type 1} → statement M
+next-turn-spec =
+    tie.close
+    (tie.spec
+    read-u32-requires
+    read-block-requires
+    enum-known-answer
+    slice-aggregate-play-slot
+    play-slot-requires
+    enum-known-written
+    cast-t28
+    add-t29
+    enum-known-written-2
+    ended-requires
+    enum-told
+    put-line-requires
+    ended-requires-2
+    enum-known-answer-2
+    cast-put-refusal
+    add-put-refusal
+    put-refusal-requires
+    ended-requires-3
+    enum-told-2
+    same-length
+    same-length-2
+    returns
+    same-length-3
+    same-length-4
+    returns-2
+    same-length-5
+    same-length-6
+    returns-3
+    same-length-7
+    same-length-8
+    returns-4
+    same-length-9
+    returns-5)

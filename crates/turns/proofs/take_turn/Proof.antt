@@ -1,0 +1,93 @@
+-- By the stage.
+use mathlib.Core.Path.{sym, subst}
+use borrow.Author.Needs.{needs}
+use Rattle.layout.specs.Entry.{clockIn}
+use Rattle.layout.specs.Table.{stateOf}
+use Rattle.play.specs.Turn.{turn}
+use Rattle.turns.specs.Code.{standing, Turned}
+use Rattle.turns.proofs.Turns.{rests}
+use Rattle.turns.proofs.take_turn.Statement.{statement}
+use Rattle.turns.proofs.take_turn.Tie as tie
+
+enum-told : tie.Need-enum-told
+enum-told c = search needs
+
+header-turn-requires : tie.Need-header-turn-requires
+header-turn-requires c κs = search needs
+
+enum-told-2 : tie.Need-enum-told-2
+enum-told-2 c = search needs
+
+next-turn-requires : tie.Need-next-turn-requires
+next-turn-requires c κs =
+    let told = c .before .before in
+    let start = told .before .before .before .before .before in
+    (start .pre .0 .good (told .enum-told2 .given .1), (start .pre .0 .few (told .enum-told2 .given .1), start .pre .1))
+
+enum-told-3 : tie.Need-enum-told-3
+enum-told-3 c = search needs
+
+ended-requires : tie.Need-ended-requires
+ended-requires c κs = search needs
+
+same-length : tie.Need-same-length
+same-length c = search needs
+
+same-length-2 : tie.Need-same-length-2
+same-length-2 c = search needs
+
+returns : tie.Need-returns
+unfolding turn standing
+returns c =
+    let taken = c .before .before .before .before in
+    let told = taken .before .before .before in
+    let a = told .before .before .before .before .before .args in
+    let r = taken .header-turn .result in
+    subst
+    (λ s. Turned (turn (a .last) (standing s (a .line) (a .table .now)) (a .text .now)) (a .text .now) (a .table .now) (a .out .now)
+    (taken .header-turn .last .1 .1 .0) (taken .header-turn .last .1 .1 .1 .0) (r .stage) (r .line) (r .used) (r .written))
+    (sym (told .enum-told .given .1)) (taken .header-turn .ensures)
+
+same-length-3 : tie.Need-same-length-3
+same-length-3 c = search needs
+
+same-length-4 : tie.Need-same-length-4
+same-length-4 c = search needs
+
+returns-2 : tie.Need-returns-2
+unfolding turn standing stateOf clockIn
+returns-2 c =
+    let taken = c .before .before .before .before in
+    let told = taken .before .before .before in
+    let a = told .before .before .before .before .before .args in
+    let r = taken .next-turn .result in
+    subst
+    (λ s. Turned (turn (a .last) (standing s (a .line) (a .table .now)) (a .text .now)) (a .text .now) (a .table .now) (a .out .now)
+    (taken .next-turn .last .1 .1 .1 .0) (taken .next-turn .last .1 .1 .1 .1 .0) (r .stage) (r .line) (r .used) (r .written))
+    (sym (told .enum-told2 .given .1)) (taken .next-turn .ensures)
+
+returns-3 : tie.Need-returns-3
+returns-3 c =
+    let start = c .before .before .before .before .before .before in
+    let a = start .args in
+    rests (a .last) (a .stage) (a .line) (a .text .now) (a .table .now) (a .out .now) (start .pre .0 .size)
+    (c .before .enum-told3 .given .1) (c .ended .result .stage) (c .ended .result .line) (c .ended .result .used)
+    (c .ended .result .written) (c .ended .ensures .0) (c .ended .ensures .1) (c .ended .ensures .2)
+
+pub take-turn-spec : {M : Type 1} → statement M
+take-turn-spec =
+    tie.close
+    (tie.spec
+    enum-told
+    header-turn-requires
+    enum-told-2
+    next-turn-requires
+    enum-told-3
+    ended-requires
+    same-length
+    same-length-2
+    returns
+    same-length-3
+    same-length-4
+    returns-2
+    returns-3)

@@ -1,0 +1,116 @@
+-- The player as code: where it stands, what a turn asks, and what it leaves.
+--     standing         where the player stands, by its stage, the number of the next line and the bytes of the table
+--     Stands           what a turn asks of these
+--     tableThen, tableAfterTurns    the table after a turn, and after turns
+--     Wrote, Turned, Took           what a turn leaves, and what turns leave
+--     slotText, playedOf, Played    what a block's slot writes and answers
+--     numbersBytes, cellIn          numbers as bytes, and the cell of a departure
+use Prim.Native.Nat.{ℕ, zero, suc, _+_, _*_, _-_, _≤_}
+use mathlib.Core.List.{List, [], _∷_, _++_}
+use mathlib.Core.Bool.{Bool}
+use mathlib.Core.Path.{_≡_}
+use lib.ListN.{length, drop}
+use Rattle.cell.specs.declared.Cell.{Cell}
+use Rattle.model.specs.Checks.{Outcome, done, refused}
+use Rattle.model.specs.Crossbar.{Course}
+use Rattle.trace.specs.declared.Key.the-variants.{Slot}
+use Rattle.trace.specs.Line.{line}
+use Rattle.layout.specs.Entry.{clockIn}
+use Rattle.layout.specs.Host.{filled, tableAfter}
+use Rattle.layout.specs.Number.{bytesOf, word}
+use Rattle.layout.specs.Table.{IsTable, encode, stateOf, tableSize}
+use Rattle.turns.specs.declared.Stage.{Stage}
+use Rattle.turns.specs.declared.Stage.the-variants.{Opening, Playing, Over}
+use Rattle.turns.specs.declared.Played.{Played}
+use Rattle.turns.specs.declared.Played.the-variants.{Ran, Stopped}
+use Rattle.play.specs.Player.{departuresText, refusalText, lineOf}
+use Rattle.play.specs.Turn.{Standing, opening, playing, over, Turn, turn, turns}
+
+unfoldable pub standing : Stage → ℕ → List ℕ → Standing
+standing Opening l table = opening
+standing Playing l table = playing l (stateOf table)
+standing Over l table = over
+
+-- what one turn can write: the line of a slot and sixteen departures of five lines, 16 + 16 * 76 bytes
+abbrev pub turnRoom : ℕ
+turnRoom = 1232
+
+-- The table has its size, and while the player plays it is the table of a sound switch. A block has at most 81 lines
+-- and moves the clock on by one: so a line's number stays far below the largest of 64 bits.
+pub record Stands (stage : Stage) (l : ℕ) (table : List ℕ) : Type 0 where
+  pub size : length table ≡ tableSize
+  pub good : stage ≡ Playing → IsTable table
+  pub few : stage ≡ Playing → l ≤ 3 + 81 * clockIn table
+
+-- a text at the start of a buffer, and how long it is
+pub record Wrote (t buffer after : List ℕ) (n : ℕ) : Type 0 where
+  pub bytes : after ≡ filled t buffer
+  pub count : n ≡ length t
+
+-- the table once the player stands there: that of its switch; before the header and at the end it is kept
+unfoldable pub tableThen : Standing → List ℕ → List ℕ
+tableThen opening table = table
+tableThen (playing l s) table = encode s
+tableThen over table = table
+
+-- the same after turns
+unfoldable pub tableAfterTurns : ℕ → Bool → Standing → List ℕ → List ℕ → List ℕ
+tableAfterTurns zero last s t table = table
+tableAfterTurns (suc most) last s t table =
+    let x = turn last s t in
+    elim (x .written) [
+      | [] ↦ table
+      | b ∷ w ↦ tableAfterTurns most last (x .after) (x .left) (tableThen (x .after) table)
+    ]
+
+-- What is left after `turn`, with the table `then`: what was written, how much of the text was taken, where the player
+-- stands.
+pub record Left (turn : Turn) (then text buffer table′ buffer′ : List ℕ) (stage : Stage) (l taken n : ℕ) : Type 0 where
+  pub wrote : Wrote (turn .written) buffer buffer′ n
+  pub used : taken ≡ length text - length (turn .left)
+  pub left : turn .left ≡ drop taken text
+  pub after : standing stage l table′ ≡ turn .after
+  pub stands : Stands stage l table′
+  pub table : table′ ≡ then
+
+-- what one turn leaves
+abbrev pub Turned : Turn → List ℕ → List ℕ → List ℕ → List ℕ → List ℕ → Stage → ℕ → ℕ → ℕ → Type 0
+Turned turn text table buffer table′ buffer′ stage l taken n =
+    Left turn (tableThen (turn .after) table) text buffer table′ buffer′ stage l taken n
+
+-- what turns leave, one after the other; how many is the program's choice
+abbrev pub Took : Bool → Standing → List ℕ → List ℕ → List ℕ → List ℕ → List ℕ → Stage → ℕ → ℕ → ℕ → Type 0
+Took last s text table buffer table′ buffer′ stage l taken n =
+    (k : ℕ) × Left (turns k last s text) (tableAfterTurns k last s text table) text buffer table′ buffer′ stage l taken n
+
+-- what the slot of the block at line l comes to, as text
+unfoldable pub slotText : ℕ → ℕ → Outcome Course → List ℕ
+slotText clock l (refused r place) = refusalText r (lineOf l place)
+slotText clock l (done c) = line Slot clock ++ departuresText (c .departures)
+
+unfoldable pub playedOf : ℕ → ℕ → Outcome Course → Played
+playedOf clock l (refused r place) = Stopped (length (slotText clock l (refused r place)))
+playedOf clock l (done c) = Ran (length (slotText clock l (done c)))
+
+pub record SlotPlayed (o : Outcome Course) (clock l : ℕ) (table buffer table′ buffer′ : List ℕ) (r : Played)
+    : Type 0 where
+  pub result : r ≡ playedOf clock l o
+  pub bytes : buffer′ ≡ filled (slotText clock l o) buffer
+  pub switch : table′ ≡ tableAfter table o
+
+-- numbers of 32 bits, one behind the other
+unfoldable pub numbersBytes : List ℕ → List ℕ
+numbersBytes [] = []
+numbersBytes (n ∷ ns) = bytesOf 4 n ++ numbersBytes ns
+
+-- the cell of a departure
+unfoldable pub cellIn : List ℕ → Cell
+cellIn bs =
+    record {
+      input = word bs 4;
+      output = word bs 8;
+      flow = word bs 12;
+      rank = word bs 16;
+      tag = word bs 20;
+      slot = word bs 24;
+    }

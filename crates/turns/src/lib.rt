@@ -1,0 +1,303 @@
+// The player: a trace in, its departures out, one turn after the other. Whoever drives it lends the text that is there
+// so far, the bytes of the table and a buffer, and keeps the stage and the number of the next line between the turns.
+// Its theorems are on the definitions: over the PIFO switch it writes the same text, and turn by turn it writes the same
+// text however the trace arrives.
+use arrival::Fault;
+use cell::Cell;
+use cell::Refusal;
+use trace::Answer;
+use trace::Key;
+use trace::Opening;
+ghost use mathlib.Core.List.{_++_};
+ghost use mathlib.Core.Option.{some};
+ghost use mathlib.Core.Path.{_≡_};
+ghost use Prim.Native.Nat.{_+_, _*_, _≤_};
+ghost use lib.ListN.{length};
+ghost use Rattle.model.specs.Crossbar.{slot};
+ghost use Rattle.trace.specs.declared.Key.the-variants.{Ports, First, Slot};
+ghost use Rattle.trace.specs.Flat.{arrivalsFrom};
+ghost use Rattle.trace.specs.Line.{line};
+ghost use Rattle.trace.specs.Piece.{nextIn, headerIn};
+ghost use Rattle.writer.specs.Writing.{Put};
+ghost use Rattle.layout.specs.Answer.{departureIn, departuresIn};
+ghost use Rattle.layout.specs.Entry.{clockIn};
+ghost use Rattle.layout.specs.Table.{IsTable, stateOf, tableSize};
+ghost use Rattle.play.specs.Player.{departureText, departuresText, lineOf};
+ghost use Rattle.play.specs.Turn.{headerTurn, nextTurn, turn};
+ghost use Rattle.turns.specs.Code.{standing, turnRoom, Took, Stands, Wrote, Turned, SlotPlayed, numbersBytes, cellIn};
+
+// What one turn can write at most.
+const TURN_ROOM: usize = 1232;
+
+// Where the player stands: before the header; before a block or the end; or behind all that it writes.
+pub enum Stage {
+    Opening,
+    Playing,
+    Over,
+}
+
+// What a turn leaves: the stage, the number of the next line, how many bytes of the text it took and how many it wrote.
+pub struct Turn {
+    pub stage: Stage,
+    pub line: usize,
+    pub used: usize,
+    pub written: usize,
+}
+
+// What became of a block's slot, with the number of bytes written: it ran, or it was refused.
+enum Played {
+    Ran(usize),
+    Stopped(usize),
+}
+
+// Plays the header, a block or the end, if the text that is there is enough; `last` says that no more will come.
+pub fn take_turn(
+    stage: Stage,
+    line: usize,
+    text: &[u8],
+    last: bool,
+    table: &mut [u8],
+    out: &mut [u8],
+) -> Turn
+    requires { ⌜ Stands stage line (now table) ⌝ }
+    requires { ⌜ turnRoom ≤ length (now out) ⌝ }
+    ensures { λ r. ⌜ Turned (turn last (standing stage line (now (table .entry))) (now (text .entry)))
+        (now (text .entry)) (now (table .entry)) (now (out .entry)) (now (table .exit)) (now (out .exit))
+        (r .stage) (r .line) (r .used) (r .written) ⌝ }
+{
+    match stage {
+        Stage::Opening => header_turn(text, last, table, out),
+        Stage::Playing => next_turn(line, text, last, table, out),
+        Stage::Over => ended(0),
+    }
+}
+
+// Takes turns until one writes nothing or the buffer may be too short for another.
+pub fn take_turns(
+    stage: Stage,
+    line: usize,
+    text: &[u8],
+    last: bool,
+    table: &mut [u8],
+    out: &mut [u8],
+) -> Turn
+    requires { ⌜ Stands stage line (now table) ⌝ }
+    ensures { λ r. ⌜ Took last (standing stage line (now (table .entry)))
+        (now (text .entry)) (now (table .entry)) (now (out .entry)) (now (table .exit)) (now (out .exit))
+        (r .stage) (r .line) (r .used) (r .written) ⌝ }
+{
+    let mut stage = stage;
+    let mut line = line;
+    let mut used = 0;
+    let mut written = 0;
+    while TURN_ROOM <= out.len() - written {
+        let turn = take_turn(stage, line, &text[used..], last, table, &mut out[written..]);
+        stage = turn.stage;
+        line = turn.line;
+        used += turn.used;
+        written += turn.written;
+        if turn.written == 0 {
+            break;
+        }
+    }
+    Turn {
+        stage,
+        line,
+        used,
+        written,
+    }
+}
+
+// The turn at the header.
+fn header_turn(text: &[u8], last: bool, table: &mut [u8], out: &mut [u8]) -> Turn
+    requires { ⌜ length (now table) ≡ tableSize ⌝ }
+    requires { ⌜ turnRoom ≤ length (now out) ⌝ }
+    ensures { λ r. ⌜ Turned (headerTurn (now (text .entry)) (headerIn last (now (text .entry))))
+        (now (text .entry)) (now (table .entry)) (now (out .entry)) (now (table .exit)) (now (out .exit))
+        (r .stage) (r .line) (r .used) (r .written) ⌝ }
+{
+    match reader::read_header(text, last) {
+        Opening::Open(ports, first, used) => {
+            crossbar::start(ports, first, table);
+            let written = put_header(out, ports, first);
+            Turn {
+                stage: Stage::Playing,
+                line: 3,
+                used,
+                written,
+            }
+        }
+        Opening::Refused(refusal, fault) => {
+            ended(writer::put_refusal(out, 0, refusal, fault as usize))
+        }
+        Opening::Short => Turn {
+            stage: Stage::Opening,
+            line: 1,
+            used: 0,
+            written: 0,
+        },
+    }
+}
+
+// The turn at a block or the end.
+fn next_turn(line: usize, text: &[u8], last: bool, table: &mut [u8], out: &mut [u8]) -> Turn
+    requires { ⌜ IsTable (now table) ⌝ }
+    requires { ⌜ line ≤ 3 + 81 * clockIn (now table) ⌝ }
+    requires { ⌜ turnRoom ≤ length (now out) ⌝ }
+    ensures { λ r. ⌜ Turned (nextTurn line (stateOf (now (table .entry))) (now (text .entry))
+        (nextIn last (clockIn (now (table .entry))) (now (text .entry))))
+        (now (text .entry)) (now (table .entry)) (now (out .entry)) (now (table .exit)) (now (out .exit))
+        (r .stage) (r .line) (r .used) (r .written) ⌝ }
+{
+    let clock = table::word::read_u32(table, 8);
+    let block = reader::read_block(text, clock, last);
+    let answer = block.answer;
+    let records = block.records;
+    match answer {
+        Answer::Slot(count, used, lines) => {
+            match play_slot(line, clock, count, &records, table, out) {
+                Played::Ran(written) => Turn {
+                    stage: Stage::Playing,
+                    line: line + lines as usize,
+                    used,
+                    written,
+                },
+                Played::Stopped(written) => ended(written),
+            }
+        }
+        Answer::End => ended(writer::put_line(out, 0, Key::End, clock)),
+        Answer::Bad(k) => ended(writer::put_refusal(out, 0, Refusal::BadLine, line + k as usize)),
+        Answer::More => Turn {
+            stage: Stage::Playing,
+            line,
+            used: 0,
+            written: 0,
+        },
+    }
+}
+
+// The last turn: it leaves the text alone.
+fn ended(written: usize) -> Turn
+    ensures { λ r. ⌜ (r .stage ≡ Stage.Over) × (r .used ≡ 0) × (r .written ≡ written) ⌝ }
+{
+    Turn {
+        stage: Stage::Over,
+        line: 0,
+        used: 0,
+        written,
+    }
+}
+
+// Runs the slot of a block, and writes its lines; or writes the refusal. Of the numbers five for each arrival count.
+fn play_slot(
+    line: usize,
+    clock: u32,
+    count: u32,
+    numbers: &[u32],
+    table: &mut [u8],
+    out: &mut [u8],
+) -> Played
+    requires { ⌜ IsTable (now table) ⌝ }
+    requires { ⌜ (clock ≡ clockIn (now table)) × (line ≤ 3 + 81 * clock) ⌝ }
+    requires { ⌜ (length (now numbers) ≡ 80) × (count ≤ 16) ⌝ }
+    requires { ⌜ turnRoom ≤ length (now out) ⌝ }
+    ensures { λ r. ⌜ SlotPlayed (slot (stateOf (now (table .entry))) (some (arrivalsFrom count (now (numbers .entry)))))
+        clock line (now (table .entry)) (now (out .entry)) (now (table .exit)) (now (out .exit)) r ⌝ }
+{
+    let bytes = bytes_of(numbers);
+    let end = 20 * count as usize;
+    let mut answer = [0u8; 456];
+    match fabric::slot::slot(table, &bytes[..end], &mut answer) {
+        Fault::At(refusal, place) => {
+            Played::Stopped(writer::put_refusal(out, 0, refusal, line_of(line, place)))
+        }
+        Fault::Clear => Played::Ran(put_slot(out, clock, &answer)),
+    }
+}
+
+// Numbers as bytes.
+fn bytes_of(numbers: &[u32]) -> [u8; 320]
+    requires { ⌜ length (now numbers) ≡ 80 ⌝ }
+    ensures { λ r. ⌜ r ≡ numbersBytes (now (numbers .entry)) ⌝ }
+{
+    let mut bytes = [0u8; 320];
+    let mut i = 0;
+    while i < 80 {
+        table::word::write_u32(&mut bytes, 4 * i, numbers[i]);
+        i += 1;
+    }
+    bytes
+}
+
+// The line that a refusal names: the slot's own, or the first of the record's.
+fn line_of(line: usize, place: u32) -> usize
+    requires { ⌜ line ≤ 3 + 81 * 4294967295 ⌝ }
+    ensures { λ r. ⌜ r ≡ lineOf line place ⌝ }
+{
+    if place == 0 {
+        return line;
+    }
+    line + 1 + 5 * (place as usize - 1)
+}
+
+// The lines `ports` and `first`.
+fn put_header(out: &mut [u8], ports: u32, first: u32) -> usize
+    requires { ⌜ turnRoom ≤ length (now out) ⌝ }
+    ensures { λ r. ⌜ Wrote (line Ports ports ++ line First first) (now (out .entry)) (now (out .exit)) r ⌝ }
+{
+    let at = writer::put_line(out, 0, Key::Ports, ports);
+    writer::put_line(out, at, Key::First, first)
+}
+
+// The line `slot`, and the departures of an answer.
+fn put_slot(out: &mut [u8], clock: u32, answer: &[u8]) -> usize
+    requires { ⌜ (turnRoom ≤ length (now out)) × (448 ≤ length (now answer)) ⌝ }
+    ensures { λ r. ⌜ Wrote (line Slot clock ++ departuresText (departuresIn 16 (now (answer .entry))))
+        (now (out .entry)) (now (out .exit)) r ⌝ }
+{
+    let at = writer::put_line(out, 0, Key::Slot, clock);
+    put_departures(out, at, answer)
+}
+
+// The departures of the sixteen outputs.
+fn put_departures(out: &mut [u8], at: usize, answer: &[u8]) -> usize
+    requires { ⌜ (at + 1216 ≤ length (now out)) × (448 ≤ length (now answer)) ⌝ }
+    ensures { λ r. ⌜ Put (now (out .entry)) at (departuresText (departuresIn 16 (now (answer .entry))))
+        (now (out .exit)) r ⌝ }
+{
+    let mut place = at;
+    let mut output = 0;
+    while output < 16 {
+        let start = 28 * output;
+        let end = start + 28;
+        place = put_sent(out, place, &answer[start..end]);
+        output += 1;
+    }
+    place
+}
+
+// The departure of one output, if it sends a cell.
+fn put_sent(out: &mut [u8], at: usize, sent: &[u8]) -> usize
+    requires { ⌜ length (now sent) ≡ 28 ⌝ }
+    ensures { λ r. ⌜ Put (now (out .entry)) at (departureText (departureIn (now (sent .entry)))) (now (out .exit)) r ⌝ }
+{
+    if table::word::read_u32(sent, 0) == 0 {
+        return at;
+    }
+    writer::put_departure(out, at, cell_in(sent))
+}
+
+// The cell that leaves.
+fn cell_in(sent: &[u8]) -> Cell
+    requires { ⌜ length (now sent) ≡ 28 ⌝ }
+    ensures { λ r. ⌜ r ≡ cellIn (now (sent .entry)) ⌝ }
+{
+    Cell {
+        input: table::word::read_u32(sent, 4),
+        output: table::word::read_u32(sent, 8),
+        flow: table::word::read_u32(sent, 12),
+        rank: table::word::read_u32(sent, 16),
+        tag: table::word::read_u32(sent, 20),
+        slot: table::word::read_u32(sent, 24),
+    }
+}
