@@ -1,6 +1,31 @@
-# make test: the gate, as .ci/run has it. make bench: the speed of the proved code beside plain code.
-# make format: the layout of every .rt and .antt file.
-.PHONY: test bench format clean
+# make view      draws an example as a page, target/show.html (TRACE=examples/NAME.trace: another one)
+# make play      proves the player, then plays the example, one line a slot
+# make test      the gate, as .ci/run has it
+# make bench     the speed of the proved code beside plain code
+# make install   player, its manual page, header and static library under PREFIX (/usr/local), staged in DESTDIR
+# make format    the layout of every .rt and .antt file
+# make clean     removes what was built
+TRACE ?= examples/show.trace
+PREFIX ?= /usr/local
+PLACE = $(DESTDIR)$(PREFIX)
+.PHONY: help view play player library test bench install format clean
+
+help:
+	@sed -n 's/^# //p' Makefile
+
+view:
+	@mkdir -p target
+	@viewer/show.py $(TRACE) $(TRACE:.trace=.out) > target/show.html
+	@echo 'target/show.html: open it in a browser'
+
+play: player
+	@target/bin/player < $(TRACE) | paste -s -d ' ' | sed 's/ \(slot\|end\|refused\)=/\n\1=/g'
+
+player:
+	rt check player
+
+library:
+	rt staticlib crossbar
 
 test:
 	.ci/run
@@ -8,8 +33,14 @@ test:
 bench:
 	bench/run
 
+install: player library
+	install -D target/bin/player $(PLACE)/bin/player
+	install -D -m 644 target/staticlib/libcrossbar.a $(PLACE)/lib/libcrossbar.a
+	install -D -m 644 include/crossbar.h $(PLACE)/include/crossbar.h
+	install -D -m 644 docs/player.1 $(PLACE)/share/man/man1/player.1
+
 format:
 	rt fmt
 
 clean:
-	rm -rf target
+	rm -rf target host/target
