@@ -52,11 +52,9 @@ pub in-list-other : (c : Cell) (e : Entry) (b : ℕ) → placeOf b ≡ e .place 
 in-list-other c e b q h =
     sym (in-list-listed c e b q ∙ ap (λ x. x && sameFlow (e .cell) c) (ne-eqb b 1 h))
 
-pub in-list-flow : (c : Cell) (e : Entry) (b : ℕ) (d : Cell) → placeOf b ≡ e .place → b ≡ 1 → d ≡ e .cell
-    → sameFlow d c ≡ inListOf c e
-in-list-flow c e b d q h k =
-    ap (λ x. sameFlow x c) k
-    ∙ sym (in-list-listed c e b q ∙ ap (λ x. x && sameFlow (e .cell) c) (eq-eqb b 1 h))
+pub in-list-flow : (c : Cell) (e : Entry) (b : ℕ) → placeOf b ≡ e .place → b ≡ 1 → sameFlow (e .cell) c ≡ inListOf c e
+in-list-flow c e b q h =
+    sym (in-list-listed c e b q ∙ ap (λ x. x && sameFlow (e .cell) c) (eq-eqb b 1 h))
 
 ------------------------------------------------------------------------
 -- how many entries stand before a new cell

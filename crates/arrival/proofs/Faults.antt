@@ -1,6 +1,9 @@
 -- The checks of a slot's records, on the bytes.
 --     port-by-input, port-by-output    4 by the two fields
+--     port-input, port-output          what 4 says of a record that passes
+--     flow-below                       what 5 says of a record that passes
 --     turn-after                       6 by the lowest input whose turn it is
+--     own-flow                         the flow of an entry of the record's input, by the numbers of the flows
 --     outranks-same, outranks-other    7 of one entry
 --     rank-falls, rank-holds           7 by the section of the record's input
 --     full-section                     8 by the count of the record's input
@@ -14,19 +17,19 @@ use mathlib.Core.List.{List, [], _∷_, flatten, List·Memᴰ, List·Memᴰ·hea
 use mathlib.Core.Option.{Option, none, some}
 use native.Mathlib.Numerals.{add-one}
 use native.Mathlib.Omega.{arith}
-use borrow.Author.Tests.{ltb-false, leb-true, leb-false, lt-ltb, le-ltb, le-leb, lt-leb, eq-eqb, ne-eqb}
+use borrow.Author.Tests.{ltb-true, ltb-false, leb-true, leb-false, lt-ltb, le-ltb, le-leb, lt-leb, eq-eqb, ne-eqb}
 use lib.Dec.{ltb, leb, eqb}
 use lib.ListN.{length, getD, drop, drop-of-length-le}
 use lib.Seq.{drop-cons}
 use Rattle.laws.specs.Lists.{some?, none?}
-use Rattle.laws.proofs.Tests.{same, and-i, and-l, or-l, or-false-l}
+use Rattle.laws.proofs.Tests.{same, and-i, and-l, or-l, or-false-l, or-false-r, not-false-e}
 use Rattle.laws.proofs.Lists.{Passing, some?-e, some?-i, some?-false, some?-map, none?-i, all?-i}
 use Rattle.laws.proofs.Count.{count-all, count-map}
 use Rattle.cell.specs.declared.Cell.{Cell}
 use Rattle.cell.specs.declared.Refusal.{Refusal}
 use Rattle.cell.specs.Cell.{accepted}
 use Rattle.cell.specs.Flow.{sameFlow}
-use Rattle.cell.specs.Limits.{cellLimit, portLimit, inputFull}
+use Rattle.cell.specs.Limits.{cellLimit, flowLimit, portLimit, inputFull}
 use Rattle.cell.proofs.Flow.{flow-input}
 use Rattle.model.specs.State.{Entry, cells}
 use Rattle.model.specs.Checks.{noSuchPort, noSuchFlow, outOfTurn, fallingRank, full, fault, faultFrom, firstFault}
@@ -36,6 +39,9 @@ use Rattle.model.proofs.CheckOrder.{faults-first, faults-next}
 use Rattle.model.proofs.Sections.{count-flatten-one}
 use Rattle.layout.specs.Entry.{entryAt, portsIn, countIn}
 use Rattle.layout.specs.Table.{stateOf, IsTable}
+use Rattle.layout.proofs.Records.{entryAt-input}
+use Rattle.table.specs.Entries.{flowWord}
+use Rattle.table.proofs.Entries.{flow-word}
 use Rattle.arrival.specs.declared.Fault.{Fault}
 use Rattle.arrival.specs.declared.Fault.the-variants.{Clear, At}
 use Rattle.arrival.specs.Fault.{sectionIn, arrivalAt, coming, faultIn, faultOf, faultAt, turnAfter}
@@ -62,6 +68,18 @@ pub port-input : (ports : ℕ) (c : Cell) → noSuchPort ports c ≡ false → c
 unfolding noSuchPort
 port-input ports c h =
     leb-false ports (c .input) (or-false-l (leb ports (c .input)) (leb ports (c .output)) h)
+
+pub port-output : (ports : ℕ) (c : Cell) → noSuchPort ports c ≡ false → c .output < ports
+unfolding noSuchPort
+port-output ports c h =
+    leb-false ports (c .output) (or-false-r (leb ports (c .input)) (leb ports (c .output)) h)
+
+------------------------------------------------------------------------
+-- 5
+
+pub flow-below : (c : Cell) → noSuchFlow c ≡ false → c .flow < flowLimit
+unfolding noSuchFlow
+flow-below c h = ltb-true (c .flow) flowLimit (not-false-e (ltb (c .flow) flowLimit) h)
 
 ------------------------------------------------------------------------
 -- 6
@@ -104,14 +122,22 @@ module _ {A : Type 0} (p : A → Bool) where
       (λ s. let w : Passing p (getD ls k []) = some?-e p (getD ls k []) s in
       some?-i p (flatten-mem ls k (w .1)) (w .2))
 
--- by the flow, and then by the rank
-pub outranks-same : (c d e : Cell) → d ≡ e → sameFlow d c ≡ true → ltb (c .rank) (d .rank) ≡ outranks c e
-unfolding outranks
-outranks-same c d e q h = ap (λ b. b && ltb (c .rank) (d .rank)) (sym h) ∙ ap (outranks c) q
+-- by the numbers of the flows
+pub own-flow : (bs : List ℕ) (k : ℕ) (c : Cell) (word flow : ℕ) → k / 64 ≡ c .input → c .output < 256
+    → entryAt bs k .cell .output < 256 → word ≡ flowWord (entryAt bs k .cell) → flow ≡ flowWord c
+    → eqb word flow ≡ sameFlow (entryAt bs k .cell) c
+own-flow bs k c word flow input hc hd here there =
+    ap₂ eqb here there ∙ flow-word (entryAt bs k .cell) c (entryAt-input bs k ∙ input) hd hc
 
-pub outranks-other : (c d e : Cell) → d ≡ e → sameFlow d c ≡ false → false ≡ outranks c e
+-- by the flow, and then by the rank
+pub outranks-same : (c d : Cell) (rank : ℕ) → rank ≡ d .rank → sameFlow d c ≡ true
+    → ltb (c .rank) rank ≡ outranks c d
 unfolding outranks
-outranks-other c d e q h = ap (λ b. b && ltb (c .rank) (d .rank)) (sym h) ∙ ap (outranks c) q
+outranks-same c d rank q h = ap (ltb (c .rank)) q ∙ ap (λ b. b && ltb (c .rank) (d .rank)) (sym h)
+
+pub outranks-other : (c d : Cell) → sameFlow d c ≡ false → false ≡ outranks c d
+unfolding outranks
+outranks-other c d h = ap (λ b. b && ltb (c .rank) (d .rank)) (sym h)
 
 module _ (bs : List ℕ) (t : IsTable bs) (c : Cell) where
   -- the cells of a flow have one input, and a cell stands in the section of its input

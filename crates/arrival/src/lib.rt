@@ -2,7 +2,7 @@
 // and the cells that they become enter the lists of their inputs, on the bytes of the table in place.
 ghost use mathlib.Core.Path.{_≡_};
 ghost use mathlib.Core.Option.{Option, none};
-ghost use Prim.Native.Nat.{_+_, _*_, _≤_, _<_};
+ghost use Prim.Native.Nat.{_+_, _*_, _/_, _≤_, _<_};
 ghost use lib.ListN.{length};
 ghost use Rattle.cell.specs.declared.Cell.{Cell};
 ghost use Rattle.cell.specs.Cell.{accepted};
@@ -12,6 +12,7 @@ ghost use Rattle.model.specs.Crossbar.{inListOf};
 ghost use Rattle.layout.specs.Entry.{entryAt, portsIn, clockIn, countIn};
 ghost use Rattle.layout.specs.Records.{recordStart, recordAt};
 ghost use Rattle.layout.specs.Table.{tableSize, entrySize, stateOf, encode, IsTable};
+ghost use Rattle.table.specs.Entries.{flowWord};
 ghost use Rattle.arrival.specs.Arrival.{entered, arrived, enterPlace, put, movedUp};
 ghost use Rattle.arrival.specs.Fault.{sectionIn, arrivalAt, faultIn, faultOf, faultAt};
 ghost use Rattle.arrival.specs.Fault.{turnAfter, outranks};
@@ -118,13 +119,15 @@ fn out_of_turn(turn: u32, c: Cell) -> bool
 fn falling_rank(table: &[u8], c: Cell) -> bool
     requires { ⌜ IsTable (now table) ⌝ }
     requires { ⌜ c .input < portsIn (now table) ⌝ }
+    requires { ⌜ (c .output < 256) × (c .flow < 256) ⌝ }
     ensures { λ r. ⌜ r ≡ fallingRank (cells (stateOf (now (table .entry)))) c ⌝ }
 {
     let input = c.input as usize;
     let end = places::end_of(table, input);
+    let flow = table::entry::flow_word(c);
     let mut k = 64 * input;
     while k < end {
-        if outranked(table, k, c) {
+        if outranked(table, k, c, flow) {
             return true;
         }
         k += 1;
@@ -132,16 +135,16 @@ fn falling_rank(table: &[u8], c: Cell) -> bool
     false
 }
 
-// Whether an entry is of the record's flow and has a higher rank.
-fn outranked(table: &[u8], k: usize, c: Cell) -> bool
+// Whether an entry of the record's input is of the record's flow and has a higher rank.
+fn outranked(table: &[u8], k: usize, c: Cell, flow: u16) -> bool
     requires { ⌜ (length (now table) ≡ tableSize) × (k < 1024) ⌝ }
+    requires { ⌜ (k / 64 ≡ c .input) × (flow ≡ flowWord c) × (c .output < 256) ⌝ }
     ensures { λ r. ⌜ r ≡ outranks c (entryAt (now (table .entry)) k .cell) ⌝ }
 {
-    let d = table::entry::cell_of(table, k);
-    if cell::same_flow(d, c) {
-        return c.rank < d.rank;
+    if table::entry::flow_word_of(table, k) != flow {
+        return false;
     }
-    false
+    c.rank < table::entry::rank_of(table, k)
 }
 
 // 8: 64 cells from this input are in the switch. They are the entries of its section.
@@ -173,14 +176,16 @@ fn enter(table: &mut [u8], c: Cell)
 fn new_place(table: &[u8], c: Cell) -> usize
     requires { ⌜ IsTable (now table) ⌝ }
     requires { ⌜ c .input < portsIn (now table) ⌝ }
+    requires { ⌜ (c .output < 256) × (c .flow < 256) ⌝ }
     ensures { λ r. ⌜ r ≡ 64 * c .input + enterPlace c (sectionIn (now (table .entry)) (c .input)) ⌝ }
 {
     let input = c.input as usize;
     let first = 64 * input;
     let end = places::end_of(table, input);
+    let flow = table::entry::flow_word(c);
     let mut k = end;
     while first < k {
-        if in_list(table, k - 1, c) {
+        if in_list(table, k - 1, c, flow) {
             return k;
         }
         k -= 1;
@@ -188,15 +193,16 @@ fn new_place(table: &[u8], c: Cell) -> usize
     first
 }
 
-// Whether an entry is in the list and of the cell's flow.
-fn in_list(table: &[u8], k: usize, c: Cell) -> bool
+// Whether an entry of the cell's input is in the list and of the cell's flow.
+fn in_list(table: &[u8], k: usize, c: Cell, flow: u16) -> bool
     requires { ⌜ (length (now table) ≡ tableSize) × (k < 1024) ⌝ }
+    requires { ⌜ (k / 64 ≡ c .input) × (flow ≡ flowWord c) × (c .output < 256) ⌝ }
     ensures { λ r. ⌜ r ≡ inListOf c (entryAt (now (table .entry)) k) ⌝ }
 {
     if table::entry::place_of(table, k) != 1 {
         return false;
     }
-    cell::same_flow(table::entry::cell_of(table, k), c)
+    table::entry::flow_word_of(table, k) == flow
 }
 
 // Moves the entries from `at` up to `end` one place up.

@@ -1,12 +1,17 @@
--- An entry is written as four numbers of 32 bits.
+-- An entry is written as four numbers of 32 bits, and the first two bytes of its record tell its flow.
 use Prim.Native.Nat.{ℕ, suc, _+_, _*_, _/_, _%_, _≤_, _<_}
 use native.Mathlib.Omega.{arith}
 use mathlib.Core.Path.{_≡_, sym, _∙_, ap, ap₂}
 use mathlib.Core.List.{_∷_, _++_, append-assoc}
+use borrow.Author.Tests.{eqb-true, eq-eqb}
+use lib.Dec.{eqb}
+use Rattle.laws.proofs.Tests.{same}
 use Rattle.cell.specs.declared.Cell.{Cell}
+use Rattle.cell.specs.Flow.{sameFlow}
+use Rattle.cell.proofs.Flow.{flow-i, flow-e}
 use Rattle.layout.specs.Number.{bytesOf}
 use Rattle.layout.specs.Table.{entryBytes}
-use Rattle.table.specs.Entries.{entryWith}
+use Rattle.table.specs.Entries.{entryWith, flowWord}
 use Rattle.table.proofs.Fields.{place-i}
 
 -- a byte and a number behind it
@@ -38,3 +43,15 @@ entry-words c p ho hf low high =
     ∙ ap (λ b. bytesOf 1 (c .output) ++ (bytesOf 1 (c .flow) ++ (bytesOf 1 b ++ bytesOf 1 0)))
     (sym (place-i p low high)))
     ∙ simp append-assoc
+
+-- two cells of one input are of one flow exactly if the numbers of their flows are equal
+pub flow-word : (c d : Cell) → c .input ≡ d .input → c .output < 256 → d .output < 256
+    → eqb (flowWord c) (flowWord d) ≡ sameFlow c d
+flow-word c d input hc hd =
+    same (eqb (flowWord c) (flowWord d)) (sameFlow c d)
+    (λ h.
+    let equal : c .output + 256 * c .flow ≡ d .output + 256 * d .flow = eqb-true _ _ h in
+    flow-i (record { input = input; output = omega arith; flow = omega arith }))
+    (λ h.
+    let f = flow-e c d h in
+    eq-eqb _ _ (ap₂ (λ o n. o + 256 * n) (f .output) (f .flow)))

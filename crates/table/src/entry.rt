@@ -9,7 +9,7 @@ ghost use lib.ListN.{length, take, drop};
 ghost use Rattle.layout.specs.Table.{tableSize, placeOf, entryBytes};
 ghost use Rattle.layout.specs.Entry.{entryAt, portsIn, countIn};
 ghost use Rattle.layout.specs.Records.{placeByteAt, recordStart};
-ghost use Rattle.table.specs.Entries.{entryWith};
+ghost use Rattle.table.specs.Entries.{entryWith, flowWord};
 
 // The number of ports.
 pub fn ports_of(bytes: &[u8]) -> usize
@@ -54,6 +54,23 @@ pub fn flow_of(bytes: &[u8], k: usize) -> u8
     ensures { λ r. ⌜ r ≡ entryAt (now (bytes .entry)) k .cell .flow ⌝ }
 {
     bytes[start_of(k) + 1]
+}
+
+// The number of a cell's flow among those of its input: two entries of one section are of one flow exactly if these
+// are equal.
+pub fn flow_word(c: Cell) -> u16
+    requires { ⌜ (c .output < 256) × (c .flow < 256) ⌝ }
+    ensures { λ r. ⌜ r ≡ flowWord c ⌝ }
+{
+    (c.output + 256 * c.flow) as u16
+}
+
+// That of an entry: the first two bytes of its record.
+pub fn flow_word_of(bytes: &[u8], k: usize) -> u16
+    requires { ⌜ (length (now bytes) ≡ tableSize) × (k < 1024) ⌝ }
+    ensures { λ r. ⌜ (r ≡ flowWord (entryAt (now (bytes .entry)) k .cell)) × (entryAt (now (bytes .entry)) k .cell .output < 256) ⌝ }
+{
+    output_of(bytes, k) as u16 + 256 * flow_of(bytes, k) as u16
 }
 
 // The byte of the place: 1 in a list, 2 at a crosspoint, 3 in an output buffer.

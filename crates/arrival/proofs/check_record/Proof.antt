@@ -1,9 +1,11 @@
 -- The checks in their order.
 use mathlib.Core.Path.{sym, _∙_, ap}
+use native.Mathlib.Omega.{arith}
 use borrow.Author.Needs.{needs}
 use Rattle.model.proofs.CheckOrder.{fault-port, fault-flow, fault-turn, fault-rank, fault-full}
 use Rattle.arrival.specs.Fault.{faultAt}
-use Rattle.arrival.proofs.Faults.{port-input, fault-none}
+use Rattle.arrival.proofs.Faults.{port-input, port-output, flow-below, fault-none}
+use Rattle.arrival.proofs.Stored.{ports-below}
 use Rattle.arrival.proofs.check_record.Statement.{statement}
 use Rattle.arrival.proofs.check_record.Tie as tie
 
@@ -42,8 +44,14 @@ returns-3 c =
 
 falling-rank-requires : tie.Need-falling-rank-requires
 falling-rank-requires c κs =
-    let port = c .before .before .before .before in
-    (port .before .before .before .pre, port-input _ _ (sym (port .before .no-such-port .ensures) ∙ port .if1 .left))
+    let flow = c .before .before in
+    let port = flow .before .before in
+    let start = port .before .before .before in
+    let passed = sym (port .before .no-such-port .ensures) ∙ port .if1 .left in
+    let ports = ports-below _ (start .pre) in
+    let output = port-output _ _ passed in
+    let number = flow-below _ (sym (flow .before .no-such-flow .ensures) ∙ flow .if2 .left) in
+    (start .pre, (port-input _ _ passed, (omega arith, omega arith)))
 
 returns-4 : tie.Need-returns-4
 unfolding faultAt

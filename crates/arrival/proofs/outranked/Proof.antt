@@ -1,26 +1,34 @@
 -- The flow decides, and then the rank.
 use mathlib.Core.Path.{sym, _∙_}
 use borrow.Author.Needs.{needs}
-use Rattle.arrival.proofs.Faults.{outranks-same, outranks-other}
+use borrow.Author.Tests.{eq-eqb, ne-eqb}
+use Rattle.arrival.proofs.Faults.{own-flow, outranks-same, outranks-other}
 use Rattle.arrival.proofs.outranked.Statement.{statement}
 use Rattle.arrival.proofs.outranked.Tie as tie
 
-cell-of-requires : tie.Need-cell-of-requires
-cell-of-requires c κs = search needs
-
-same-flow-requires : tie.Need-same-flow-requires
-same-flow-requires c κs = search needs
+flow-word-of-requires : tie.Need-flow-word-of-requires
+flow-word-of-requires c κs = search needs
 
 returns : tie.Need-returns
 returns c =
-    let found = c .before .before .before .before .cell-of in
-    let flow = c .before .before .before .same-flow in
-    outranks-same _ (found .result) _ (found .ensures) (sym (flow .ensures) ∙ c .before .before .if1 .taken)
+    let word = c .before .flow-word-of in
+    let start = c .before .before .before in
+    let own = start .pre .1 in
+    outranks-other _ _
+    (sym (own-flow _ _ _ _ _ (own .0) (own .2) (word .ensures .1) (word .ensures .0) (own .1))
+    ∙ ne-eqb _ _ (c .if1 .taken))
+
+rank-of-requires : tie.Need-rank-of-requires
+rank-of-requires c κs = search needs
 
 returns-2 : tie.Need-returns-2
 returns-2 c =
-    let found = c .before .before .cell-of in
-    outranks-other _ (found .result) _ (found .ensures) (sym (c .before .same-flow .ensures) ∙ c .if1 .left)
+    let flow = c .before .before in
+    let word = flow .before .flow-word-of in
+    let own = flow .before .before .before .pre .1 in
+    outranks-same _ _ _ (c .before .rank-of .ensures)
+    (sym (own-flow _ _ _ _ _ (own .0) (own .2) (word .ensures .1) (word .ensures .0) (own .1))
+    ∙ eq-eqb _ _ (flow .if1 .left))
 
 pub outranked-spec : {M : Type 1} → statement M
-outranked-spec = tie.close (tie.spec cell-of-requires same-flow-requires returns returns-2)
+outranked-spec = tie.close (tie.spec flow-word-of-requires returns rank-of-requires returns-2)
