@@ -4,9 +4,9 @@
 --     staying-new     what stays of a section is the definition's
 --     removable       the next section can close up
 --     removed-mixed   and then one more is new
-use Prim.Native.Nat.{ℕ, zero, suc, _+_, _*_, _-_, _%_, _≤_, _<_}
+use Prim.Native.Nat.{ℕ, zero, suc, _+_, _*_, _-_, _/_, _%_, _≤_, _<_}
 use native.Mathlib.Omega.{arith}
-use native.Mathlib.Nat.{zero-add, suc-add}
+use native.Mathlib.Nat.{zero-add}
 use mathlib.Core.Bool.{Bool, true, false, not, cond}
 use mathlib.Core.Path.{_≡_, refl, sym, _∙_, ap, ap₂, subst}
 use mathlib.Core.List.{List, [], _∷_, _++_, map, append-assoc, append-nil, map-map, List·Memᴰ, Memᴰ·cast}
@@ -26,9 +26,10 @@ use Rattle.model.specs.Crossbar.{leaving, without}
 use Rattle.model.proofs.Numbering.{Short, entryOf, without-at, length-without}
 use Rattle.layout.specs.Number.{bytesOf}
 use Rattle.layout.specs.Table.{layoutNumber, headerSize, entrySize, sectionSize, tableSize, entriesBytes, sectionBytes}
-use Rattle.layout.specs.Table.{placeOf, sectionsBytes, countsBytes, encode, stateOf, decode}
+use Rattle.layout.specs.Table.{placeOf, entryBytes, sectionsBytes, countsBytes, encode, stateOf, decode}
 use Rattle.layout.specs.Entry.{entryAt, portsIn, clockIn, countIn}
-use Rattle.layout.specs.Records.{recordStart, sectionAt}
+use Rattle.layout.specs.Records.{recordStart, recordAt, sectionAt}
+use Rattle.layout.proofs.Records.{stateOf-entry}
 use Rattle.layout.proofs.Table.{length-sectionBytes, length-countsBytes, length-entriesBytes, encode-decode}
 use Rattle.places.specs.View.{waitingAt, window, inTable, InTable}
 use Rattle.places.specs.Sections.{entryPlaced, sectionPlaced, sectionsPlaced}
@@ -36,19 +37,15 @@ use Rattle.places.specs.Scan.{Readable}
 use Rattle.departure.specs.Departing.{Ready, Chosen, stays, staying, Removable, removed, leavingIn, departed}
 use Rattle.places.proofs.Window
 use Rattle.places.proofs.Placed.{getD-numbers, length-numbers, numberFrom-placed, encode-count, section-short}
-use Rattle.places.proofs.Placed.{decode-ports, decode-clock, decode-sections, inTable-number}
-use Rattle.places.proofs.Bytes.{encode-from, encode-rest}
+use Rattle.places.proofs.Placed.{decode-ports, decode-clock, decode-sections, decode-count, inTable-number}
+use Rattle.places.proofs.Bytes.{encode-from, encode-rest, recordAt-encode}
+use Rattle.departure.proofs.Copied.{set-append-add}
 use Rattle.departure.proofs.Leaving.{ready-readable}
 use Rattle.departure.proofs.Sending.{among-leaving}
-use Rattle.departure.proofs.Staying.{entryAt-same, staying-none, length-staying}
+use Rattle.departure.proofs.Staying.{entryAt-same, recordAt-same, staying-none, length-staying}
 
 ------------------------------------------------------------------------
 -- one section is exchanged
-
-set-append-add : (xs ys : List ℕ) (i a : ℕ) → set (xs ++ ys) (length xs + i) a ≡ xs ++ set ys i a
-set-append-add [] ys i a = ap (λ n. set ys n a) (zero-add i)
-set-append-add (x ∷ xs) ys i a =
-    ap (λ n. set (x ∷ (xs ++ ys)) n a) (suc-add (length xs) i) ∙ ap (λ l. x ∷ l) (set-append-add xs ys i a)
 
 countsBytes-set : (n i : ℕ) (sections : List (List Entry)) (es : List Entry) → i < n → i < length sections
     → length es ≤ cellLimit → countsBytes n (set sections i es) ≡ set (countsBytes n sections) i (length es)
@@ -340,6 +337,23 @@ module _ {table places : List ℕ} (r : Ready table places) {numbers : List ℕ}
   old-short : Short (state .sections)
   old-short = section-short table state decoded
 
+  -- the records of the table are the bytes of their entries
+  record-bytes : (k : ℕ) → InTable table k → recordAt table k ≡ entryBytes (entryAt table k)
+  unfolding portsIn
+  record-bytes k t =
+      let readable : Readable table = ready-readable r in
+      let i : ℕ = k / cellLimit in
+      let j : ℕ = k - cellLimit * i in
+      let whole : k ≡ cellLimit * i + j = omega arith in
+      let port : i < portLimit = omega (arith, t .input, readable .ports) in
+      let few : j < countIn table i = omega (arith, t .position) in
+      let within : j < length (getD (state .sections) i []) = omega (arith, decode-count table state decoded i port) in
+      ap₂ recordAt (sym (encode-decode table state decoded)) whole
+      ∙ recordAt-encode state i old-short port j (entryAt table k) within
+      ∙ ap entryBytes
+      (stateOf-entry table i j (entryAt table k) (λ h l. readable .counts h (omega (arith, readable .ports))) (t .input) few
+      ∙ ap (entryAt table) (sym whole))
+
   lengths : length after ≡ length (state .sections)
   lengths = length-fresh ∙ sym length-old
 
@@ -397,15 +411,18 @@ module _ {table places : List ℕ} (r : Ready table places) {numbers : List ℕ}
         ∙ sym (encode-count state i port (old-short i))
         ∙ ap (λ bs. countIn bs i) (encode-decode table state decoded)
 
-    entry-same : (k : ℕ) → cellLimit * i ≤ k → entryAt now k ≡ entryAt table k
-    entry-same k h =
+    -- and so from each record of it on
+    rest-same : (k : ℕ) → cellLimit * i ≤ k → drop (recordStart k) now ≡ drop (recordStart k) table
+    rest-same k h =
         let at : recordStart k ≡ headerSize + sectionSize * i + entrySize * (k - cellLimit * i) = omega arith in
-        entryAt-same table now k
-        (ap (λ n. drop n now) at
+        ap (λ n. drop n now) at
         ∙ sym (drop-drop (entrySize * (k - cellLimit * i)) (headerSize + sectionSize * i) now)
         ∙ ap (drop (entrySize * (k - cellLimit * i))) tail-same
         ∙ drop-drop (entrySize * (k - cellLimit * i)) (headerSize + sectionSize * i) table
-        ∙ ap (λ n. drop n table) (sym at))
+        ∙ ap (λ n. drop n table) (sym at)
+
+    entry-same : (k : ℕ) → cellLimit * i ≤ k → entryAt now k ≡ entryAt table k
+    entry-same k h = entryAt-same table now k (rest-same k h)
 
     -- the next section can close up
     pub removable : length now ≡ tableSize → Removable now places i
@@ -427,6 +444,11 @@ module _ {table places : List ℕ} (r : Ready table places) {numbers : List ℕ}
                 let t : InTable table k = number k low high in
                 rw (entry-same k low) (omega (arith, readable .outputs k t, readable .ports));
             places = λ k low high. r .places k (number k low high);
+            bytes =
+                λ k low high.
+                recordAt-same table now k (rest-same k low)
+                ∙ record-bytes k (number k low high)
+                ∙ ap entryBytes (sym (entry-same k low));
           };
           rest = rest;
         }

@@ -1,3 +1,4 @@
+pub mod Copied
 pub mod Departing
 pub mod Leaving
 pub mod Sending

@@ -16,7 +16,6 @@ use Rattle.laws.specs.Lists.{keep, numbersFrom}
 use Rattle.laws.proofs.Tests.{cond-pass, cond-fail}
 use Rattle.laws.proofs.Lists.{keep-append, keep-pass, keep-fail, keep-nil}
 use Rattle.laws.proofs.Count.{length-keep, count-le-length}
-use Rattle.cell.specs.declared.Cell.{Cell}
 use Rattle.cell.specs.Limits.{cellLimit}
 use Rattle.model.specs.State.{Entry}
 use Rattle.model.proofs.Sections.{map-append}
@@ -25,7 +24,7 @@ use Rattle.layout.specs.Table.{headerSize, entrySize, sectionSize, tableSize, p
 use Rattle.layout.specs.Table.{entriesBytes}
 use Rattle.layout.specs.Table.{sectionBytes}
 use Rattle.layout.specs.Entry.{entryAt, countIn}
-use Rattle.layout.specs.Records.{recordStart}
+use Rattle.layout.specs.Records.{recordStart, recordAt}
 use Rattle.layout.proofs.Table.{length-entryBytes, length-entriesBytes}
 use Rattle.places.specs.Sections.{entryPlaced}
 use Rattle.table.specs.Entries.{entryWith}
@@ -33,6 +32,7 @@ use Rattle.departure.specs.Departing.{stays, staying, putAt, freeAfter, 
 use Rattle.departure.specs.Departing.{Movable, Removable, removed}
 use Rattle.places.proofs.Window.{numbersFrom-suc}
 use Rattle.table.proofs.Put.{put, put-next, drop-put, length-put}
+use Rattle.departure.proofs.Copied.{placed-put}
 
 ------------------------------------------------------------------------
 -- one record more is cleared
@@ -99,12 +99,14 @@ module _ (table places numbers : List ℕ) (k free : ℕ) where
     unfolding freeAfter
     free-stay = sym (cond-pass (stays table numbers k) (free + 1) free remains)
 
-    pub closed-stay : (c : Cell) → c ≡ entryAt table k .cell
-        → put (recordStart free) 16 (entryBytes (entryWith c (getD places k 0))) table
-        ≡ closedOne table places numbers k free
+    pub closed-stay : (at : ℕ) (mid : List ℕ) → recordAt table k ≡ entryBytes (entryAt table k)
+        → recordStart free ≤ length table → 1 ≤ getD places k 0 → getD places k 0 ≤ 3 → at ≡ recordStart free
+        → mid ≡ put (recordStart free) entrySize (recordAt table k) table
+        → set mid (at + 2) (getD places k 0) ≡ closedOne table places numbers k free
     unfolding closedOne entryWith entryPlaced
-    closed-stay c e =
-        ap (λ d. put (recordStart free) 16 (entryBytes (entryWith d (getD places k 0))) table) e
+    closed-stay at mid exact room low high e copied =
+        ap₂ (λ bs n. set bs (n + 2) (getD places k 0)) copied e
+        ∙ placed-put (recordStart free) (getD places k 0) (entryAt table k) (recordAt table k) table exact room low high
         ∙ ap (λ w. put (recordStart free) w (entryBytes (entryPlaced table places k)) table)
         (sym (length-entryBytes (entryPlaced table places k)))
         ∙ sym
@@ -113,11 +115,16 @@ module _ (table places numbers : List ℕ) (k free : ℕ) where
 ------------------------------------------------------------------------
 -- one entry more closes up
 
--- the bytes from a record on decide its entry
+-- the bytes from a record on decide it and its entry
 pub entryAt-same : (old new : List ℕ) (k : ℕ) → drop (recordStart k) new ≡ drop (recordStart k) old
     → entryAt new k ≡ entryAt old k
 unfolding entryAt
 entryAt-same old new k h = ap (λ bs. entryOf (k / cellLimit) (take entrySize bs)) h
+
+pub recordAt-same : (old new : List ℕ) (k : ℕ) → drop (recordStart k) new ≡ drop (recordStart k) old
+    → recordAt new k ≡ recordAt old k
+unfolding recordAt
+recordAt-same old new k h = ap (take entrySize) h
 
 length-numbersFrom : (k n : ℕ) → length (numbersFrom k n) ≡ n
 unfolding numbersFrom
@@ -232,12 +239,18 @@ module _ (table places numbers : List ℕ) (first : ℕ) where
         (omega (arith, room, fits))
         ∙ m .size
 
-    pub closing-entry : entryAt now k ≡ entryAt table k
-    closing-entry =
-        entryAt-same table now k
-        (ap (drop (recordStart k)) bytes-put
+    -- from this record on the bytes are the table's
+    closing-rest : drop (recordStart k) now ≡ drop (recordStart k) table
+    closing-rest =
+        ap (drop (recordStart k)) bytes-put
         ∙ drop-put (recordStart first) (entrySize * length kept) (entriesBytes kept) table (length-entriesBytes kept)
-        (omega (arith, room, fits)) (recordStart k) room)
+        (omega (arith, room, fits)) (recordStart k) room
+
+    pub closing-entry : entryAt now k ≡ entryAt table k
+    closing-entry = entryAt-same table now k closing-rest
+
+    pub closing-bytes : recordAt now k ≡ entryBytes (entryAt now k)
+    closing-bytes = recordAt-same table now k closing-rest ∙ m .bytes k (c .low) l ∙ ap entryBytes (sym closing-entry)
 
     pub closing-output : entryAt now k .cell .output < 16
     closing-output = rw closing-entry (m .outputs k (c .low) l)

@@ -25,7 +25,7 @@ use Rattle.layout.specs.Number.{bytesOf}
 use Rattle.layout.specs.Table.{headerSize, entrySize, sectionSize, tableSize, placeOf, entryBytes, entriesBytes, IsTable}
 use Rattle.layout.specs.Table.{sectionBytes}
 use Rattle.layout.specs.Entry.{entryAt, portsIn, clockIn, countIn}
-use Rattle.layout.specs.Records.{recordStart}
+use Rattle.layout.specs.Records.{recordStart, recordAt}
 use Rattle.places.specs.Choices.{nowhere, BestAmong}
 use Rattle.places.specs.View.{inTable, InTable}
 use Rattle.places.specs.Sections.{entryPlaced, sectionsPlaced}
@@ -111,6 +111,7 @@ pub record Movable (table column : List ℕ) (first end : ℕ) : Type 0 where
   pub limit : end ≤ 1024
   pub outputs : (k : ℕ) → first ≤ k → k < end → entryAt table k .cell .output < 16
   pub places : (k : ℕ) → first ≤ k → k < end → (1 ≤ getD column k 0) × (getD column k 0 ≤ 3)
+  pub bytes : (k : ℕ) → first ≤ k → k < end → recordAt table k ≡ entryBytes (entryAt table k)
 
 -- the records of an input, with zeros behind its entries
 pub record Removable (table column : List ℕ) (input : ℕ) : Type 0 where

@@ -7,8 +7,8 @@ ghost use mathlib.Core.List.{_++_, map};
 ghost use Prim.Native.Nat.{_+_, _*_, _-_, _<_, _≤_};
 ghost use lib.ListN.{length, getD, take, drop, replicate};
 ghost use Rattle.model.specs.Crossbar.{departuresOf};
-ghost use Rattle.layout.specs.Table.{tableSize, encode};
-ghost use Rattle.layout.specs.Records.{recordStart};
+ghost use Rattle.layout.specs.Table.{tableSize, entryBytes, encode};
+ghost use Rattle.layout.specs.Records.{recordStart, recordAt};
 ghost use Rattle.layout.specs.Answer.{departureBytes, departuresBytes};
 ghost use Rattle.layout.specs.Host.{filled};
 ghost use Rattle.layout.specs.Entry.{entryAt, portsIn};
@@ -166,20 +166,38 @@ fn close_up(table: &mut [u8], places: &[u8], best: &[u16; 16], first: usize, end
     free
 }
 
-// One entry: it leaves, or it goes to the free record.
+// One entry: it leaves, or it goes to the free record, with its place from the column.
 fn close_one(table: &mut [u8], places: &[u8], best: &[u16; 16], k: usize, free: usize) -> usize
     requires { ⌜ (length (now table) ≡ tableSize) × (length (now places) ≡ 1024) × (k < 1024) × (free ≤ k) ⌝ }
     requires { ⌜ entryAt (now table) k .cell .output < 16 ⌝ }
     requires { ⌜ (1 ≤ getD (now places) k 0) × (getD (now places) k 0 ≤ 3) ⌝ }
+    requires { ⌜ recordAt (now table) k ≡ entryBytes (entryAt (now table) k) ⌝ }
     ensures { λ r. ⌜ r ≡ freeAfter (now (table .entry)) (now (best .entry)) k free ⌝ }
     ensures { λ r. ⌜ now (table .exit) ≡ closedOne (now (table .entry)) (now (places .entry)) (now (best .entry)) k free ⌝ }
 {
     if best[table::entry::output_of(table, k) as usize] == k as u16 {
         return free;
     }
-    let c = table::entry::cell_of(table, k);
-    table::entry::write_entry(table, free, c, places[k]);
+    copy_down(table, k, free);
+    table[table::entry::start_of(free) + 2] = places[k];
     free + 1
+}
+
+// Copies a record to the free one. Up to the first cell that leaves a section this is the record itself, and nothing
+// moves.
+fn copy_down(table: &mut [u8], k: usize, free: usize)
+    requires { ⌜ (length (now table) ≡ tableSize) × (k < 1024) × (free ≤ k) ⌝ }
+    ensures { λ _. ⌜ now (table .exit) ≡ take (recordStart free) (now (table .entry)) ++ (recordAt (now (table .entry)) k ++ drop (recordStart free + 16) (now (table .entry))) ⌝ }
+{
+    if k == free {
+        return;
+    }
+    let from = table::entry::start_of(k);
+    let to = table::entry::start_of(free);
+    let low = table::word::read_u64(table, from);
+    let high = table::word::read_u64(table, from + 8);
+    table::word::write_u64(table, to, low);
+    table::word::write_u64(table, to + 8, high);
 }
 
 // Clears the records from one up to another.

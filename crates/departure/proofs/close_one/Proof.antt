@@ -1,12 +1,11 @@
--- The entry is its output's choice and leaves, or it is written to the free record.
-use Prim.Native.Nat.{_+_, _<_}
+-- The entry is its output's choice and leaves, or its record is copied to the free one and its place is set.
+use Prim.Native.Nat.{_≤_}
 use native.Mathlib.Omega.{arith}
 use mathlib.Core.Path.{_≡_, sym, _∙_, ap}
 use borrow.Author.Needs.{needs}
-use lib.ListN.{getD}
+use lib.ListN.{length, getD}
 use Rattle.layout.specs.Entry.{entryAt}
 use Rattle.layout.specs.Records.{recordStart}
-use Rattle.layout.proofs.Records.{entryAt-flow}
 use Rattle.departure.proofs.Staying.{free-leave, closed-leave, free-stay, closed-stay}
 use Rattle.departure.proofs.close_one.Statement.{statement}
 use Rattle.departure.proofs.close_one.Tie as tie
@@ -44,25 +43,20 @@ returns c =
       closed-leave (a .table .now) (a .places .now) (a .best .now) (a .k) (a .free) own,
     )
 
-cell-of-requires : tie.Need-cell-of-requires
-cell-of-requires c κs = search needs
+copy-down-requires : tie.Need-copy-down-requires
+copy-down-requires c κs = search needs
 
-shared-slice-read-write-entry : tie.Need-shared-slice-read-write-entry
-shared-slice-read-write-entry c = search needs
+shared-slice-read-table : tie.Need-shared-slice-read-table
+shared-slice-read-table c = search needs
 
-write-entry-requires : tie.Need-write-entry-requires
-write-entry-requires c κs =
-    let cell = c .before .before in
-    let start = cell .before .before .before .before .before .before .before .before in
-    let known = cell .before .before .before .before .before .before .before .slice-known .given in
-    let a = start .args in
-    let d = cell .cell-of .ensures in
-    let output : cell .cell-of .result .output < 256 = omega (arith, ap (λ e. e .output) d, start .pre .1 .0) in
-    let flow : cell .cell-of .result .flow < 256 =
-    omega (arith, ap (λ e. e .flow) d ∙ entryAt-flow (a .table .now) (a .k), known (recordStart (a .k) + 1)) in (
-      (start .pre .0 .0, omega (arith, start .pre .0 .2, start .pre .0 .3)),
-      (output, flow, start .pre .1 .1 .0, start .pre .1 .1 .1),
-    )
+start-of-requires : tie.Need-start-of-requires
+start-of-requires c κs = search needs
+
+add-table : tie.Need-add-table
+add-table c = search needs
+
+slice-write-table : tie.Need-slice-write-table
+slice-write-table c = search needs
 
 add-result : tie.Need-add-result
 add-result c = search needs
@@ -72,16 +66,19 @@ same-length-2 c = search needs
 
 returns-2 : tie.Need-returns-2
 returns-2 c =
-    let wrote = c .before .before .write-entry in
-    let cell = c .before .before .before .before .before in
-    let test = cell .before .before in
-    let a = cell .before .before .before .before .before .before .before .before .args in
+    let copied = c .before .before .before .before in
+    let test = copied .before .before in
+    let start = test .before .before .before .before .before .before in
+    let a = start .args in
+    let place = start .pre .1 .1 .0 in
+    let room : recordStart (a .free) ≤ length (a .table .now) =
+    omega (arith, start .pre .0 .0, start .pre .0 .2, start .pre .0 .3) in
     let other : getD (a .best .now) (entryAt (a .table .now) (a .k) .cell .output) 0 ≡ a .k → ⊥ =
     λ h. test .if1 .left (choice (test .before .before) ∙ h) in (
       free-stay (a .table .now) (a .places .now) (a .best .now) (a .k) (a .free) other,
-      wrote .ensures
-          ∙ closed-stay (a .table .now) (a .places .now) (a .best .now) (a .k) (a .free) other (cell .cell-of .result)
-          (cell .cell-of .ensures),
+      closed-stay (a .table .now) (a .places .now) (a .best .now) (a .k) (a .free) other (c .start-of .result)
+          (copied .copy-down .last .0) (start .pre .1 .1 .1) room (place .0) (place .1) (c .start-of .ensures)
+          (copied .copy-down .ensures),
     )
 
 pub close-one-spec : {M : Type 1} → statement M
@@ -95,9 +92,11 @@ close-one-spec =
     cast-if1-2
     same-length
     returns
-    cell-of-requires
-    shared-slice-read-write-entry
-    write-entry-requires
+    copy-down-requires
+    shared-slice-read-table
+    start-of-requires
+    add-table
+    slice-write-table
     add-result
     same-length-2
     returns-2)

@@ -6,7 +6,7 @@ use borrow.Author.Needs.{needs}
 use lib.ListN.{length}
 use Rattle.departure.specs.Departing.{staying, closed}
 use Rattle.departure.proofs.Staying.{Closing, closing-none, closing-free, closing-size, closing-output}
-use Rattle.departure.proofs.Staying.{closing-more}
+use Rattle.departure.proofs.Staying.{closing-bytes, closing-more}
 use Rattle.departure.proofs.close_up.Statement.{statement}
 use Rattle.departure.proofs.close_up.Tie as tie
 
@@ -33,7 +33,10 @@ close-one-requires c κs =
     let m = start .pre in
     let closing = loop .inv .2 in (
       (closing-size _ _ _ _ m closing l, m .room, omega (arith, m .limit), closing-free _ _ _ _ m closing l),
-      (closing-output _ _ _ _ m closing l, m .places (loop .k) (closing .low) l),
+      (
+        closing-output _ _ _ _ m closing l,
+        (m .places (loop .k) (closing .low) l, closing-bytes _ _ _ _ m closing l),
+      ),
     )
 
 add-k : tie.Need-add-k Inv-loop μ-loop
