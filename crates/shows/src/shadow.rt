@@ -1,0 +1,223 @@
+// Document 01, "The PIFO switch it is held against", written plainly and apart from the crossbar: no lists, no crosspoints, no
+// phases. All waiting cells stand in one flat array, in no order, and whatever is asked of them is searched for from end to end.
+ghost use Prim.Native.Nat.{_<_};
+
+// A shadow switch has 2,048 places for cells, its number of ports, its clock, and how many places have been taken. A cell that has left
+// leaves its place unused.
+pub type Shadow = [u32; 14339];
+
+const PLACES: usize = 2048;
+
+const PORTS: usize = 14336;
+
+const CLOCK: usize = 14337;
+
+const USED: usize = 14338;
+
+// The seven numbers of a place: 1 if a cell waits there, else 0; then the cell, with its tag before its slot.
+const WAITS: usize = 0;
+
+const INPUT: usize = 1;
+
+const OUTPUT: usize = 2;
+
+const FLOW: usize = 3;
+
+const RANK: usize = 4;
+
+const SLOT: usize = 6;
+
+// A switch in which no cell waits.
+pub fn fresh(ports: u32, first: u32) -> Shadow {
+    let mut shadow = [0; 14339];
+    shadow[PORTS] = ports;
+    shadow[CLOCK] = first;
+    shadow
+}
+
+// Takes a slot. A record is the number of the call, which is not looked at, then input, output, flow, rank and tag. The result is 0, or
+// the number of the refusal and 16 times the record's place. What each of sixteen outputs sends goes into `sent`, in the seven
+// numbers of a place.
+pub fn slot(shadow: &mut Shadow, records: &[[u32; 6]], sent: &mut [u32; 112]) -> u64 {
+    let clock = shadow[CLOCK];
+    if 4294967295 <= clock {
+        return 3;
+    }
+    let fault = first_fault(shadow, records);
+    if fault == 0 {
+        accept(shadow, records);
+        send(shadow, sent);
+        shadow[CLOCK] = clock + 1;
+    }
+    fault
+}
+
+// The first record at fault, by the cells that wait before the slot.
+fn first_fault(shadow: &Shadow, records: &[[u32; 6]]) -> u64 {
+    let mut before = [0; 6];
+    let mut k = 0;
+    while k < records.len() {
+        let record = records[k];
+        let number = fault_of(shadow, record, k, before);
+        k += 1;
+        if number != 0 {
+            return number as u64 + 16 * k as u64;
+        }
+        before = record;
+    }
+    0
+}
+
+// The checks of a record, in their order: 0 if it has no fault.
+fn fault_of(shadow: &Shadow, record: [u32; 6], k: usize, before: [u32; 6]) -> u8 {
+    let ports = shadow[PORTS];
+    let input = record[INPUT];
+    if ports <= input || ports <= record[OUTPUT] {
+        return 4;
+    }
+    if 7 < record[FLOW] {
+        return 5;
+    }
+    if 0 < k && input <= before[INPUT] {
+        return 6;
+    }
+    if falls(shadow, input, record[OUTPUT], record[FLOW], record[RANK]) {
+        return 7;
+    }
+    if 64 <= count_of(shadow, input) {
+        return 8;
+    }
+    0
+}
+
+// Whether a cell of the flow waits with a higher rank.
+fn falls(shadow: &Shadow, input: u32, output: u32, flow: u32, rank: u32) -> bool {
+    let mut k = 0;
+    while k < PLACES {
+        if field(shadow, k, WAITS) != 0
+            && field(shadow, k, INPUT) == input
+            && field(shadow, k, OUTPUT) == output
+            && field(shadow, k, FLOW) == flow
+            && rank < field(shadow, k, RANK)
+        {
+            return true;
+        }
+        k += 1;
+    }
+    false
+}
+
+// How many cells of an input wait.
+fn count_of(shadow: &Shadow, input: u32) -> u32 {
+    let mut count = 0;
+    let mut k = 0;
+    while k < PLACES {
+        if field(shadow, k, WAITS) != 0 && field(shadow, k, INPUT) == input {
+            count += 1;
+        }
+        k += 1;
+    }
+    count
+}
+
+// Each record becomes a cell that waits.
+fn accept(shadow: &mut Shadow, records: &[[u32; 6]]) {
+    let mut k = 0;
+    while k < records.len() {
+        store(shadow, records[k]);
+        k += 1;
+    }
+}
+
+// A record, with the slot, at the next place.
+fn store(shadow: &mut Shadow, record: [u32; 6]) {
+    let used = shadow[USED];
+    if 2048 <= used {
+        return;
+    }
+    let place = used as usize;
+    let mut f = INPUT;
+    while f < SLOT {
+        shadow[7 * place + f] = record[f];
+        f += 1;
+    }
+    shadow[7 * place + SLOT] = shadow[CLOCK];
+    shadow[7 * place] = 1;
+    shadow[USED] = used + 1;
+}
+
+// Each output sends its first cell, if it has one.
+fn send(shadow: &mut Shadow, sent: &mut [u32; 112]) {
+    let mut output = 0;
+    while output < 16 {
+        leave(shadow, first_for(shadow, output as u32), sent, output);
+        output += 1;
+    }
+}
+
+// Where the cell of highest output priority for an output waits.
+fn first_for(shadow: &Shadow, output: u32) -> usize {
+    let mut first = PLACES;
+    let mut k = 0;
+    while k < PLACES {
+        first = earlier(shadow, output, first, k);
+        k += 1;
+    }
+    first
+}
+
+// Of a place found so far and the next one, the place of the cell that the output sends first.
+fn earlier(shadow: &Shadow, output: u32, first: usize, k: usize) -> usize
+    requires { ⌜ k < 2048 ⌝ }
+{
+    if field(shadow, k, WAITS) == 0 || field(shadow, k, OUTPUT) != output {
+        return first;
+    }
+    if first < PLACES {
+        if precedes(shadow, first, k) {
+            return first;
+        }
+    }
+    k
+}
+
+// Whether the cell at a place is sent before the one at another: by rank, then slot, then input.
+fn precedes(shadow: &Shadow, a: usize, b: usize) -> bool
+    requires { ⌜ a < 2048 ⌝ }
+    requires { ⌜ b < 2048 ⌝ }
+{
+    let rank = field(shadow, a, RANK);
+    let other = field(shadow, b, RANK);
+    if rank != other {
+        return rank < other;
+    }
+    let slot = field(shadow, a, SLOT);
+    let later = field(shadow, b, SLOT);
+    if slot != later {
+        return slot < later;
+    }
+    field(shadow, a, INPUT) < field(shadow, b, INPUT)
+}
+
+// Moves the cell at a place, if it is one, to what the output sends.
+fn leave(shadow: &mut Shadow, place: usize, sent: &mut [u32; 112], output: usize)
+    requires { ⌜ output < 16 ⌝ }
+{
+    if PLACES <= place {
+        return;
+    }
+    let mut f = WAITS;
+    while f <= SLOT {
+        sent[7 * output + f] = shadow[7 * place + f];
+        f += 1;
+    }
+    shadow[7 * place] = 0;
+}
+
+// A number of a place.
+fn field(shadow: &Shadow, k: usize, f: usize) -> u32
+    requires { ⌜ k < 2048 ⌝ }
+    requires { ⌜ f < 7 ⌝ }
+{
+    shadow[7 * k + f]
+}

@@ -1,0 +1,68 @@
+// Calls that are turned back for what they are lent, before any arrival is looked at. The shadow is not told of them.
+use crate::say::say;
+use crate::say::say_refusal;
+use crate::say::say_verdict;
+use crate::shadow;
+use crate::stage::Table;
+use crate::stage::play;
+ghost use Prim.Native.Nat.{_≤_};
+
+// A start that is turned back keeps the buffer.
+pub fn show_start(name: &[u8], ports: u32, length: usize)
+    requires { ⌜ length ≤ 16416 ⌝ }
+{
+    let mut buffer = [7u8; 16416];
+    say(name);
+    say_refusal(crossbar::start(ports, 0, &mut buffer[0..length]) as u64);
+    say_verdict(untouched(&buffer), b"buffer kept\n");
+}
+
+fn untouched(buffer: &Table) -> bool {
+    let mut k = 0;
+    while k < 16416 {
+        if buffer[k] != 7 {
+            return false;
+        }
+        k += 1;
+    }
+    true
+}
+
+// A slot call that is turned back between good ones: with `ports` in the table where 2 is right, and so many bytes of arrivals, answer
+// and tally.
+pub fn show_slot(name: &[u8], ports: u8, arrivals: usize, answer: usize, tally: usize)
+    requires { ⌜ arrivals ≤ 20 ⌝ }
+    requires { ⌜ answer ≤ 456 ⌝ }
+    requires { ⌜ tally ≤ 32 ⌝ }
+{
+    let first = [[0, 0, 0, 0, 5, 1], [0, 1, 0, 0, 3, 2]];
+    let second = [[0, 1, 1, 0, 4, 3]];
+    let mut table = [0u8; 16416];
+    let mut counts = [0u8; 32];
+    let mut shadow = shadow::fresh(2, 0);
+    say(name);
+    crossbar::start(2, 0, &mut table);
+    let before = play(&mut table, &mut counts, &mut shadow, 1, &first, true);
+    wrong_slot(&mut table, ports, arrivals, answer, tally);
+    let after = play(&mut table, &mut counts, &mut shadow, 2, &second, true);
+    say_verdict(before && after, b"as the shadow says\n");
+}
+
+fn wrong_slot(table: &mut Table, ports: u8, arrivals: usize, answer: usize, tally: usize)
+    requires { ⌜ arrivals ≤ 20 ⌝ }
+    requires { ⌜ answer ≤ 456 ⌝ }
+    requires { ⌜ tally ≤ 32 ⌝ }
+{
+    let record = [0u8; 20];
+    let mut buffer = [0u8; 456];
+    let mut counts = [0u8; 32];
+    table[4] = ports;
+    let result = crossbar::slot(
+        table,
+        &record[0..arrivals],
+        &mut buffer[0..answer],
+        &mut counts[0..tally],
+    );
+    table[4] = 2;
+    say_refusal(result);
+}
