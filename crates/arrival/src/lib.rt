@@ -67,7 +67,7 @@ pub fn arrive(table: &mut [u8], arrivals: &[u8])
 }
 
 // The checks of one record, in their order. `turn` is the lowest input whose turn it is.
-fn check_record(table: &[u8], turn: u32, place: u32, c: Cell) -> Fault
+pub fn check_record(table: &[u8], turn: u32, place: u32, c: Cell) -> Fault
     requires { ⌜ IsTable (now table) ⌝ }
     ensures { λ r. ⌜ ((before : Option Cell) → turnAfter before ≡ turn → r ≡ faultAt place (fault (portsIn (now (table .entry))) (cells (stateOf (now (table .entry)))) before c)) ⌝ }
 {

@@ -1,5 +1,3 @@
-pub mod Counts
 pub mod Demand3
-pub mod Departures
 pub mod Fresh
 pub mod Slots

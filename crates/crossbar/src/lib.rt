@@ -1,21 +1,14 @@
 // What the chassis host calls: numbers and byte slices, no call with a condition on what it is lent.
-mod lent;
-mod tally;
-
 use arrival::Fault;
 use cell::Refusal;
 use cell::Switch;
-use lent::departures_in;
-use lent::lent_slot;
-use lent::result_of;
-use tally::count_refused;
-use tally::count_run;
 ghost use mathlib.Core.Path.{_≡_};
 ghost use Prim.Native.Nat.{_≤_};
 ghost use lib.ListN.{length};
 ghost use Rattle.model.specs.State.{fresh};
 ghost use Rattle.layout.specs.Table.{encode, tableSize};
 ghost use Rattle.crossbar.specs.Cleared.{cleared};
+ghost use Rattle.crossbar.specs.Lent.{faultResult};
 ghost use Rattle.layout.specs.Host.{checkCall, startCall, bufferAfter, resultOf, filled};
 ghost use Rattle.layout.specs.Host.{slotCall, tableAfter, answerAfter, tallyBytesAfter};
 
@@ -74,13 +67,17 @@ pub extern "C" fn slot(
     if tally.len() != TALLY_BYTES {
         return Refusal::BrokenTable.number() as u64;
     }
-    let fault = lent_slot(table, arrivals, answer);
-    let Fault::Clear = fault else {
-        count_refused(tally);
-        return result_of(fault);
-    };
-    count_run(tally, (arrivals.len() / 20) as u64, departures_in(answer));
-    0
+    result_of(entry::bytes::slot(table, arrivals, answer, tally))
+}
+
+// 0, or the number of the refusal and 256 times the record's place.
+fn result_of(fault: Fault) -> u64
+    ensures { λ r. ⌜ r ≡ faultResult fault ⌝ }
+{
+    match fault {
+        Fault::Clear => 0,
+        Fault::At(refusal, place) => refusal.number() as u64 + 256 * (place as u64),
+    }
 }
 
 // The table of a fresh switch: its header, and zeros.

@@ -50,7 +50,7 @@ pub fn slot(table: &mut [u8], arrivals: &[u8], answer: &mut [u8]) -> Fault
 }
 
 // The course of a slot that is not turned back.
-fn run(table: &mut [u8], arrivals: &[u8], answer: &mut [u8])
+pub fn run(table: &mut [u8], arrivals: &[u8], answer: &mut [u8])
     requires { ⌜ IsTable (now table) ⌝ }
     requires { ⌜ faultIn (now table) (now arrivals) ≡ none ⌝ }
     requires { ⌜ clockIn (now table) < 4294967295 ⌝ }

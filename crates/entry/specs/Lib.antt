@@ -1,0 +1,3 @@
+pub mod Looked
+pub mod Ended
+pub mod Lent
