@@ -1,5 +1,5 @@
 -- Arrival on the bytes.
---     in-list-other, in-list-flow            an entry in the list of a flow, by its bytes
+--     in-list-word                           an entry in the list of a flow, by the first number of its record
 --     place-front, place-behind, place-below  how many entries stand before a new cell
 --     enter-place                            entering puts it behind them
 --     place-found, place-none                the same by the entries' numbers
@@ -12,11 +12,12 @@ use mathlib.Core.Path.{_≡_, refl, sym, _∙_, ap, ap₂, subst}
 use mathlib.Core.List.{List, [], _∷_, _++_, List·Memᴰ, List·Memᴰ·head, List·Memᴰ·tail, Memᴰ·append-right}
 use native.Mathlib.Numerals.{add-one}
 use native.Mathlib.Omega.{arith}
-use borrow.Author.Tests.{eq-eqb, ne-eqb, eqb-true, eqb-false}
+use borrow.Author.Tests.{eq-eqb, eqb-true, eqb-false}
 use lib.Dec.{eqb}
 use lib.ListN.{length, take, drop, set, getD, length-append, length-drop, length-replicate, replicate}
 use lib.Seq.{take-at, drop-at, length-take-le, split-at, getD-drop, append-snoc}
 use Rattle.laws.specs.Lists.{some?, none?}
+use Rattle.laws.proofs.Tests.{same, and-i, and-l, and-r}
 use Rattle.laws.proofs.Lists.{some?-i, some?-false}
 use Rattle.cell.specs.declared.Cell.{Cell}
 use Rattle.cell.specs.Flow.{sameFlow}
@@ -32,7 +33,7 @@ use Rattle.layout.specs.Table.{tableSize}
 use Rattle.layout.proofs.Halves.{read-halves, put-halves}
 use Rattle.layout.proofs.Number.{bytes?, bytes?-take, bytes?-drop, bytesOf-numberOf, numberAt-below}
 use Rattle.layout.proofs.Table.{length-entryBytes, length-entriesBytes}
-use Rattle.table.specs.Entries.{entryWith}
+use Rattle.table.specs.Entries.{entryWith, flowWord}
 use Rattle.arrival.specs.Arrival.{entered, enterPlace, put, movedUp}
 use Rattle.arrival.specs.Fault.{sectionIn}
 use Rattle.arrival.proofs.Faults.{none?-at}
@@ -48,13 +49,21 @@ in-list-listed : (c : Cell) (e : Entry) (b : ℕ) → placeOf b ≡ e .place →
 unfolding inListOf
 in-list-listed c e b q = ap (λ x. x && sameFlow (e .cell) c) (ap isListed (sym q) ∙ listed-byte b)
 
-pub in-list-other : (c : Cell) (e : Entry) (b : ℕ) → placeOf b ≡ e .place → (b ≡ 1 → ⊥) → false ≡ inListOf c e
-in-list-other c e b q h =
-    sym (in-list-listed c e b q ∙ ap (λ x. x && sameFlow (e .cell) c) (ne-eqb b 1 h))
-
-pub in-list-flow : (c : Cell) (e : Entry) (b : ℕ) → placeOf b ≡ e .place → b ≡ 1 → sameFlow (e .cell) c ≡ inListOf c e
-in-list-flow c e b q h =
-    sym (in-list-listed c e b q ∙ ap (λ x. x && sameFlow (e .cell) c) (eq-eqb b 1 h))
+-- by the first number of its record
+pub in-list-word : (c : Cell) (e : Entry) (b n flow : ℕ) → placeOf b ≡ e .place → n ≡ flowWord (e .cell) + 65536 * b
+    → flowWord (e .cell) < 65536 → flow < 65536 → eqb (flowWord (e .cell)) flow ≡ sameFlow (e .cell) c
+    → eqb n (flow + 65536) ≡ inListOf c e
+in-list-word c e b n flow q word small few own =
+    same (eqb n (flow + 65536)) (eqb b 1 && eqb (flowWord (e .cell)) flow)
+    (λ h.
+    let equal : n ≡ flow + 65536 = eqb-true n (flow + 65536) h in
+    and-i (eqb b 1) _ (eq-eqb b 1 (omega arith)) (eq-eqb (flowWord (e .cell)) flow (omega arith)))
+    (λ h.
+    let place : b ≡ 1 = eqb-true b 1 (and-l (eqb b 1) _ h) in
+    let equal : flowWord (e .cell) ≡ flow = eqb-true _ flow (and-r (eqb b 1) _ h) in
+    eq-eqb n (flow + 65536) (omega arith))
+    ∙ ap (λ x. eqb b 1 && x) own
+    ∙ sym (in-list-listed c e b q)
 
 ------------------------------------------------------------------------
 -- how many entries stand before a new cell

@@ -11,7 +11,7 @@ ghost use Rattle.model.specs.Checks.{noSuchPort, noSuchFlow, outOfTurn, falling
 ghost use Rattle.model.specs.Crossbar.{inListOf};
 ghost use Rattle.layout.specs.Entry.{entryAt, portsIn, clockIn, countIn};
 ghost use Rattle.layout.specs.Records.{recordStart, recordAt};
-ghost use Rattle.layout.specs.Table.{tableSize, entrySize, stateOf, encode, IsTable};
+ghost use Rattle.layout.specs.Table.{tableSize, entrySize, entryBytes, stateOf, encode, IsTable};
 ghost use Rattle.table.specs.Entries.{flowWord};
 ghost use Rattle.arrival.specs.Arrival.{entered, arrived, enterPlace, put, movedUp};
 ghost use Rattle.arrival.specs.Fault.{sectionIn, arrivalAt, faultIn, faultOf, faultAt};
@@ -193,16 +193,15 @@ fn new_place(table: &[u8], c: Cell) -> usize
     first
 }
 
-// Whether an entry of the cell's input is in the list and of the cell's flow.
+// Whether an entry of the cell's input is in the list and of the cell's flow. The first four bytes of its record say
+// both, so that nothing branches on the place, which would be guessed badly.
 fn in_list(table: &[u8], k: usize, c: Cell, flow: u16) -> bool
     requires { ⌜ (length (now table) ≡ tableSize) × (k < 1024) ⌝ }
+    requires { ⌜ recordAt (now table) k ≡ entryBytes (entryAt (now table) k) ⌝ }
     requires { ⌜ (k / 64 ≡ c .input) × (flow ≡ flowWord c) × (c .output < 256) ⌝ }
     ensures { λ r. ⌜ r ≡ inListOf c (entryAt (now (table .entry)) k) ⌝ }
 {
-    if table::entry::place_of(table, k) != 1 {
-        return false;
-    }
-    table::entry::flow_word_of(table, k) == flow
+    table::word::read_u32(table, table::entry::start_of(k)) == flow as u32 + 65536
 }
 
 // Moves the entries from `at` up to `end` one place up.

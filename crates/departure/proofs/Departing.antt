@@ -4,7 +4,7 @@
 --     staying-new     what stays of a section is the definition's
 --     removable       the next section can close up
 --     removed-mixed   and then one more is new
-use Prim.Native.Nat.{ℕ, zero, suc, _+_, _*_, _-_, _/_, _%_, _≤_, _<_}
+use Prim.Native.Nat.{ℕ, zero, suc, _+_, _*_, _-_, _%_, _≤_, _<_}
 use native.Mathlib.Omega.{arith}
 use native.Mathlib.Nat.{zero-add}
 use mathlib.Core.Bool.{Bool, true, false, not, cond}
@@ -28,8 +28,7 @@ use Rattle.layout.specs.Number.{bytesOf}
 use Rattle.layout.specs.Table.{layoutNumber, headerSize, entrySize, sectionSize, tableSize, entriesBytes, sectionBytes}
 use Rattle.layout.specs.Table.{placeOf, entryBytes, sectionsBytes, countsBytes, encode, stateOf, decode}
 use Rattle.layout.specs.Entry.{entryAt, portsIn, clockIn, countIn}
-use Rattle.layout.specs.Records.{recordStart, recordAt, sectionAt}
-use Rattle.layout.proofs.Records.{stateOf-entry}
+use Rattle.layout.specs.Records.{recordStart, sectionAt}
 use Rattle.layout.proofs.Table.{length-sectionBytes, length-countsBytes, length-entriesBytes, encode-decode}
 use Rattle.places.specs.View.{waitingAt, window, inTable, InTable}
 use Rattle.places.specs.Sections.{entryPlaced, sectionPlaced, sectionsPlaced}
@@ -37,8 +36,8 @@ use Rattle.places.specs.Scan.{Readable}
 use Rattle.departure.specs.Departing.{Ready, Chosen, stays, staying, Removable, removed, leavingIn, departed}
 use Rattle.places.proofs.Window
 use Rattle.places.proofs.Placed.{getD-numbers, length-numbers, numberFrom-placed, encode-count, section-short}
-use Rattle.places.proofs.Placed.{decode-ports, decode-clock, decode-sections, decode-count, inTable-number}
-use Rattle.places.proofs.Bytes.{encode-from, encode-rest, recordAt-encode}
+use Rattle.places.proofs.Placed.{decode-ports, decode-clock, decode-sections, decode-record, inTable-number}
+use Rattle.places.proofs.Bytes.{encode-from, encode-rest}
 use Rattle.departure.proofs.Copied.{set-append-add}
 use Rattle.departure.proofs.Leaving.{ready-readable}
 use Rattle.departure.proofs.Sending.{among-leaving}
@@ -337,23 +336,6 @@ module _ {table places : List ℕ} (r : Ready table places) {numbers : List ℕ}
   old-short : Short (state .sections)
   old-short = section-short table state decoded
 
-  -- the records of the table are the bytes of their entries
-  record-bytes : (k : ℕ) → InTable table k → recordAt table k ≡ entryBytes (entryAt table k)
-  unfolding portsIn
-  record-bytes k t =
-      let readable : Readable table = ready-readable r in
-      let i : ℕ = k / cellLimit in
-      let j : ℕ = k - cellLimit * i in
-      let whole : k ≡ cellLimit * i + j = omega arith in
-      let port : i < portLimit = omega (arith, t .input, readable .ports) in
-      let few : j < countIn table i = omega (arith, t .position) in
-      let within : j < length (getD (state .sections) i []) = omega (arith, decode-count table state decoded i port) in
-      ap₂ recordAt (sym (encode-decode table state decoded)) whole
-      ∙ recordAt-encode state i old-short port j (entryAt table k) within
-      ∙ ap entryBytes
-      (stateOf-entry table i j (entryAt table k) (λ h l. readable .counts h (omega (arith, readable .ports))) (t .input) few
-      ∙ ap (entryAt table) (sym whole))
-
   lengths : length after ≡ length (state .sections)
   lengths = length-fresh ∙ sym length-old
 
@@ -447,7 +429,7 @@ module _ {table places : List ℕ} (r : Ready table places) {numbers : List ℕ}
             bytes =
                 λ k low high.
                 recordAt-same table now k (rest-same k low)
-                ∙ record-bytes k (number k low high)
+                ∙ decode-record table state decoded k (number k low high)
                 ∙ ap entryBytes (sym (entry-same k low));
           };
           rest = rest;

@@ -19,7 +19,7 @@ use Rattle.layout.specs.Number.{bytesOf, numberOf, numberAt, word}
 use Rattle.layout.specs.Table.{placeByte, placeOf, entryBytes, countsBytes, sectionsBytes, encode, stateOf, decode}
 use Rattle.layout.specs.Entry.{entryAt, portsIn, clockIn, countIn}
 use Rattle.layout.specs.Records.{recordAt, placeByteAt, between, entriesBetween, sectionAt}
-use Rattle.layout.proofs.Table.{placeOf-placeByte, decode-length, encode-counts, stateOf-encode, encode-decode}
+use Rattle.layout.proofs.Table.{decode-length, encode-counts, stateOf-encode, encode-decode}
 use Rattle.layout.proofs.Table.{decode-sound, sound-ports, sound-sections}
 use Rattle.layout.proofs.Records.{entryAt-place, stateOf-sections}
 use Rattle.places.specs.View.{waitingAt, window, inTable, InTable}
@@ -184,19 +184,25 @@ module _ (table : List ℕ) (s : Switch) (e : decode table ≡ some s) where
         sections-e (s .ports) (s .clock) (s .sections) (sound-sections s (decode-sound table s e)) (k / cellLimit)
         .entries (entryAt table k) mem
 
-    -- and the byte of its place is that of its place
-    pub decode-place : placeByteAt table k ≡ placeByte (entryAt table k .place)
-    decode-place =
+    -- its record is its bytes
+    pub decode-record : recordAt table k ≡ entryBytes (entryAt table k)
+    unfolding sectionAt entriesBetween between
+    decode-record =
         let i : ℕ = k / cellLimit in
         let j : ℕ = k - cellLimit * i in
+        let count : ℕ = cellLimit * i + countIn table i - cellLimit * i in
         let whole : k ≡ cellLimit * i + j = omega arith in
         let within : j < length (getD (s .sections) i []) = omega (arith, t .position, decode-count i own-port) in
-        let x : Entry = getD (getD (s .sections) i []) j (entryAt table k) in
-        let bytes : recordAt table k ≡ entryBytes x =
         ap₂ recordAt (sym (encode-decode table s e)) whole
-        ∙ recordAt-encode s i section-short own-port j (entryAt table k) within in
-        let byte : placeByteAt table k ≡ placeByte (x .place) = placeByteAt-entry table k x bytes in
-        byte ∙ ap placeByte (sym (entryAt-place table k ∙ ap placeOf byte ∙ placeOf-placeByte (x .place)))
+        ∙ recordAt-encode s i section-short own-port j (entryAt table k) within
+        ∙ ap entryBytes
+        (ap (λ es. getD es j (entryAt table k)) own-section
+        ∙ getD-numbers (entryAt table) (cellLimit * i) count j (entryAt table k) (omega (arith, t .position))
+        ∙ ap (entryAt table) (sym whole))
+
+    -- and the byte of its place is that of its place
+    pub decode-place : placeByteAt table k ≡ placeByte (entryAt table k .place)
+    decode-place = placeByteAt-entry table k (entryAt table k) decode-record
 
   pub decode-readable : Readable table
   decode-readable =

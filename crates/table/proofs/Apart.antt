@@ -2,15 +2,16 @@
 -- found by a walk from the last entry to the first (Seen) that marks the outputs of the crossed entries, and the low
 -- bits of the slots.
 use Prim.Native.Nat.{ℕ, _+_, _-_, _%_, _<_}
-use mathlib.Core.Bool.{Bool, true, false, _&&_}
-use mathlib.Core.Path.{_≡_, refl, sym, _∙_, ap}
+use mathlib.Core.Bool.{Bool, true, false, _&&_, _||_}
+use mathlib.Core.Path.{_≡_, refl, sym, _∙_, ap, subst}
 use mathlib.Core.List.{List}
 use native.Mathlib.Omega.{arith}
 use borrow.Author.Tests.{ne-eqb, eqb-false}
 use lib.Dec.{eqb}
 use lib.ListN.{getD, set}
+use lib.Seq.{set-getD}
 use Rattle.laws.specs.Lists.{some?, none?, all?, pairwise}
-use Rattle.laws.proofs.Tests.{clash, by-fail, and-i, and-r, and-false-r, not-i, not-e, not-false-i, not-false-e}
+use Rattle.laws.proofs.Tests.{clash, by-fail, and-i, and-l, and-r, and-false-r, not-i, not-e, not-false-i, not-false-e}
 use Rattle.laws.proofs.Lists.{Passing, some?-e, none?-e, none?-by-some?, all?-i, all?-e}
 use Rattle.cell.specs.Limits.{portLimit}
 use Rattle.model.specs.State.{Entry, isCrossed}
@@ -59,7 +60,7 @@ module _ (bs : List ℕ) (from to k : ℕ) (seen : List Bool) (w : Crossed bs fr
   abbrev behind : List Entry
   behind = entriesBetween bs k to
 
-  pub crossed-skip : isCrossed (this .place) ≡ false → Crossed bs from to (k - 1) seen
+  crossed-skip : isCrossed (this .place) ≡ false → Crossed bs from to (k - 1) seen
   unfolding crossedTo
   crossed-skip h =
       passed-skip otherCrosspoint crossedTo portLimit bs from to k seen w more (crossing-none this behind h)
@@ -70,17 +71,29 @@ module _ (bs : List ℕ) (from to k : ℕ) (seen : List Bool) (w : Crossed bs fr
       taken : getD seen o false ≡ some? (crossedTo (this .cell .output)) behind
       taken = w .marks .mark o port ∙ ap (λ n. some? (crossedTo n) behind) output
 
-      pub crossed-mark : getD seen o false ≡ false → Crossed bs from to (k - 1) (set seen o true)
+      crossed-mark : getD seen o false ≡ false → Crossed bs from to (k - 1) (set seen o true)
       unfolding crossedTo
       crossed-mark free =
           let none = none?-by-some? (crossedTo (this .cell .output)) behind (sym taken ∙ free) in
           passed-mark otherCrosspoint crossedTo portLimit bs from to k seen w more (crossing-free this behind none) o
           port (λ n. ap (λ t. t && eqb n (this .cell .output)) crossed ∙ ap (eqb n) (sym output))
 
-      pub crossed-stop : getD seen o false ≡ true → false ≡ pairwise otherCrosspoint (entriesBetween bs from to)
-      crossed-stop full =
+      crossed-full : getD seen o false ≡ true → false ≡ pairwise otherCrosspoint (entriesBetween bs from to)
+      crossed-full full =
           passed-stop otherCrosspoint crossedTo portLimit bs from to k seen w more
           (crossing-taken this behind crossed (sym taken ∙ full))
+
+  -- crossed or not
+  module _ (o : ℕ) (output : o ≡ this .cell .output) (port : o < portLimit) where
+    pub crossed-next : (crossed : Bool) → isCrossed (this .place) ≡ crossed → (crossed && getD seen o false) ≡ false
+        → Crossed bs from to (k - 1) (set seen o (crossed || getD seen o false))
+    crossed-next true t free = crossed-mark t o output port free
+    crossed-next false t free = subst (Crossed bs from to (k - 1)) (sym (set-getD seen o false)) (crossed-skip t)
+
+    pub crossed-stop : (crossed : Bool) → isCrossed (this .place) ≡ crossed → (crossed && getD seen o false) ≡ true
+        → false ≡ pairwise otherCrosspoint (entriesBetween bs from to)
+    crossed-stop crossed t full =
+        crossed-full (t ∙ and-l crossed (getD seen o false) full) o output port (and-r crossed (getD seen o false) full)
 
 ------------------------------------------------------------------------
 -- slots

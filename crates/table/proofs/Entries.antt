@@ -1,18 +1,24 @@
--- An entry is written as four numbers of 32 bits, and the first two bytes of its record tell its flow.
+-- An entry is written as four numbers of 32 bits. The first two bytes of its record tell its flow, and the first four
+-- its flow and place.
 use Prim.Native.Nat.{ℕ, suc, _+_, _*_, _/_, _%_, _≤_, _<_}
 use native.Mathlib.Omega.{arith}
 use mathlib.Core.Path.{_≡_, sym, _∙_, ap, ap₂}
-use mathlib.Core.List.{_∷_, _++_, append-assoc}
+use mathlib.Core.List.{List, _∷_, _++_, append-assoc}
 use borrow.Author.Tests.{eqb-true, eq-eqb}
 use lib.Dec.{eqb}
+use lib.ListN.{length, getD}
 use Rattle.laws.proofs.Tests.{same}
 use Rattle.cell.specs.declared.Cell.{Cell}
 use Rattle.cell.specs.Flow.{sameFlow}
 use Rattle.cell.proofs.Flow.{flow-i, flow-e}
-use Rattle.layout.specs.Number.{bytesOf}
+use Rattle.layout.specs.Number.{bytesOf, numberAt, word}
 use Rattle.layout.specs.Table.{entryBytes}
+use Rattle.layout.specs.Entry.{entryAt}
+use Rattle.layout.specs.Records.{recordStart, recordAt, placeByteAt}
+use Rattle.layout.proofs.Halves.{numberAt-halves, numberAt-byte}
+use Rattle.layout.proofs.Records.{entryAt-output, entryAt-flow, placeByteAt-byte}
 use Rattle.table.specs.Entries.{entryWith, flowWord}
-use Rattle.table.proofs.Fields.{place-i}
+use Rattle.table.proofs.Fields.{place-i, exact-zero}
 
 -- a byte and a number behind it
 bytesOf-split : (w b m : ℕ) → b < 256 → bytesOf (suc w) (b + 256 * m) ≡ bytesOf 1 b ++ bytesOf w m
@@ -55,3 +61,23 @@ flow-word c d input hc hd =
     (λ h.
     let f = flow-e c d h in
     eq-eqb _ _ (ap₂ (λ o n. o + 256 * n) (f .output) (f .flow)))
+
+-- the first number of a record that is the bytes of its entry
+pub head-word : (bs : List ℕ) (k : ℕ) → recordStart k + 4 ≤ length bs → recordAt bs k ≡ entryBytes (entryAt bs k)
+    → word bs (recordStart k) ≡ flowWord (entryAt bs k .cell) + 65536 * placeByteAt bs k
+unfolding word
+head-word bs k room exact =
+    let at = recordStart k in
+    let halves : numberAt 4 at bs ≡ numberAt 2 at bs + 65536 * numberAt 2 (at + 2) bs =
+    numberAt-halves 2 2 at bs (omega arith) in
+    let low : numberAt 2 at bs ≡ numberAt 1 at bs + 256 * numberAt 1 (at + 1) bs =
+    numberAt-halves 1 1 at bs (omega arith) in
+    let high : numberAt 2 (at + 2) bs ≡ numberAt 1 (at + 2) bs + 256 * numberAt 1 (at + 2 + 1) bs =
+    numberAt-halves 1 1 (at + 2) bs (omega arith) in
+    let last : at + 2 + 1 ≡ at + 3 = omega arith in
+    let zero : _≡_ {A = ℕ} (numberAt 1 (at + 2 + 1) bs) 0 =
+    numberAt-byte (at + 2 + 1) bs ∙ ap (λ n. getD bs n 0) last ∙ exact-zero bs k (sym exact) in
+    let output : numberAt 1 at bs ≡ entryAt bs k .cell .output = numberAt-byte at bs ∙ sym (entryAt-output bs k) in
+    let flow : numberAt 1 (at + 1) bs ≡ entryAt bs k .cell .flow = numberAt-byte (at + 1) bs ∙ sym (entryAt-flow bs k) in
+    let place : numberAt 1 (at + 2) bs ≡ placeByteAt bs k = numberAt-byte (at + 2) bs ∙ sym (placeByteAt-byte bs k) in
+    omega arith

@@ -99,6 +99,11 @@ entryBytes-zero e = refl
 ------------------------------------------------------------------------
 -- a record
 
+-- where its bytes are those of its entry, the zero is
+pub exact-zero : (bs : List ℕ) (k : ℕ) → entryBytes (entryAt bs k) ≡ recordAt bs k
+    → _≡_ {A = ℕ} (getD bs (recordStart k + 3) 0) 0
+exact-zero bs k e = sym (recordAt-byte bs k 3 (lit≤ tt)) ∙ ap (numberAt 1 3) (sym e) ∙ entryBytes-zero (entryAt bs k)
+
 module _ (bs : List ℕ) (h : bytes? bs ≡ true) (size : length bs ≡ tableSize) (k : ℕ) (within : k < 1024) where
   recordAt-bytes : bytes? (recordAt bs k) ≡ true
   unfolding recordAt
@@ -118,9 +123,6 @@ module _ (bs : List ℕ) (h : bytes? bs ≡ true) (size : length bs ≡ tableSiz
   exact-place : entryBytes (entryAt bs k) ≡ recordAt bs k → placeByteAt bs k ≡ placeByte (entryAt bs k .place)
   unfolding placeByteAt
   exact-place e = ap (numberAt 1 2) (sym e) ∙ entryBytes-place (entryAt bs k)
-
-  exact-zero : entryBytes (entryAt bs k) ≡ recordAt bs k → _≡_ {A = ℕ} (getD bs (recordStart k + 3) 0) 0
-  exact-zero e = sym (recordAt-byte bs k 3 (lit≤ tt)) ∙ ap (numberAt 1 3) (sym e) ∙ entryBytes-zero (entryAt bs k)
 
   rank-fits : fits32 (entryAt bs k .cell .rank) ≡ true
   rank-fits = ap fits32 (entryAt-rank bs k) ∙ word-fits bs (recordStart k + 4) h (omega arith)
@@ -169,7 +171,7 @@ module _ (ports clock : ℕ) (bs : List ℕ) (h : bytes? bs ≡ true) (size : le
           flow = ltb-true _ _ flow;
           low = omega arith;
           high = omega arith;
-          zero = exact-zero bs h size k within exact;
+          zero = exact-zero bs k exact;
           slot = ltb-true _ _ slot;
         }
 

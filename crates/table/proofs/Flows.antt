@@ -1,6 +1,6 @@
 -- Whether the cells of each flow stand together in output priority, found by a walk from the last entry to the first.
 use Prim.Native.Nat.{ℕ, _+_, _-_, _/_, _%_, _≤_, _<_}
-use mathlib.Core.Bool.{Bool, true, false, not, _&&_, _||_}
+use mathlib.Core.Bool.{Bool, true, false, not, _&&_, _||_, false≢true}
 use mathlib.Core.Path.{_≡_, refl, sym, _∙_, ap, subst}
 use mathlib.Core.Logic.{_⊎_, inl, inr}
 use mathlib.Core.List.{List, [], _∷_, _++_, List·Memᴰ, List·Memᴰ·head, Memᴰ·append-right}
@@ -9,6 +9,7 @@ use native.Mathlib.Omega.{arith}
 use borrow.Author.Tests.{eqb-true, eq-eqb}
 use lib.Dec.{eqb, lit≤}
 use lib.ListN.{getD, set, replicate}
+use lib.Seq.{set-getD}
 use Rattle.laws.specs.Lists.{keep, some?, none?, all?}
 use Rattle.laws.proofs.Tests.{clash, by-fail, same, and-i, and-l, and-r, or-l, or-r, or-cases, not-e, not-false-e}
 use Rattle.laws.proofs.Lists.{some?-ext, some?-clash, none?-by-some?, all?-i, all?-e, mem-keep-in, keep-append}
@@ -192,9 +193,9 @@ module _ (bs : List ℕ) (from to k : ℕ) (seen : List Bool) (next : ℕ) (w : 
     back : entriesBetween bs (k - 1) to ≡ this ∷ entriesBetween bs k to
     back = entriesBetween-back bs k to (omega arith) (w .high)
 
-    pub flows-pass : isListed (this .place) ≡ false → Flows bs from to (k - 1) seen next
+    other-pass : isListed (this .place) ≡ false → Flows bs from to (k - 1) seen next
     unfolding listedFrom
-    flows-pass h =
+    other-pass h =
         let same : listedFrom bs k to ≡ listedFrom bs (k - 1) to =
         sym (ap (keep inList) back ∙ keep-fail inList this (entriesBetween bs k to) h) in
         record {
@@ -237,10 +238,10 @@ module _ (bs : List ℕ) (from to k : ℕ) (seen : List Bool) (next : ℕ) (w : 
           (flow-number this g (good this in-section .0) (good g inside .0)
           (good this in-section .1 ∙ sym (good g inside .1))))
 
-      pub flows-mark : to ≤ 1024 → standsApart (getD seen n false) this (entryAt bs next) ≡ false
+      listed-mark : to ≤ 1024 → standsApart (getD seen n false) this (entryAt bs next) ≡ false
           → Flows bs from to (k - 1) (set seen n true) (k - 1)
       unfolding Begins flowIs
-      flows-mark room h =
+      listed-mark room h =
           let fits = ap (λ b. standsApart b this (entryAt bs next)) (sym marked) ∙ h in
           let others = listedFrom bs k to in
           let marks = seen-mark flowIs 128 seen this others (w .marks) n few (λ m. ap (eqb m) (sym number)) in
@@ -253,10 +254,10 @@ module _ (bs : List ℕ) (from to k : ℕ) (seen : List Bool) (next : ℕ) (w : 
             begins = inr (listedFrom bs k to, cons);
           }
 
-      pub flows-stop : standsApart (getD seen n false) this (entryAt bs next) ≡ true
+      listed-stop : standsApart (getD seen n false) this (entryAt bs next) ≡ true
           → false ≡ together (keep inList (entriesBetween bs from to))
       unfolding listedFrom
-      flows-stop h =
+      listed-stop h =
           let breaks = ap (λ b. standsApart b this (entryAt bs next)) (sym marked) ∙ h in
           let others = listedFrom bs k to in
           let broken = ap together cons ∙ together-breaks this (entryAt bs next) others (w .begins) breaks in
@@ -270,3 +271,26 @@ module _ (bs : List ℕ) (from to k : ℕ) (seen : List Bool) (next : ℕ) (w : 
               let rest = entriesBetween bs (k - 1) to in
               let parts = ap (keep inList) whole ∙ keep-append inList front rest in
               together-append-r (keep inList front) (keep inList rest) (ap together (sym parts) ∙ all)
+
+    -- in the list or not
+    module _ (good : (g : Entry) → List·Memᴰ g (entriesBetween bs from to)
+        → (inRange g ≡ true) × (g .cell .input ≡ from / 64))
+        (n : ℕ) (number : n ≡ flowNumber this) (few : n < 128) where
+      pub flows-mark : to ≤ 1024 → (listed : Bool) → isListed (this .place) ≡ listed → listed ≡ true
+          → standsApart (listed && getD seen n false) this (entryAt bs next) ≡ false
+          → Flows bs from to (k - 1) (set seen n (listed || getD seen n false)) (k - 1)
+      flows-mark room true t here fits = listed-mark t good n number few room fits
+      flows-mark room false t here fits = absurd (false≢true here)
+
+      pub flows-pass : (listed : Bool) → isListed (this .place) ≡ listed → listed ≡ false
+          → Flows bs from to (k - 1) (set seen n (listed || getD seen n false)) next
+      flows-pass true t here = absurd (clash refl here)
+      flows-pass false t here =
+          subst (λ s. Flows bs from to (k - 1) s next) (sym (set-getD seen n false)) (other-pass t)
+
+      pub flows-stop : (listed : Bool) → isListed (this .place) ≡ listed
+          → standsApart (listed && getD seen n false) this (entryAt bs next) ≡ true
+          → false ≡ together (keep inList (entriesBetween bs from to))
+      unfolding standsApart
+      flows-stop true t breaks = listed-stop t good n number few breaks
+      flows-stop false t breaks = absurd (false≢true breaks)

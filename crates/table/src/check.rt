@@ -3,9 +3,10 @@
 use crate::entry;
 use crate::word;
 use cell::Switch;
-ghost use mathlib.Core.Bool.{true};
+ghost use mathlib.Core.Bool.{true, _&&_};
 ghost use mathlib.Core.Path.{_≡_};
 ghost use Prim.Native.Nat.{_+_, _%_, _<_, _≤_};
+ghost use lib.Dec.{eqb};
 ghost use lib.ListN.{length};
 ghost use Rattle.laws.specs.Lists.{keep, all?, pairwise};
 ghost use Rattle.model.specs.State.{isListed};
@@ -150,7 +151,8 @@ fn is_unused(bytes: &[u8], k: usize) -> bool
 }
 
 // Whether the cells of each flow stand together in output priority. From the last entry to the first; `seen` has the
-// flows of the listed entries passed, of which `next` is the first.
+// flows of the listed entries passed, of which `next` is the first. Nothing branches on the place alone, which would be
+// guessed badly.
 fn flows_together(bytes: &[u8], from: usize, to: usize) -> bool
     requires { ⌜ (length (now bytes) ≡ tableSize) × (from ≤ to) × (to ≤ 1024) ⌝ }
     requires { ⌜ (from % 64 ≡ 0) × (to ≤ from + 64) ⌝ }
@@ -162,17 +164,25 @@ fn flows_together(bytes: &[u8], from: usize, to: usize) -> bool
     let mut k = to;
     while from < k {
         k -= 1;
-        if entry::place_of(bytes, k) != 1 {
-            continue;
-        }
+        let place = entry::place_of(bytes, k);
         let flow = flow_number(bytes, k);
-        if stands_apart(bytes, seen[flow], k, next) {
+        let was = seen[flow];
+        if stands_apart(bytes, is_again(place, 1, was), k, next) {
             return false;
         }
-        seen[flow] = true;
-        next = k;
+        let listed = place == 1;
+        seen[flow] = listed | was;
+        next = if listed { k } else { next };
     }
     true
+}
+
+// Whether an entry with this byte for its place is at that one, and was seen there before. One comparison of one number:
+// the compiler makes two branches of two.
+fn is_again(place: u8, at: u8, seen: bool) -> bool
+    ensures { λ r. ⌜ r ≡ (eqb place at && seen) ⌝ }
+{
+    place as u32 + 256 * seen as u32 == at as u32 + 256
 }
 
 // The flow of an entry among the 128 of its input.
@@ -238,7 +248,7 @@ fn shares_slot(bytes: &[u8], may: bool, k: usize, to: usize) -> bool
 }
 
 // Whether no crosspoint holds two cells. From the last entry to the first; `seen` has the outputs of the crossed ones
-// passed.
+// passed. Nothing branches on the place alone, which would be guessed badly.
 fn crosspoints_differ(bytes: &[u8], from: usize, to: usize) -> bool
     requires { ⌜ (length (now bytes) ≡ tableSize) × (from ≤ to) × (to ≤ 1024) ⌝ }
     requires { ⌜ all? inRange (entriesBetween (now bytes) from to) ≡ true ⌝ }
@@ -248,14 +258,13 @@ fn crosspoints_differ(bytes: &[u8], from: usize, to: usize) -> bool
     let mut k = to;
     while from < k {
         k -= 1;
-        if entry::place_of(bytes, k) != 2 {
-            continue;
-        }
+        let place = entry::place_of(bytes, k);
         let output = entry::output_of(bytes, k) as usize;
-        if seen[output] {
+        let was = seen[output];
+        if is_again(place, 2, was) {
             return false;
         }
-        seen[output] = true;
+        seen[output] = (place == 2) | was;
     }
     true
 }
