@@ -8,46 +8,38 @@
 --     rank-falls, rank-holds           7 by the section of the record's input
 --     full-section                     8 by the count of the record's input
 --     fault-none                       all five
---     Looked                           the records looked at so far have no fault: looked-none, -next, -fault, -all
+--     clear-not                        a fault is not `Clear`
 use Prim.Native.Nat.{ℕ, zero, suc, _+_, _*_, _-_, _/_, _≤_, _<_}
 use mathlib.Core.Bool.{Bool, true, false, not, _&&_}
 use mathlib.Core.Path.{_≡_, refl, sym, _∙_, ap, ap₂, subst}
 use mathlib.Core.Logic.{_≢_}
 use mathlib.Core.List.{List, [], _∷_, flatten, List·Memᴰ, List·Memᴰ·head, List·Memᴰ·tail}
 use mathlib.Core.Option.{Option, none, some}
-use native.Mathlib.Numerals.{add-one}
 use native.Mathlib.Omega.{arith}
-use borrow.Author.Tests.{ltb-true, ltb-false, leb-true, leb-false, lt-ltb, le-ltb, le-leb, lt-leb, eq-eqb, ne-eqb}
+use borrow.Author.Tests.{ltb-true, leb-true, leb-false, lt-ltb, le-ltb, le-leb, lt-leb, eq-eqb, ne-eqb}
 use lib.Dec.{ltb, leb, eqb}
-use lib.ListN.{length, getD, drop, drop-of-length-le}
-use lib.Seq.{drop-cons}
+use lib.ListN.{length, getD}
 use Rattle.laws.specs.Lists.{some?, none?}
 use Rattle.laws.proofs.Tests.{same, and-i, and-l, or-l, or-false-l, or-false-r, not-false-e}
 use Rattle.laws.proofs.Lists.{Passing, some?-e, some?-i, some?-false, some?-map, none?-i, all?-i}
 use Rattle.laws.proofs.Count.{count-all, count-map}
 use Rattle.cell.specs.declared.Cell.{Cell}
 use Rattle.cell.specs.declared.Refusal.{Refusal}
-use Rattle.cell.specs.Cell.{accepted}
 use Rattle.cell.specs.Flow.{sameFlow}
-use Rattle.cell.specs.Limits.{cellLimit, flowLimit, portLimit, inputFull}
+use Rattle.cell.specs.Limits.{cellLimit, flowLimit, inputFull}
 use Rattle.cell.proofs.Flow.{flow-input}
 use Rattle.model.specs.State.{Entry, cells}
-use Rattle.model.specs.Checks.{noSuchPort, noSuchFlow, outOfTurn, fallingRank, full, fault, faultFrom, firstFault}
-use Rattle.model.proofs.Admitted.{faultless}
+use Rattle.model.specs.Checks.{noSuchPort, noSuchFlow, outOfTurn, fallingRank, full, fault}
 use Rattle.model.proofs.Bags.{flatten-mem, mem-flatten}
-use Rattle.model.proofs.CheckOrder.{faults-first, faults-next}
 use Rattle.model.proofs.Sections.{count-flatten-one}
 use Rattle.layout.specs.Entry.{entryAt, portsIn, countIn}
 use Rattle.layout.specs.Table.{stateOf, IsTable}
 use Rattle.layout.proofs.Records.{entryAt-input}
 use Rattle.table.specs.Entries.{flowWord}
 use Rattle.table.proofs.Entries.{flow-word}
-use Rattle.arrival.specs.declared.Fault.{Fault}
 use Rattle.arrival.specs.declared.Fault.the-variants.{Clear, At}
-use Rattle.arrival.specs.Fault.{sectionIn, arrivalAt, coming, faultIn, faultOf, faultAt, turnAfter}
-use Rattle.arrival.specs.Fault.{outranks}
-use Rattle.arrival.proofs.Stored.{ports-below, section-sound, section-length, section-entry}
-use Rattle.arrival.proofs.Stored.{length-coming, coming-at}
+use Rattle.arrival.specs.Fault.{sectionIn, turnAfter, outranks}
+use Rattle.arrival.proofs.Stored.{section-sound, section-length, section-entry}
 
 ------------------------------------------------------------------------
 -- 4
@@ -210,81 +202,7 @@ unfolding fault
 fault-none ports waiting before c p f t r u = rw (p, f, t, r, u)
 
 ------------------------------------------------------------------------
--- record by record
-
--- the first n records have no fault, and it is the turn of the inputs from `turn` on
-pub record Looked (table arrivals : List ℕ) (turn n : ℕ) : Type 0 where
-  pub few : n ≤ turn
-  pub low : turn ≤ portLimit
-  pub before : Option Cell
-  pub after : turnAfter before ≡ turn
-  pub rest : faultIn table arrivals
-      ≡ faultFrom (portsIn table) (cells (stateOf table)) (n + 1) before (drop n (coming table arrivals))
-
-pub looked-none : (table arrivals : List ℕ) → Looked table arrivals 0 0
-unfolding turnAfter faultIn firstFault stateOf portsIn
-looked-none table arrivals =
-    record { few = omega arith; low = omega arith; before = none; after = refl; rest = refl }
+-- as the code answers it
 
 pub clear-not : {r : Refusal} {place : ℕ} → Clear ≡ At r place → ⊥
 clear-not q = let z : _≡_ {A = ℕ} 0 1 = cc in omega arith
-
-module _ (table arrivals : List ℕ) (t : IsTable table) (turn n : ℕ) (l : Looked table arrivals turn n) where
-  -- there are no more
-  pub looked-all : length arrivals / 20 ≤ n → Clear ≡ faultOf (faultIn table arrivals)
-  unfolding faultOf faultFrom
-  looked-all h =
-      let past : length (coming table arrivals) ≤ n = omega (arith, length-coming table arrivals) in
-      let end : drop n (coming table arrivals) ≡ [] = drop-of-length-le (coming table arrivals) past in
-      sym (ap faultOf (l .rest ∙ ap (faultFrom (portsIn table) (cells (stateOf table)) (n + 1) (l .before)) end))
-
-  -- the next record
-  module _ (more : n < length arrivals / 20) (c : Cell)
-      (here : c ≡ accepted (stateOf table .clock) (arrivalAt arrivals n)) (found : Fault)
-      (looked : (before : Option Cell) → turnAfter before ≡ turn
-      → found ≡ faultAt (n + 1) (fault (portsIn table) (cells (stateOf table)) before c)) where
-    next : drop n (coming table arrivals) ≡ c ∷ drop (n + 1) (coming table arrivals)
-    next =
-        let inside : n < length (coming table arrivals) = omega (arith, length-coming table arrivals) in
-        drop-cons (coming table arrivals) n c inside
-        ∙ ap₂ (λ x k. x ∷ drop k (coming table arrivals))
-        (coming-at table arrivals n c more ∙ sym here) (sym (add-one n))
-
-    from : Option Cell → Option Refusal
-    from before = fault (portsIn table) (cells (stateOf table)) before c
-
-    rest-at : faultIn table arrivals
-        ≡ faultFrom (portsIn table) (cells (stateOf table)) (n + 1) (l .before)
-        (c ∷ drop (n + 1) (coming table arrivals))
-    rest-at = l .rest ∙ ap (faultFrom (portsIn table) (cells (stateOf table)) (n + 1) (l .before)) next
-
-    -- it has a fault
-    pub looked-fault : {r : Refusal} {place : ℕ} → found ≡ At r place → found ≡ faultOf (faultIn table arrivals)
-    unfolding faultOf faultAt from
-    looked-fault bad = go (from (l .before)) refl
-      where
-        go : (o : Option Refusal) → from (l .before) ≡ o → found ≡ faultOf (faultIn table arrivals)
-        go none e = absurd (clear-not (sym (looked (l .before) (l .after) ∙ ap (faultAt (n + 1)) e) ∙ bad))
-        go (some r) e =
-            looked (l .before) (l .after)
-            ∙ ap (faultAt (n + 1)) e
-            ∙ sym (ap faultOf (rest-at ∙ faults-first _ _ (n + 1) (l .before) c _ e))
-
-    -- it has none
-    pub looked-next : found ≡ Clear → Looked table arrivals (c .input + 1) (n + 1)
-    unfolding faultAt from turnAfter
-    looked-next clear = go (from (l .before)) refl
-      where
-        go : (o : Option Refusal) → from (l .before) ≡ o → Looked table arrivals (c .input + 1) (n + 1)
-        go none e =
-            let w = faultless (portsIn table) (cells (stateOf table)) (l .before) c e in
-            let turned : turn ≤ c .input =
-            ltb-false (c .input) turn (ap (ltb (c .input)) (sym (l .after)) ∙ turn-after (l .before) c ∙ w .turn) in
-            record {
-              few = omega (arith, l .few);
-              low = omega (arith, port-input (portsIn table) c (w .port), ports-below table t);
-              before = some c;
-              after = refl;
-              rest = rest-at ∙ faults-next _ _ (n + 1) (l .before) c _ e;
-            }
-        go (some r) e = absurd (clear-not (sym clear ∙ looked (l .before) (l .after) ∙ ap (faultAt (n + 1)) e))

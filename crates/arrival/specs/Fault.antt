@@ -36,12 +36,7 @@ faultIn table arrivals =
     let s = stateOf table in
     firstFault (s .ports) (cells s) (coming table arrivals)
 
--- as the code answers it
-unfoldable pub faultOf : Option (Refusal × ℕ) → Fault
-faultOf none = Clear
-faultOf (some f) = At (f .0) (f .1)
-
--- the fault of the record at this place
+-- the fault of the record at this place, as the code answers it
 unfoldable pub faultAt : ℕ → Option Refusal → Fault
 faultAt place none = Clear
 faultAt place (some r) = At r place

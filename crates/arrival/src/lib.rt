@@ -1,5 +1,5 @@
-// Document 01, "What is turned back", 4 to 8, and "One slot", arrival: the records of a slot are looked at one by one,
-// and the cells that they become enter the lists of their inputs, on the bytes of the table in place.
+// Document 01, "What is turned back", 4 to 8, and "One slot", arrival: a record is looked at, and the cells that the
+// records of a slot become enter the lists of their inputs, on the bytes of the table in place.
 ghost use mathlib.Core.Path.{_≡_};
 ghost use mathlib.Core.Option.{Option, none};
 ghost use Prim.Native.Nat.{_+_, _*_, _/_, _≤_, _<_};
@@ -14,7 +14,7 @@ ghost use Rattle.layout.specs.Records.{recordStart, recordAt};
 ghost use Rattle.layout.specs.Table.{tableSize, entrySize, entryBytes, stateOf, encode, IsTable};
 ghost use Rattle.table.specs.Entries.{flowWord};
 ghost use Rattle.arrival.specs.Arrival.{entered, arrived, enterPlace, put, movedUp};
-ghost use Rattle.arrival.specs.Fault.{sectionIn, arrivalAt, faultIn, faultOf, faultAt};
+ghost use Rattle.arrival.specs.Fault.{sectionIn, arrivalAt, faultIn, faultAt};
 ghost use Rattle.arrival.specs.Fault.{turnAfter, outranks};
 use cell::Cell;
 use cell::Refusal;
@@ -24,27 +24,6 @@ use cell::Switch;
 pub enum Fault {
     Clear,
     At(Refusal, u32),
-}
-
-// Looks at the records one by one, up to the first fault.
-pub fn first_fault(table: &[u8], arrivals: &[u8]) -> Fault
-    requires { ⌜ IsTable (now table) ⌝ }
-    ensures { λ r. ⌜ r ≡ faultOf (faultIn (now (table .entry)) (now (arrivals .entry))) ⌝ }
-{
-    let clock = table::word::read_u32(table, 8);
-    let count = arrivals.len() / 20;
-    let mut turn = 0;
-    let mut n = 0;
-    while n < count {
-        let c = record_at(arrivals, n, clock);
-        n += 1;
-        let found = check_record(table, turn, n as u32, c);
-        let Fault::Clear = found else {
-            return found;
-        };
-        turn = c.input + 1;
-    }
-    Fault::Clear
 }
 
 // Lets the cells of the records enter the lists of their inputs. The clock is raised first, so that the table is sound

@@ -2,14 +2,15 @@
 --     ended-refused, ended-ran      what the code answers and leaves, by what was found
 --     found-runs, found-outcome     what was found of the records, on their bytes
 --     ended-fault, ended-tally      the refusal, and the tally
+--     held-runs, held-ended         the slot on the first records of an array
 use Prim.Native.Nat.{ℕ, _*_, _≤_}
 use native.Mathlib.Omega.{arith}
 use mathlib.Core.Bool.{true, false}
 use mathlib.Core.List.{List, map}
 use mathlib.Core.Option.{none}
 use mathlib.Core.Path.{_≡_, refl, sym, ap, ap₂, _∙_, subst}
-use lib.ListN.{length}
-use lib.Seq.{take-all}
+use lib.ListN.{length, take}
+use lib.Seq.{take-all, length-take-le}
 use Rattle.laws.specs.Lists.{count, upTo}
 use Rattle.cell.specs.declared.Arrival.{Arrival}
 use Rattle.cell.specs.declared.Refusal.{Refusal}
@@ -129,3 +130,26 @@ pub ended-tally : (n : ℕ) (o : Outcome Course) (t : Tally)
 unfolding endedOf countedAs tallyAfter
 ended-tally n (done c) t = refl
 ended-tally n (refused r place) t = refl
+
+------------------------------------------------------------------------
+-- the first records of an array
+
+module _ (table : List ℕ) (room : ℕ) (records : List Arrival) (many : ℕ) (enough : many ≤ length records) (c : Checked)
+    (size : length (c .bytes) ≡ 320) (found : Found table room (take many records) c) where
+  pub held-runs : c .fault ≡ Clear → Runs table room many (c .bytes)
+  held-runs e =
+      subst (λ n. Runs table room n (c .bytes)) (length-take-le many records enough)
+      (found-runs table room (take many records) c size found e)
+
+  pub held-ended : (answer table′ answer′ : List ℕ) (ended : Ended)
+      → Leaves table answer (foundOutcome table many (c .fault) (c .bytes)) ended table′ answer′
+      → (ended .fault ≡ refusalOf (entrySlot table room (take many records)))
+      × ((table′ ≡ tableAfter table (entrySlot table room (take many records)))
+      × (answer′ ≡ answerAfter answer (entrySlot table room (take many records))))
+  held-ended answer table′ answer′ ended (e, (t, a)) =
+      let same : foundOutcome table many (c .fault) (c .bytes) ≡ entrySlot table room (take many records) =
+      ap (λ n. foundOutcome table n (c .fault) (c .bytes)) (sym (length-take-le many records enough))
+      ∙ found-outcome table room (take many records) c size found in (
+        ap (λ d. d .fault) e ∙ ended-fault (foundOutcome table many (c .fault) (c .bytes)) ∙ ap refusalOf same,
+        (t ∙ ap (tableAfter table) same, a ∙ ap (answerAfter answer) same),
+      )

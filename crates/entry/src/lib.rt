@@ -7,7 +7,11 @@ use arrival::Fault;
 use cell::Arrival;
 use cell::Tally;
 use records::Checked;
+use records::before_records;
+use records::check_held;
 use records::check_records;
+use records::clock_refusal;
+use records::none_checked;
 use running::Ended;
 use running::run_checked;
 use tally::count;
@@ -15,7 +19,9 @@ ghost use mathlib.Core.Path.{_≡_};
 ghost use Prim.Native.Nat.{_≤_};
 ghost use lib.ListN.{length, take};
 ghost use Rattle.model.specs.Tally.{tallyAfter};
+ghost use Rattle.layout.specs.Answer.{answerSize};
 ghost use Rattle.layout.specs.Host.{tableAfter, answerAfter};
+ghost use Rattle.layout.specs.Table.{IsTable};
 ghost use Rattle.fabric.specs.Slot.{refusalOf};
 ghost use Rattle.entry.specs.Looked.{entrySlot};
 
@@ -31,7 +37,8 @@ pub fn slot(table: &mut [u8], records: &[Arrival], answer: &mut [u8], tally: &mu
 {
     let room: usize = answer.len();
     let many: usize = records.len();
-    let checked: Checked = check_records(table, room, records);
+    let before: Checked = before_records(table, room);
+    let checked: Checked = check_records(table, before, records);
     let ended: Ended = run_checked(table, answer, checked, many);
     count(tally, ended.ran, many as u64, ended.departures);
     ended.fault
@@ -64,4 +71,18 @@ pub fn slot_of(
         fault,
         tally: counts,
     }
+}
+
+// The same for a caller that keeps a sound table, has room for the answer and counts nothing.
+pub fn sound_slot(table: &mut [u8], records: [Arrival; 17], many: usize, answer: &mut [u8]) -> Fault
+    requires { ⌜ IsTable (now table) ⌝ }
+    requires { ⌜ answerSize ≤ length (now answer) ⌝ }
+    requires { ⌜ many ≤ 17 ⌝ }
+    ensures { λ r. ⌜ r ≡ refusalOf (entrySlot (now (table .entry)) (length (now (answer .entry))) (take many records)) ⌝ }
+    ensures { λ _. ⌜ now (table .exit) ≡ tableAfter (now (table .entry)) (entrySlot (now (table .entry)) (length (now (answer .entry))) (take many records)) ⌝ }
+    ensures { λ _. ⌜ now (answer .exit) ≡ answerAfter (now (answer .entry)) (entrySlot (now (table .entry)) (length (now (answer .entry))) (take many records)) ⌝ }
+{
+    let before = none_checked(clock_refusal(table));
+    let checked = check_held(table, before, records, many);
+    run_checked(table, answer, checked, many).fault
 }

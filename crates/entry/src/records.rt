@@ -10,7 +10,9 @@ ghost use Prim.Native.Nat.{ℕ, _+_, _≤_, min};
 ghost use lib.ListN.{length, take, drop};
 ghost use Rattle.cell.specs.declared.Arrival.{Arrival};
 ghost use Rattle.cell.specs.Cell.{accepted};
+ghost use Rattle.layout.specs.Answer.{answerSize};
 ghost use Rattle.layout.specs.Arrivals.{arrivalBytes, arrivalSize};
+ghost use Rattle.layout.specs.Table.{IsTable};
 ghost use Rattle.entry.specs.Looked.{Before, Looked, Standing, Found};
 
 // The bytes of an answer.
@@ -26,12 +28,14 @@ pub struct Checked {
     pub bytes: [u8; 320],
 }
 
-// Looks at the lent records one by one, each copied out of the slice. Inputs rise and are below 16, so that the
-// seventeenth record, if there is one, has a fault or stands behind one.
-pub fn check_records(table: &[u8], room: usize, records: &[Arrival]) -> Checked
-    ensures { λ r. ⌜ Found (now (table .entry)) room (now (records .entry)) r ⌝ }
+// Looks at the lent records one by one, each copied out of the slice, after what was found before them. Inputs rise and
+// are below 16, so that the seventeenth record, if there is one, has a fault or stands behind one.
+pub fn check_records(table: &[u8], before: Checked, records: &[Arrival]) -> Checked
+    requires { ⌜ ((room : ℕ) × Looked (now table) room (now records) 0 before) ⌝ }
+    ensures { λ r. ⌜ ((room : ℕ) → Looked (now (table .entry)) room (now (records .entry)) 0 before
+        → Found (now (table .entry)) room (now (records .entry)) r) ⌝ }
 {
-    let mut checked: Checked = before_records(table, room);
+    let mut checked: Checked = before;
     let end: usize = few(records.len());
     let mut n: usize = 0;
     while n < end {
@@ -40,6 +44,15 @@ pub fn check_records(table: &[u8], room: usize, records: &[Arrival]) -> Checked
         n += 1;
     }
     checked
+}
+
+// The same for a caller that holds the first records by value.
+pub fn check_held(table: &[u8], before: Checked, records: [Arrival; 17], many: usize) -> Checked
+    requires { ⌜ (many ≤ 17) × ((room : ℕ) × Looked (now table) room (take many records) 0 before) ⌝ }
+    ensures { λ r. ⌜ ((room : ℕ) → Looked (now (table .entry)) room (take many records) 0 before
+        → Found (now (table .entry)) room (take many records) r) ⌝ }
+{
+    check_records(table, before, &records[..many])
 }
 
 // How many of so many records are looked at.
@@ -53,11 +66,18 @@ pub fn few(count: usize) -> usize
 }
 
 // What is found before any record is looked at.
-fn before_records(table: &[u8], room: usize) -> Checked
+pub fn before_records(table: &[u8], room: usize) -> Checked
     ensures { λ r. ⌜ ((records : List Arrival) → Looked (now (table .entry)) room records 0 r) ⌝ }
 {
+    none_checked(first_refusal(table, room))
+}
+
+// No record has been looked at.
+pub fn none_checked(fault: Fault) -> Checked
+    ensures { λ r. ⌜ ((table : List ℕ) (room : ℕ) (records : List Arrival) → Before table room fault → Looked table room records 0 r) ⌝ }
+{
     Checked {
-        fault: first_refusal(table, room),
+        fault,
         turn: 0,
         bytes: [0; 320],
     }
@@ -73,6 +93,14 @@ fn first_refusal(table: &[u8], room: usize) -> Fault
     if room < ANSWER_BYTES {
         return Fault::At(Refusal::ShortBuffer, 0);
     }
+    clock_refusal(table)
+}
+
+// 3.
+pub fn clock_refusal(table: &[u8]) -> Fault
+    requires { ⌜ IsTable (now table) ⌝ }
+    ensures { λ r. ⌜ ((room : ℕ) → answerSize ≤ room → Before (now (table .entry)) room r) ⌝ }
+{
     if table::word::read_u32(table, 8) == CLOCK_END {
         return Fault::At(Refusal::ClockEnd, 0);
     }

@@ -1,5 +1,4 @@
 pub mod Course
-pub mod Outcome
 pub mod Positions
 pub mod Settling
 pub mod Turn

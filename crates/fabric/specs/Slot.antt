@@ -1,29 +1,17 @@
 -- Document 01, "One slot": a slot on the bytes of a sound table and of whole records.
 use mathlib.Core.List.{List}
 use mathlib.Core.Path.{_≡_}
-use mathlib.Core.Option.{some}
-use Prim.Native.Nat.{ℕ, _/_}
-use lib.ListN.{length}
-use Rattle.cell.specs.declared.Arrival.{Arrival}
+use Prim.Native.Nat.{ℕ}
 use Rattle.model.specs.State.{Entry}
 use Rattle.model.specs.Phase.{waiting, phase, moved}
 use Rattle.model.specs.Checks.{Outcome, done, refused}
-use Rattle.model.specs.Crossbar.{Course, run, slot}
-use Rattle.layout.specs.Arrivals.{arrivalSize, arrivalsOf}
+use Rattle.model.specs.Crossbar.{Course, run}
 use Rattle.layout.specs.Table.{stateOf}
 use Rattle.arrival.specs.declared.Fault.{Fault}
 use Rattle.arrival.specs.declared.Fault.the-variants.{Clear, At}
 use Rattle.arrival.specs.Fault.{coming}
 use Rattle.places.specs.View.{inTable}
 use Rattle.departure.specs.Departing.{Ready}
-
--- the records of the bytes
-unfoldable pub recordsIn : List ℕ → List Arrival
-recordsIn arrivals = arrivalsOf (length arrivals / arrivalSize) arrivals
-
--- what the slot does
-unfoldable pub slotIn : List ℕ → List ℕ → Outcome Course
-slotIn table arrivals = slot (stateOf table) (some (recordsIn arrivals))
 
 -- the course of a slot without a fault
 unfoldable pub courseIn : List ℕ → List ℕ → Course

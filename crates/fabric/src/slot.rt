@@ -1,10 +1,7 @@
-// Document 01, "One slot", on the table of a sound state and whole records: the clock, the checks of the records, then
-// arrival, the two phases and departure.
+// Document 01, "One slot", on the table of a sound state and whole records that have no fault: arrival, the two phases and
+// departure.
 use crate::phase::phase;
-use arrival::Fault;
 use arrival::arrive;
-use arrival::first_fault;
-use cell::Refusal;
 use departure::depart;
 use places::load;
 ghost use mathlib.Core.Path.{_≡_};
@@ -15,38 +12,16 @@ ghost use lib.ListN.{length, take, drop};
 ghost use Rattle.model.specs.Crossbar.{answerOf};
 ghost use Rattle.layout.specs.Answer.{answerBytes, answerSize};
 ghost use Rattle.layout.specs.Entry.{clockIn};
-ghost use Rattle.layout.specs.Host.{filled, tableAfter, answerAfter};
+ghost use Rattle.layout.specs.Host.{filled};
 ghost use Rattle.layout.specs.Number.{bytesOf};
 ghost use Rattle.layout.specs.Table.{IsTable, encode};
 ghost use Rattle.arrival.specs.Fault.{faultIn};
-ghost use Rattle.fabric.specs.Slot.{slotIn, courseIn, refusalOf, Scheduled};
-
-// The number of no slot.
-const CLOCK_END: u32 = 4294967295;
+ghost use Rattle.fabric.specs.Slot.{courseIn, Scheduled};
 
 // The proposals made in the two phases.
 struct Proposals {
     first: u32,
     second: u32,
-}
-
-// Runs a slot, or turns it back with the clock's end or the first fault of the records; then nothing is written.
-pub fn slot(table: &mut [u8], arrivals: &[u8], answer: &mut [u8]) -> Fault
-    requires { ⌜ IsTable (now table) ⌝ }
-    requires { ⌜ answerSize ≤ length (now answer) ⌝ }
-    ensures { λ r. ⌜ r ≡ refusalOf (slotIn (now (table .entry)) (now (arrivals .entry))) ⌝ }
-    ensures { λ _. ⌜ now (table .exit) ≡ tableAfter (now (table .entry)) (slotIn (now (table .entry)) (now (arrivals .entry))) ⌝ }
-    ensures { λ _. ⌜ now (answer .exit) ≡ answerAfter (now (answer .entry)) (slotIn (now (table .entry)) (now (arrivals .entry))) ⌝ }
-{
-    if table::word::read_u32(table, 8) == CLOCK_END {
-        return Fault::At(Refusal::ClockEnd, 0);
-    }
-    let fault = first_fault(table, arrivals);
-    let Fault::Clear = fault else {
-        return fault;
-    };
-    run(table, arrivals, answer);
-    Fault::Clear
 }
 
 // The course of a slot that is not turned back.

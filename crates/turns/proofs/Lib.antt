@@ -1,6 +1,6 @@
 pub mod Limits
 pub mod Lines
-pub mod Numbers
+pub mod Records
 pub mod Sent
 pub mod Slots
 pub mod Taking

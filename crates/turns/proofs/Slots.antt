@@ -1,7 +1,7 @@
 -- A block's slot, by its outcome: what it writes, and what the table is then.
---     slot-stopped, slot-ran       from what the slot on bytes leaves to what a turn asks of it
+--     slot-stopped, slot-ran       from what the slot on held records leaves to what a turn asks of it
 --     played-stopped, played-ran   and back, by the answer
-use Prim.Native.Nat.{ℕ}
+use Prim.Native.Nat.{ℕ, _≤_}
 use native.Mathlib.Omega.{arith}
 use mathlib.Core.Bool.{true}
 use mathlib.Core.List.{List, _++_}
@@ -18,12 +18,14 @@ use Rattle.trace.specs.declared.Key.the-variants.{Slot}
 use Rattle.trace.specs.Line.{line}
 use Rattle.arrival.specs.declared.Fault.{Fault}
 use Rattle.arrival.specs.declared.Fault.the-variants.{Clear, At}
-use Rattle.layout.specs.Answer.{answerBytes, departuresIn}
+use Rattle.layout.specs.Answer.{answerBytes, answerSize, departuresIn}
 use Rattle.layout.specs.Host.{filled, tableAfter, answerAfter}
 use Rattle.layout.specs.Table.{IsTable, stateOf, encode}
 use Rattle.layout.proofs.Host.{tableAfter-refused}
 use Rattle.layout.proofs.Table.{decode-sound}
-use Rattle.fabric.specs.Slot.{recordsIn, slotIn, refusalOf}
+use Rattle.fabric.specs.Slot.{refusalOf}
+use Rattle.entry.specs.Looked.{entrySlot}
+use Rattle.entry.proofs.Looking.{entry-slot}
 use Rattle.turns.specs.declared.Played.{Played}
 use Rattle.turns.specs.declared.Played.the-variants.{Ran, Stopped}
 use Rattle.play.specs.Player.{departuresText, refusalText, lineOf}
@@ -47,15 +49,14 @@ outcome-clear (refused s p) e =
     let never : _≡_ {A = ℕ} 0 1 = cc in
     absurd (omega arith)
 
-module _ (table arrivals : List ℕ) (rs : List Arrival) (same : recordsIn arrivals ≡ rs) (clock l : ℕ) (buffer : List ℕ)
-    (found : Fault) (e : found ≡ refusalOf (slotIn table arrivals)) (table′ : List ℕ)
-    (t : table′ ≡ tableAfter table (slotIn table arrivals)) where
+module _ (table : List ℕ) (good : IsTable table) (room : ℕ) (space : answerSize ≤ room) (held rs : List Arrival) (same : held ≡ rs)
+    (clock l : ℕ) (buffer : List ℕ) (found : Fault) (e : found ≡ refusalOf (entrySlot table room held)) (table′ : List ℕ)
+    (t : table′ ≡ tableAfter table (entrySlot table room held)) where
   abbrev outcome : Outcome Course
   outcome = slot (stateOf table) (some rs)
 
-  slot-same : slotIn table arrivals ≡ outcome
-  unfolding slotIn
-  slot-same = ap (λ x. slot (stateOf table) (some x)) same
+  slot-same : entrySlot table room held ≡ outcome
+  slot-same = ap (entrySlot table room) same ∙ entry-slot table room good space rs
 
   pub slot-stopped : {r : Refusal} {place : ℕ} → found ≡ At r place → (buffer′ : List ℕ) (n k : ℕ) → k ≡ lineOf l place
       → Wrote (refusalText r k) buffer buffer′ n
@@ -70,12 +71,12 @@ module _ (table arrivals : List ℕ) (rs : List Arrival) (same : recordsIn arriv
         switch = t ∙ ap (tableAfter table) slot-same;
       }
 
-  pub slot-ran : IsTable table → all? arrivalFits rs ≡ true → found ≡ Clear → (answer answer′ buffer′ : List ℕ) (n : ℕ)
-      → answer′ ≡ answerAfter answer (slotIn table arrivals)
+  pub slot-ran : all? arrivalFits rs ≡ true → found ≡ Clear → (answer answer′ buffer′ : List ℕ) (n : ℕ)
+      → answer′ ≡ answerAfter answer (entrySlot table room held)
       → Wrote (line Slot clock ++ departuresText (departuresIn 16 answer′)) buffer buffer′ n
       → SlotPlayed outcome clock l table buffer table′ buffer′ (Ran n)
   unfolding slotText playedOf answerAfter
-  slot-ran good fits f answer answer′ buffer′ n a w =
+  slot-ran fits f answer answer′ buffer′ n a w =
       let (c, o) = outcome-clear outcome (sym f ∙ e ∙ ap refusalOf slot-same) in
       let g : Goes (stateOf table) c = goes (stateOf table) rs (decode-sound table (stateOf table) good) fits c o in
       let held : answer′ ≡ filled (answerBytes (answerOf c)) answer = a ∙ ap (answerAfter answer) (slot-same ∙ o) in

@@ -4,7 +4,7 @@
 --     tableThen, tableAfterTurns    the table after a turn, and after turns
 --     Wrote, Turned, Took           what a turn leaves, and what turns leave
 --     slotText, playedOf, Played    what a block's slot writes and answers
---     numbersBytes, cellIn          numbers as bytes, and the cell of a departure
+--     cellIn                        the cell of a departure
 use Prim.Native.Nat.{ℕ, zero, suc, _+_, _*_, _-_, _≤_}
 use mathlib.Core.List.{List, [], _∷_, _++_}
 use mathlib.Core.Bool.{Bool}
@@ -17,7 +17,7 @@ use Rattle.trace.specs.declared.Key.the-variants.{Slot}
 use Rattle.trace.specs.Line.{line}
 use Rattle.layout.specs.Entry.{clockIn}
 use Rattle.layout.specs.Host.{filled, tableAfter}
-use Rattle.layout.specs.Number.{bytesOf, word}
+use Rattle.layout.specs.Number.{word}
 use Rattle.layout.specs.Table.{IsTable, encode, stateOf, tableSize}
 use Rattle.turns.specs.declared.Stage.{Stage}
 use Rattle.turns.specs.declared.Stage.the-variants.{Opening, Playing, Over}
@@ -97,11 +97,6 @@ pub record SlotPlayed (o : Outcome Course) (clock l : ℕ) (table buffer table�
   pub result : r ≡ playedOf clock l o
   pub bytes : buffer′ ≡ filled (slotText clock l o) buffer
   pub switch : table′ ≡ tableAfter table o
-
--- numbers of 32 bits, one behind the other
-unfoldable pub numbersBytes : List ℕ → List ℕ
-numbersBytes [] = []
-numbersBytes (n ∷ ns) = bytesOf 4 n ++ numbersBytes ns
 
 -- the cell of a departure
 unfoldable pub cellIn : List ℕ → Cell

@@ -3,6 +3,7 @@
 // Its theorems are on the definitions: over the PIFO switch it writes the same text, and turn by turn it writes the same
 // text however the trace arrives.
 use arrival::Fault;
+use cell::Arrival;
 use cell::Cell;
 use cell::Refusal;
 use trace::Answer;
@@ -12,10 +13,10 @@ ghost use mathlib.Core.List.{_++_};
 ghost use mathlib.Core.Option.{some};
 ghost use mathlib.Core.Path.{_≡_};
 ghost use Prim.Native.Nat.{_+_, _*_, _≤_};
-ghost use lib.ListN.{length};
+ghost use lib.ListN.{length, take, drop};
 ghost use Rattle.model.specs.Crossbar.{slot};
 ghost use Rattle.trace.specs.declared.Key.the-variants.{Ports, First, Slot};
-ghost use Rattle.trace.specs.Flat.{arrivalsFrom};
+ghost use Rattle.trace.specs.Flat.{arrivalAt, arrivalsFrom};
 ghost use Rattle.trace.specs.Line.{line};
 ghost use Rattle.trace.specs.Piece.{nextIn, headerIn};
 ghost use Rattle.writer.specs.Writing.{Put};
@@ -24,7 +25,7 @@ ghost use Rattle.layout.specs.Entry.{clockIn};
 ghost use Rattle.layout.specs.Table.{IsTable, stateOf, tableSize};
 ghost use Rattle.play.specs.Player.{departureText, departuresText, lineOf};
 ghost use Rattle.play.specs.Turn.{headerTurn, nextTurn, turn};
-ghost use Rattle.turns.specs.Code.{standing, turnRoom, Took, Stands, Wrote, Turned, SlotPlayed, numbersBytes, cellIn};
+ghost use Rattle.turns.specs.Code.{standing, turnRoom, Took, Stands, Wrote, Turned, SlotPlayed, cellIn};
 
 // What one turn can write at most.
 const TURN_ROOM: usize = 1232;
@@ -204,10 +205,10 @@ fn play_slot(
     ensures { λ r. ⌜ SlotPlayed (slot (stateOf (now (table .entry))) (some (arrivalsFrom count (now (numbers .entry)))))
         clock line (now (table .entry)) (now (out .entry)) (now (table .exit)) (now (out .exit)) r ⌝ }
 {
-    let bytes = bytes_of(numbers);
-    let end = 20 * count as usize;
+    let many = count as usize;
+    let records = records_of(numbers, many);
     let mut answer = [0u8; 456];
-    match fabric::slot::slot(table, &bytes[..end], &mut answer) {
+    match entry::sound_slot(table, records, many, &mut answer) {
         Fault::At(refusal, place) => {
             Played::Stopped(writer::put_refusal(out, 0, refusal, line_of(line, place)))
         }
@@ -215,18 +216,39 @@ fn play_slot(
     }
 }
 
-// Numbers as bytes.
-fn bytes_of(numbers: &[u32]) -> [u8; 320]
-    requires { ⌜ length (now numbers) ≡ 80 ⌝ }
-    ensures { λ r. ⌜ r ≡ numbersBytes (now (numbers .entry)) ⌝ }
+// The first records of a block's numbers.
+fn records_of(numbers: &[u32], count: usize) -> [Arrival; 17]
+    requires { ⌜ (length (now numbers) ≡ 80) × (count ≤ 16) ⌝ }
+    ensures { λ r. ⌜ take count r ≡ arrivalsFrom count (now (numbers .entry)) ⌝ }
 {
-    let mut bytes = [0u8; 320];
-    let mut i = 0;
-    while i < 80 {
-        table::word::write_u32(&mut bytes, 4 * i, numbers[i]);
-        i += 1;
+    let none = Arrival {
+        input: 0,
+        output: 0,
+        flow: 0,
+        rank: 0,
+        tag: 0,
+    };
+    let mut records = [none; 17];
+    let mut n = 0;
+    while n < count {
+        records[n] = record_at(numbers, 5 * n);
+        n += 1;
     }
-    bytes
+    records
+}
+
+// The record of the five numbers from a place on.
+fn record_at(numbers: &[u32], at: usize) -> Arrival
+    requires { ⌜ at + 5 ≤ length (now numbers) ⌝ }
+    ensures { λ r. ⌜ r ≡ arrivalAt (drop at (now (numbers .entry))) ⌝ }
+{
+    Arrival {
+        input: numbers[at],
+        output: numbers[at + 1],
+        flow: numbers[at + 2],
+        rank: numbers[at + 3],
+        tag: numbers[at + 4],
+    }
 }
 
 // The line that a refusal names: the slot's own, or the first of the record's.

@@ -1,9 +1,10 @@
--- `entry::slot` meets its contract: a walk of its MIR, by hand. The table is lent as a shared slice for the call of `check_records`, and comes back; then the table and the answer are given up to `run_checked`, and the tally to `count`.
--- All that the walk knows of the three is that they meet their contracts. It is cut at the two later calls, with the context written out there.
+-- `entry::slot` meets its contract: a walk of its MIR, by hand. The table is lent as a shared slice for the call of `before_records` and again for that of `check_records`, and comes back; then the table and the answer are given up to `run_checked`, and the tally to `count`.
+-- All that the walk knows of the four is that they meet their contracts. It is cut at the three later calls, with the context written out there.
 --     exits        what is had at exit, and what the contract says of it
---     counts       the third call, and the exit
---     runs-on      the second call
---     checks       the first call
+--     counts       the fourth call, and the exit
+--     runs-on      the third call
+--     checks       the second call
+--     opens        the first call
 --     walk         the MIR up to there
 -- Assumes nothing.
 use mathlib.Core.Path.{_≡_, refl, _∙_, ap, subst}
@@ -62,7 +63,7 @@ use Rattle.entry.specs.declared.records.Checked.{Checked}
 use Rattle.entry.specs.declared.running.Ended.{Ended}
 use Rattle.tally.specs.Counted.{countedAs}
 use Rattle.entry.specs.Ended.{foundOutcome, endedOf}
-use Rattle.entry.specs.Looked.{entrySlot, Found}
+use Rattle.entry.specs.Looked.{entrySlot, Looked, Found}
 use Rattle.entry.proofs.Ending.{found-runs, found-outcome, ended-fault, ended-tally}
 use Rattle.entry.proofs.Shared.{LentShared, lends-shared, shared-back}
 use Rattle.entry.proofs.Typed.{checked-size}
@@ -70,6 +71,10 @@ use Rattle.entry.proofs.records.Checked as K
 use Rattle.entry.proofs.records.Checked.Laws as K′
 use Rattle.entry.proofs.running.Ended as E
 use Rattle.entry.proofs.running.Ended.Laws as E′
+use Rattle.entry.proofs.records.before_records as before
+use Rattle.entry.proofs.records.before_records.Symbol as before-def
+use Rattle.entry.proofs.records.before_records.Symbol.{name as #entry·records·before-records}
+use Rattle.entry.proofs.records.before_records.Met as before-thm
 use Rattle.entry.proofs.records.check_records as check
 use Rattle.entry.proofs.records.check_records.Symbol as check-def
 use Rattle.entry.proofs.records.check_records.Symbol.{name as #entry·records·check-records}
@@ -119,6 +124,9 @@ tallyPtr = tyRef erased mut (pointee (Y.the-row .written))
 
 module _ {M : Type 1} (𝓤 : URA M) (H : Heap 𝓤) (A : Atoms 𝓤) (at-mem : Memory → SProp 𝓤) (run : Routine → Fun 𝓤) where
   -- the contracts that the walk cites
+  abbrev BeforeC : Contract 𝓤
+  BeforeC = tripleOf 𝓤 H A before.signature (before.spec 𝓤 H A at-mem run)
+
   abbrev CheckC : Contract 𝓤
   CheckC = tripleOf 𝓤 H A check.signature (check.spec 𝓤 H A at-mem run)
 
@@ -203,17 +211,43 @@ module _ {M : Type 1} (𝓤 : URA M) (H : Heap 𝓤) (A : Atoms 𝓤) (W : Given
       join ! $ nothing ! $ move ! (9 ∷ 0 ∷ []) $ join ! $ move ! (8 ∷ 0 ∷ []) $ join ! $ move ! (7 ∷ 0 ∷ []) $ join ! $ move ! (6 ∷ 0 ∷ []) $ join ! $ join ! $ frame ! $ done !
 
   -- the calls: what each is passed, what it asks, and what is known of its result
-  abbrev to-check : ℕ → GName → CheckC 𝓤 H A at-mem run .Ghost
-  to-check ν δ = (((ν ∷ [], (κ₁, tt)), (fullShare, (q₁, tt)), tt, (xt δ, (length bs, (y, tt))), (vt ∷ [], (vint w64 (length bs) ∷ [], (vy ∷ [], tt)))), tt)
+  abbrev LentT : ℕ → GName → Fml
+  LentT ν δ = ShrSlice (named 0) (ν ∷ []) u8 .own (xt δ) (vt ∷ [])
 
-  goes-check : (ν : ℕ) (δ : GName) → ent 𝓤 (⋆ 𝓤 H A (‵ (ShrSlice (named 0) (ν ∷ []) u8 .own (xt δ) (vt ∷ [])) ∷ ‵ OwnY ∷ ‵ (flft (ν ∷ []) fullShare) ∷ ‵ (flft κ₁ q₁) ∷ [])) (CheckC 𝓤 H A at-mem run .pre (to-check ν δ))
-  goes-check ν δ =
-      qed W (‵ (ShrSlice (named 0) (ν ∷ []) u8 .own (xt δ) (vt ∷ [])) ∷ ‵ OwnY ∷ ‵ (flft (ν ∷ []) fullShare) ∷ ‵ (flft κ₁ q₁) ∷ []) ∵
-      nothing ! $ move ! (2 ∷ 0 ∷ []) $ fjoin ! $ owned ! usize (Is usize) (uint-makes 𝓤 H A W w64) (length bs) _ (refl, ga .0) $ fjoin ! $ move ! (1 ∷ 0 ∷ []) $ fjoin ! $
-      nothing ! $ move ! (3 ∷ 0 ∷ []) $ join ! $ move ! (2 ∷ 0 ∷ []) $ join ! $ join ! $ frame ! $ done !
+  abbrev to-before : ℕ → GName → BeforeC 𝓤 H A at-mem run .Ghost
+  to-before ν δ = (((ν ∷ [], tt), (fullShare, tt), tt, (xt δ, (length bs, tt)), (vt ∷ [], (vint w64 (length bs) ∷ [], tt))), tt)
 
-  check-said : (ν : ℕ) (δ : GName) (k : Checked) → ent 𝓤 (ensured 𝓤 H A check.ended (check.clauses 𝓤 H A at-mem run) (ν ∷ [], (κ₁, tt)) (xt δ, (length bs, (y, tt))) tt k) (fact 𝓤 (Found ts (length bs) ys k))
-  check-said ν δ k = exE 𝓤 _ (λ ws. snd∗ 𝓤 (sem 𝓤 H A (lasts check.ended (ν ∷ [], (κ₁, tt)) (xt δ, (length bs, (y, tt))) ws)) (fact 𝓤 (Found ts (length bs) ys k)))
+  goes-before : (ν : ℕ) (δ : GName) → ent 𝓤 (sep 𝓤 (sem 𝓤 H A (LentT ν δ)) (A .lft (ν ∷ []) fullShare)) (BeforeC 𝓤 H A at-mem run .pre (to-before ν δ))
+  goes-before ν δ =
+      qed W (‵ (LentT ν δ) ∷ ‵ (flft (ν ∷ []) fullShare) ∷ []) ∵ nothing ! $ owned ! usize (Is usize) (uint-makes 𝓤 H A W w64) (length bs) _ (refl, ga .0) $ fjoin ! $ move ! (1 ∷ 0 ∷ []) $ fjoin ! $
+      nothing ! $ move ! (2 ∷ 0 ∷ []) $ join ! $ join ! $ frame ! $ done !
+
+  abbrev Begins : Checked → Type 0
+  Begins k = (rs : List Arrival) → Looked ts (length bs) rs 0 k
+
+  before-said : (ν : ℕ) (δ : GName) (k : Checked) → ent 𝓤 (ensured 𝓤 H A before.ended (before.clauses 𝓤 H A at-mem run) (ν ∷ [], tt) (xt δ, (length bs, tt)) tt k) (fact 𝓤 (Begins k))
+  before-said ν δ k = exE 𝓤 _ (λ ws. snd∗ 𝓤 (sem 𝓤 H A (lasts before.ended (ν ∷ [], tt) (xt δ, (length bs, tt)) ws)) (fact 𝓤 (Begins k)))
+
+  abbrev CheckArgs : Type 0
+  CheckArgs = RefT (List ℕ) × (Checked × (RefT (List Arrival) × Unit {0}))
+
+  abbrev check-args : GName → Checked → CheckArgs
+  check-args δ k = (xt δ, (k, (y, tt)))
+
+  abbrev to-check : ℕ → GName → Checked → Val → CheckC 𝓤 H A at-mem run .Ghost
+  to-check ν δ k v = (((ν ∷ [], (κ₁, tt)), (fullShare, (q₁, tt)), tt, check-args δ k, (vt ∷ [], (v ∷ [], (vy ∷ [], tt)))), tt)
+
+  goes-check : (ν : ℕ) (δ : GName) (k : Checked) (v : Val) → Is K.the-row k (v ∷ []) → Begins k → ent 𝓤 (⋆ 𝓤 H A (‵ (LentT ν δ) ∷ ‵ OwnY ∷ ‵ (flft (ν ∷ []) fullShare) ∷ ‵ (flft κ₁ q₁) ∷ [])) (CheckC 𝓤 H A at-mem run .pre (to-check ν δ k v))
+  goes-check ν δ k v is e =
+      qed W (‵ (LentT ν δ) ∷ ‵ OwnY ∷ ‵ (flft (ν ∷ []) fullShare) ∷ ‵ (flft κ₁ q₁) ∷ []) ∵ says ! (length bs, e ys) $
+      nothing ! $ move ! (4 ∷ 0 ∷ []) $ join ! $ move ! (3 ∷ 0 ∷ []) $ join ! $ frame ! $
+      nothing ! $ move ! (2 ∷ 0 ∷ []) $ fjoin ! $ owned ! K.the-row (Is K.the-row) ((LL.makes K.the-type K′.the-plain) 𝓤 H A) k _ is $ fjoin ! $ move ! (1 ∷ 0 ∷ []) $ fjoin ! $ done !
+
+  abbrev Finds : Checked → Checked → Type 0
+  Finds k k′ = (room : ℕ) → Looked ts room ys 0 k → Found ts room ys k′
+
+  check-said : (ν : ℕ) (δ : GName) (k k′ : Checked) → ent 𝓤 (ensured 𝓤 H A check.ended (check.clauses 𝓤 H A at-mem run) (ν ∷ [], (κ₁, tt)) (check-args δ k) tt k′) (fact 𝓤 (Finds k k′))
+  check-said ν δ k k′ = exE 𝓤 _ (λ ws. snd∗ 𝓤 (sem 𝓤 H A (lasts check.ended (ν ∷ [], (κ₁, tt)) (check-args δ k) ws)) (fact 𝓤 (Finds k k′)))
 
   abbrev found : Checked → Outcome Course
   found k = foundOutcome ts many (k .fault) (k .bytes)
@@ -245,10 +279,10 @@ module _ {M : Type 1} (𝓤 : URA M) (H : Heap 𝓤) (A : Atoms 𝓤) (W : Given
   abbrev endedVal : Ended → Val
   endedVal = LL.val E.the-type E′.the-laws
 
-  module _ (C : Calls 𝓤 H) (Λ : Loops 𝓤 H) (fm : FmC 𝓤 H (W .laws) C) (known-check : Triple 𝓤 (C #entry·records·check-records) (CheckC 𝓤 H A at-mem run)) (known-course : Triple 𝓤 (C #entry·running·run-checked) (CourseC 𝓤 H A at-mem run))
-      (known-count : Triple 𝓤 (C #tally·count) (CountC 𝓤 H A at-mem run)) (l₀ l₁ l₂ l₃ l₄ l₅ l₆ l₇ l₈ l₉ l₁₀ l₁₁ l₁₂ l₁₃ l₁₄ l₁₅ l₁₆ l₁₇ : ℕ) where
+  module _ (C : Calls 𝓤 H) (Λ : Loops 𝓤 H) (fm : FmC 𝓤 H (W .laws) C) (known-before : Triple 𝓤 (C #entry·records·before-records) (BeforeC 𝓤 H A at-mem run)) (known-check : Triple 𝓤 (C #entry·records·check-records) (CheckC 𝓤 H A at-mem run)) (known-course : Triple 𝓤 (C #entry·running·run-checked) (CourseC 𝓤 H A at-mem run))
+      (known-count : Triple 𝓤 (C #tally·count) (CountC 𝓤 H A at-mem run)) (l₀ l₁ l₂ l₃ l₄ l₅ l₆ l₇ l₈ l₉ l₁₀ l₁₁ l₁₂ l₁₃ l₁₄ l₁₅ l₁₆ l₁₇ l₁₈ l₁₉ l₂₀ : ℕ) where
     abbrev En : Env 𝓤 H
-    En = (F′.mir, l₀) ∷ (tableTy, l₁) ∷ (recordsTy, l₂) ∷ (answerTy, l₃) ∷ (tallyTy, l₄) ∷ (word, l₅) ∷ (word, l₆) ∷ (K′.mir, l₇) ∷ (E′.mir, l₈) ∷ (sharedPtr, l₉) ∷ (sliceTy sharedPtr, l₁₀) ∷ (mutPtr, l₁₁) ∷ (sliceTy mutPtr, l₁₂) ∷ (mutPtr, l₁₃) ∷ (sliceTy mutPtr, l₁₄) ∷ (tyUnit, l₁₅) ∷ (tallyPtr, l₁₆) ∷ (word, l₁₇) ∷ []
+    En = (F′.mir, l₀) ∷ (tableTy, l₁) ∷ (recordsTy, l₂) ∷ (answerTy, l₃) ∷ (tallyTy, l₄) ∷ (word, l₅) ∷ (word, l₆) ∷ (K′.mir, l₇) ∷ (K′.mir, l₈) ∷ (E′.mir, l₉) ∷ (sharedPtr, l₁₀) ∷ (sliceTy sharedPtr, l₁₁) ∷ (sharedPtr, l₁₂) ∷ (sliceTy sharedPtr, l₁₃) ∷ (mutPtr, l₁₄) ∷ (sliceTy mutPtr, l₁₅) ∷ (mutPtr, l₁₆) ∷ (sliceTy mutPtr, l₁₇) ∷ (tyUnit, l₁₈) ∷ (tallyPtr, l₁₉) ∷ (word, l₂₀) ∷ []
 
     -- a local that holds a value, and one that holds none
     abbrev full : Ty → ℕ → Val → List (Item 𝓤) → List (Item 𝓤)
@@ -265,39 +299,51 @@ module _ {M : Type 1} (𝓤 : URA M) (H : Heap 𝓤) (A : Atoms 𝓤) (W : Given
     abbrev Params : List (Item 𝓤) → List (Item 𝓤)
     Params Γ = full tallyTy l₄ (vptr bc oc) (full answerTy l₃ va (full recordsTy l₂ vy (full tableTy l₁ vt (bare F′.mir l₀ Γ))))
 
-    -- before the first call, behind it and behind the second
+    -- the locals of the two later calls, and what is counted before any call
+    abbrev Unused : List (Item 𝓤) → List (Item 𝓤)
+    Unused Γ = bare word l₂₀ (bare tallyPtr l₁₉ (bare tyUnit l₁₈ (bare (sliceTy mutPtr) l₁₇ (bare mutPtr l₁₆ (bare (sliceTy mutPtr) l₁₅ (bare mutPtr l₁₄ Γ))))))
+
+    abbrev Counted : List (Item 𝓤) → List (Item 𝓤)
+    Counted Γ = full word l₆ (vint w64 many) (full word l₅ (vint w64 (length bs)) (Params (Alive Γ)))
+
+    -- before each call
     abbrev Entered : List (Item 𝓤)
-    Entered = bare word l₁₇ (bare tallyPtr l₁₆ (bare tyUnit l₁₅ (bare (sliceTy mutPtr) l₁₄ (bare mutPtr l₁₃ (bare (sliceTy mutPtr) l₁₂ (bare mutPtr l₁₁ (bare (sliceTy sharedPtr) l₁₀ (bare sharedPtr l₉ (bare E′.mir l₈ (bare K′.mir l₇ (bare word l₆ (bare word l₅ (Params (Alive
-        (‵ OwnT ∷ ‵ OwnY ∷ ‵ OwnA ∷ ‵ OwnC ∷ [])))))))))))))))
+    Entered = Unused (bare (sliceTy sharedPtr) l₁₃ (bare sharedPtr l₁₂ (bare (sliceTy sharedPtr) l₁₁ (bare sharedPtr l₁₀ (bare E′.mir l₉ (bare K′.mir l₈ (bare K′.mir l₇ (bare word l₆ (bare word l₅ (Params (Alive
+        (‵ OwnT ∷ ‵ OwnY ∷ ‵ OwnA ∷ ‵ OwnC ∷ []))))))))))))
 
-    abbrev Looked : Val → List (Item 𝓤)
-    Looked v = bare word l₁₇ (bare tallyPtr l₁₆ (bare tyUnit l₁₅ (bare (sliceTy mutPtr) l₁₄ (bare mutPtr l₁₃ (bare (sliceTy mutPtr) l₁₂ (bare mutPtr l₁₁ (full (sliceTy sharedPtr) l₁₀ vt (full sharedPtr l₉ (vptr bt ot) (bare E′.mir l₈ (full K′.mir l₇ v (full word l₆ (vint w64 many) (full word l₅ (vint w64 (length bs)) (Params (Alive
-        (‵ OwnT ∷ ‵ OwnA ∷ ‵ OwnC ∷ [])))))))))))))))
+    abbrev AtCheck : Val → List (Item 𝓤)
+    AtCheck v = Unused (bare (sliceTy sharedPtr) l₁₃ (bare sharedPtr l₁₂ (full (sliceTy sharedPtr) l₁₁ vt (full sharedPtr l₁₀ (vptr bt ot) (bare E′.mir l₉ (bare K′.mir l₈ (full K′.mir l₇ v (Counted
+        (‵ OwnT ∷ ‵ OwnY ∷ ‵ OwnA ∷ ‵ OwnC ∷ [])))))))))
 
-    abbrev Ran : Val → Ended → List ℕ → List ℕ → List (Item 𝓤)
-    Ran v r ts′ bs′ = bare word l₁₇ (bare tallyPtr l₁₆ (bare tyUnit l₁₅ (full (sliceTy mutPtr) l₁₄ va (full mutPtr l₁₃ (vptr ba oa) (full (sliceTy mutPtr) l₁₂ vt (full mutPtr l₁₁ (vptr bt ot) (full (sliceTy sharedPtr) l₁₀ vt (full sharedPtr l₉ (vptr bt ot) (full E′.mir l₈ (endedVal r) (full K′.mir l₇ v (full word l₆ (vint w64 many) (full word l₅ (vint w64 (length bs)) (Params (Alive
+    abbrev AtCourse : Val → Val → List (Item 𝓤)
+    AtCourse v v′ = Unused (full (sliceTy sharedPtr) l₁₃ vt (full sharedPtr l₁₂ (vptr bt ot) (full (sliceTy sharedPtr) l₁₁ vt (full sharedPtr l₁₀ (vptr bt ot) (bare E′.mir l₉ (full K′.mir l₈ v′ (full K′.mir l₇ v (Counted
+        (‵ OwnT ∷ ‵ OwnA ∷ ‵ OwnC ∷ [])))))))))
+
+    abbrev AtCount : Val → Val → Ended → List ℕ → List ℕ → List (Item 𝓤)
+    AtCount v v′ r ts′ bs′ = bare word l₂₀ (bare tallyPtr l₁₉ (bare tyUnit l₁₈ (full (sliceTy mutPtr) l₁₇ va (full mutPtr l₁₆ (vptr ba oa) (full (sliceTy mutPtr) l₁₅ vt (full mutPtr l₁₄ (vptr bt ot)
+        (full (sliceTy sharedPtr) l₁₃ vt (full sharedPtr l₁₂ (vptr bt ot) (full (sliceTy sharedPtr) l₁₁ vt (full sharedPtr l₁₀ (vptr bt ot) (full E′.mir l₉ (endedVal r) (full K′.mir l₈ v′ (full K′.mir l₇ v (Counted
         (‵ (finally u8 γt ts′) ∷ ‵ (finally u8 γa bs′) ∷ ‵ OwnC ∷ [])))))))))))))))
 
-    -- the third call: the tally is counted in, and the slot's refusal is the result
-    counts : (v : Val) (r : Ended) (ts′ bs′ : List ℕ) → Is E.the-row r (endedVal r ∷ []) → length ts′ ≡ length ts → length bs′ ≡ length bs → r ≡ endedOf outcome → ts′ ≡ tableAfter ts outcome → bs′ ≡ answerAfter bs outcome
-        → Sq W (Ran v r ts′ bs′) (runs C Λ En mir.t-11 (atRet En Post))
-    counts v r ts′ bs′ is lt la e₁ e₂ e₃ =
-        assigns ! (addr ! (from ! (hop ! (look ! 26 refl) (stop !)))) (from ! (stop !)) (init ! 2 refl (tt, tt)) $
-        assigns ! (of-opd ! (load ! (from ! (stop !)) (look ! 22 refl))) (from ! (stop !)) (init ! 0 refl (tt, record { fits = gy .0 })) $
-        move ! (39 ∷ 42 ∷ []) $ use2 W (raw (CountC 𝓤 H A at-mem run .pre (to-count r))) (goes-count r (sent .1)) $
-        -- [what `count` asks; _17; …; the tokens of table, records and answer; the last values of table and answer]
+    -- the fourth call: the tally is counted in, and the slot's refusal is the result
+    counts : (v v′ : Val) (r : Ended) (ts′ bs′ : List ℕ) → Is E.the-row r (endedVal r ∷ []) → length ts′ ≡ length ts → length bs′ ≡ length bs → r ≡ endedOf outcome → ts′ ≡ tableAfter ts outcome → bs′ ≡ answerAfter bs outcome
+        → Sq W (AtCount v v′ r ts′ bs′) (runs C Λ En mir.t-14 (atRet En Post))
+    counts v v′ r ts′ bs′ is lt la e₁ e₂ e₃ =
+        assigns ! (addr ! (from ! (hop ! (look ! 32 refl) (stop !)))) (from ! (stop !)) (init ! 2 refl (tt, tt)) $
+        assigns ! (of-opd ! (load ! (from ! (stop !)) (look ! 28 refl))) (from ! (stop !)) (init ! 0 refl (tt, record { fits = gy .0 })) $
+        move ! (45 ∷ 48 ∷ []) $ use2 W (raw (CountC 𝓤 H A at-mem run .pre (to-count r))) (goes-count r (sent .1)) $
+        -- [what `count` asks; _20; …; the tokens of table, records and answer; the last values of table and answer]
         calls-at ! fm (CountC 𝓤 H A at-mem run) known-count (to-count r)
-        (and-then ! (load ! (from ! (stop !)) (look ! 3 refl)) (and-then ! (load ! (from ! (fld ! refl (stop !))) (look-in ! 19 (sub ! 1 refl (whole !)))) (and-then ! (load ! (from ! (stop !)) (look ! 1 refl)) (and-then ! (load ! (from ! (fld ! refl (stop !))) (look-in ! 19 (sub ! 2 refl (whole !)))) (no-more !))))) (λ w.
+        (and-then ! (load ! (from ! (stop !)) (look ! 3 refl)) (and-then ! (load ! (from ! (fld ! refl (stop !))) (look-in ! 23 (sub ! 1 refl (whole !)))) (and-then ! (load ! (from ! (stop !)) (look ! 1 refl)) (and-then ! (load ! (from ! (fld ! refl (stop !))) (look-in ! 23 (sub ! 2 refl (whole !)))) (no-more !))))) (λ w.
         use1 W (later (some (λ (u : Unit {0}). ((‵ (flft κ₃ q₃) ⊛ ‵ ftrue) ⊛ ‵ (unit .own u (w ∷ []))) ⊛ raw (ensured 𝓤 H A count.ended (count.clauses 𝓤 H A at-mem run) (κ₃, tt) (xc, (r .ran, (many, (r .departures, tt)))) tt u)))) (id⊢ 𝓤 _) $ await ! tt $ pick ! (λ u.
         split ! $ move ! (1 ∷ []) $
         use1 W (some (λ (cs : Tally × (Unit {0} × (Unit {0} × (Unit {0} × Unit {0})))). ‵ (lasts count.ended (κ₃, tt) (xc, (r .ran, (many, (r .departures, tt)))) cs) ⊛ raw (fact 𝓤 (cs .0 ≡ countedAs (r .ran) many (r .departures) c)))) (id⊢ 𝓤 _) $ pick ! (λ cs.
         split ! $ move ! (1 ∷ []) $ heard ! (cs .0 ≡ countedAs (r .ran) many (r .departures) c) (λ e₄. fsplit ! $
-        -- [the last tally; …; the token of tally and the result; _17; …]
+        -- [the last tally; …; the token of tally and the result; _20; …]
         move ! (2 ∷ []) $ split ! $ move ! (1 ∷ []) $ peeks ! unit (Is unit) (shows 𝓤 H A unit) u (w ∷ []) (λ iu.
         land ! (from ! (stop !)) (init ! 8 refl (nothing-lawful 𝓤 H A W .typed u _ iu .0)) $
-        assigns ! (of-opd ! (load ! (from ! (fld ! refl (stop !))) (look-in ! 22 (sub ! 0 refl (whole !))))) (from ! (stop !)) (init ! 38 refl (EL.lawful F.the-type F′.the-laws 𝓤 H A W tt .typed (r .fault) _ told .0)) $
-        returns ! (look ! 38 refl) $ forget ! 4 refl $ forget ! 6 refl $ forget ! 8 refl $ forget ! 10 refl $ forget ! 12 refl $ forget ! 14 refl $ forget ! 16 refl $ forget ! 18 refl $ forget ! 20 refl $ forget ! 22 refl $ forget ! 24 refl $ forget ! 26 refl $ forget ! 28 refl $ forget ! 30 refl $ forget ! 32 refl $ forget ! 34 refl $ forget ! 36 refl $ forget ! 38 refl $
-        move ! (38 ∷ 39 ∷ []) $ free1 ! $ move ! (36 ∷ 37 ∷ []) $ free1 ! $ move ! (34 ∷ 35 ∷ []) $ free1 ! $ move ! (32 ∷ 33 ∷ []) $ free1 ! $ move ! (30 ∷ 31 ∷ []) $ free1 ! $ move ! (28 ∷ 29 ∷ []) $ free1 ! $ move ! (26 ∷ 27 ∷ []) $ free1 ! $ move ! (24 ∷ 25 ∷ []) $ free1 ! $ move ! (22 ∷ 23 ∷ []) $ free1 ! $ move ! (20 ∷ 21 ∷ []) $ free1 ! $ move ! (18 ∷ 19 ∷ []) $ free1 ! $ move ! (16 ∷ 17 ∷ []) $ free1 ! $ move ! (14 ∷ 15 ∷ []) $ free1 ! $ move ! (12 ∷ 13 ∷ []) $ free1 ! $ move ! (10 ∷ 11 ∷ []) $ free1 ! $ move ! (8 ∷ 9 ∷ []) $ free1 ! $ move ! (6 ∷ 7 ∷ []) $ free1 ! $ move ! (4 ∷ 5 ∷ []) $ free1 ! $ free0 ! $
+        assigns ! (of-opd ! (load ! (from ! (fld ! refl (stop !))) (look-in ! 26 (sub ! 0 refl (whole !))))) (from ! (stop !)) (init ! 44 refl (EL.lawful F.the-type F′.the-laws 𝓤 H A W tt .typed (r .fault) _ told .0)) $
+        returns ! (look ! 44 refl) $ forget ! 4 refl $ forget ! 6 refl $ forget ! 8 refl $ forget ! 10 refl $ forget ! 12 refl $ forget ! 14 refl $ forget ! 16 refl $ forget ! 18 refl $ forget ! 20 refl $ forget ! 22 refl $ forget ! 24 refl $ forget ! 26 refl $ forget ! 28 refl $ forget ! 30 refl $ forget ! 32 refl $ forget ! 34 refl $ forget ! 36 refl $ forget ! 38 refl $ forget ! 40 refl $ forget ! 42 refl $ forget ! 44 refl $
+        move ! (44 ∷ 45 ∷ []) $ free1 ! $ move ! (42 ∷ 43 ∷ []) $ free1 ! $ move ! (40 ∷ 41 ∷ []) $ free1 ! $ move ! (38 ∷ 39 ∷ []) $ free1 ! $ move ! (36 ∷ 37 ∷ []) $ free1 ! $ move ! (34 ∷ 35 ∷ []) $ free1 ! $ move ! (32 ∷ 33 ∷ []) $ free1 ! $ move ! (30 ∷ 31 ∷ []) $ free1 ! $ move ! (28 ∷ 29 ∷ []) $ free1 ! $ move ! (26 ∷ 27 ∷ []) $ free1 ! $ move ! (24 ∷ 25 ∷ []) $ free1 ! $ move ! (22 ∷ 23 ∷ []) $ free1 ! $ move ! (20 ∷ 21 ∷ []) $ free1 ! $ move ! (18 ∷ 19 ∷ []) $ free1 ! $ move ! (16 ∷ 17 ∷ []) $ free1 ! $ move ! (14 ∷ 15 ∷ []) $ free1 ! $ move ! (12 ∷ 13 ∷ []) $ free1 ! $ move ! (10 ∷ 11 ∷ []) $ free1 ! $ move ! (8 ∷ 9 ∷ []) $ free1 ! $ move ! (6 ∷ 7 ∷ []) $ free1 ! $ move ! (4 ∷ 5 ∷ []) $ free1 ! $ free0 ! $
         move ! (1 ∷ []) $ split ! $
         -- [the token of tally; true; the result's; the last tally; …; the other tokens; the last values of table and answer]
         keep ! (5 ∷ 6 ∷ 7 ∷ 0 ∷ 8 ∷ 9 ∷ 3 ∷ []) $
@@ -309,88 +355,107 @@ module _ {M : Type 1} (𝓤 : URA M) (H : Heap 𝓤) (A : Atoms 𝓤) (W : Given
         sent : Is u64 (r .departures) (vint w64 (r .departures) ∷ [])
         sent = LL.owed E.the-type E′.the-laws r (endedVal r ∷ []) is .1 .1 .0
 
-    -- the second call: the slot runs, or is turned back
-    runs-on : (k : Checked) (v : Val) → Is K.the-row k (v ∷ []) → Found ts (length bs) ys k → Sq W (Looked v) (runs C Λ En mir.t-6 (atRet En Post))
-    runs-on k v ik e =
-        assigns ! (addr ! (from ! (fld ! refl (hop ! (look-in ! 32 (sub ! 0 refl (whole !))) (stop !))))) (from ! (stop !)) (init ! 12 refl (tt, tt)) $
-        assigns ! (agg ! (and-then ! (load ! (from ! (stop !)) (look ! 12 refl)) (and-then ! (load ! (from ! (fld ! refl (stop !))) (look-in ! 32 (sub ! 1 refl (whole !)))) (no-more !)))) (from ! (stop !)) (init ! 10 refl (tt, (tt, (record { fits = gt .0 }, tt)))) $
-        assigns ! (addr ! (from ! (fld ! refl (hop ! (look-in ! 28 (sub ! 0 refl (whole !))) (stop !))))) (from ! (stop !)) (init ! 8 refl (tt, tt)) $
-        assigns ! (agg ! (and-then ! (load ! (from ! (stop !)) (look ! 8 refl)) (and-then ! (load ! (from ! (fld ! refl (stop !))) (look-in ! 28 (sub ! 1 refl (whole !)))) (no-more !)))) (from ! (stop !)) (init ! 6 refl (tt, (tt, (record { fits = ga .0 }, tt)))) $
-        move ! (36 ∷ 38 ∷ 40 ∷ 41 ∷ []) $ group ! 4 $ use1 W (raw (CourseC 𝓤 H A at-mem run .pre (to-course k v))) (goes-course k v ik e) $
-        -- [what `run_checked` asks; _17; …; the tokens of records and tally; what tally owns]
-        calls-at ! fm (CourseC 𝓤 H A at-mem run) known-course (to-course k v)
-        (and-then ! (load ! (from ! (stop !)) (look ! 11 refl)) (and-then ! (load ! (from ! (stop !)) (look ! 7 refl)) (and-then ! (load ! (from ! (stop !)) (look ! 21 refl)) (and-then ! (load ! (from ! (stop !)) (look ! 23 refl)) (no-more !))))) (λ w.
+    -- the third call: the slot runs, or is turned back
+    runs-on : (v : Val) (k : Checked) (v′ : Val) → Is K.the-row k (v′ ∷ []) → Found ts (length bs) ys k → Sq W (AtCourse v v′) (runs C Λ En mir.t-9 (atRet En Post))
+    runs-on v k v′ ik e =
+        assigns ! (addr ! (from ! (fld ! refl (hop ! (look-in ! 38 (sub ! 0 refl (whole !))) (stop !))))) (from ! (stop !)) (init ! 12 refl (tt, tt)) $
+        assigns ! (agg ! (and-then ! (load ! (from ! (stop !)) (look ! 12 refl)) (and-then ! (load ! (from ! (fld ! refl (stop !))) (look-in ! 38 (sub ! 1 refl (whole !)))) (no-more !)))) (from ! (stop !)) (init ! 10 refl (tt, (tt, (record { fits = gt .0 }, tt)))) $
+        assigns ! (addr ! (from ! (fld ! refl (hop ! (look-in ! 34 (sub ! 0 refl (whole !))) (stop !))))) (from ! (stop !)) (init ! 8 refl (tt, tt)) $
+        assigns ! (agg ! (and-then ! (load ! (from ! (stop !)) (look ! 8 refl)) (and-then ! (load ! (from ! (fld ! refl (stop !))) (look-in ! 34 (sub ! 1 refl (whole !)))) (no-more !)))) (from ! (stop !)) (init ! 6 refl (tt, (tt, (record { fits = ga .0 }, tt)))) $
+        move ! (42 ∷ 44 ∷ 46 ∷ 47 ∷ []) $ group ! 4 $ use1 W (raw (CourseC 𝓤 H A at-mem run .pre (to-course k v′))) (goes-course k v′ ik e) $
+        -- [what `run_checked` asks; _20; …; the tokens of records and tally; what tally owns]
+        calls-at ! fm (CourseC 𝓤 H A at-mem run) known-course (to-course k v′)
+        (and-then ! (load ! (from ! (stop !)) (look ! 11 refl)) (and-then ! (load ! (from ! (stop !)) (look ! 7 refl)) (and-then ! (load ! (from ! (stop !)) (look ! 25 refl)) (and-then ! (load ! (from ! (stop !)) (look ! 29 refl)) (no-more !))))) (λ w.
         use1 W (later (some (λ (r : Ended). ((‵ (flft κ₀ q₀) ⊛ ‵ (flft κ₂ q₂) ⊛ ‵ ftrue) ⊛ ‵ (E.the-row .own r (w ∷ []))) ⊛ raw (ensured 𝓤 H A course.ended (course.clauses 𝓤 H A at-mem run) (κ₀, (κ₂, tt)) (course-args k) tt r)))) (id⊢ 𝓤 _) $ await ! tt $ pick ! (λ r.
         split ! $ move ! (1 ∷ []) $
         use1 W (some (λ (zs : List ℕ × (List ℕ × (Unit {0} × (Unit {0} × Unit {0})))). ‵ (lasts course.ended (κ₀, (κ₂, tt)) (course-args k) zs) ⊛ raw (fact 𝓤 (r ≡ endedOf (found k))) ⊛ raw (fact 𝓤 (zs .0 ≡ tableAfter ts (found k))) ⊛ raw (fact 𝓤 (zs .1 .0 ≡ answerAfter bs (found k))))) (id⊢ 𝓤 _) $ pick ! (λ zs.
         split ! $ move ! (1 ∷ []) $ split ! $ heard ! (r ≡ endedOf (found k)) (λ e₁. split ! $ heard ! (zs .0 ≡ tableAfter ts (found k)) (λ e₂. heard ! (zs .1 .0 ≡ answerAfter bs (found k)) (λ e₃.
         fsplit ! $ fsplit ! $ move ! (1 ∷ []) $ feqL ! (λ lt. move ! (1 ∷ []) $ fsplit ! $ fsplit ! $ move ! (1 ∷ []) $ feqL ! (λ la.
-        -- [the last answer; …; the last table; the tokens and the result; _17; …]
+        -- [the last answer; …; the last table; the tokens and the result; _20; …]
         move ! (3 ∷ []) $ split ! $ move ! (1 ∷ []) $ peeks ! E.the-row (Is E.the-row) (shows 𝓤 H A E.the-row) r (w ∷ []) (λ ir.
-        land ! (from ! (stop !)) (init ! 23 refl (LL.lawful E.the-type E′.the-laws 𝓤 H A W .typed r _ ir .0)) $
-        rewrite ! 23 (λ (u : Val). ‵ (fat fullShare E′.mir l₈ 0 u)) (ap only (LL.tells E.the-type E′.the-laws r (w ∷ []) ir)) refl $
+        land ! (from ! (stop !)) (init ! 27 refl (LL.lawful E.the-type E′.the-laws 𝓤 H A W .typed r _ ir .0)) $
+        rewrite ! 27 (λ (u : Val). ‵ (fat fullShare E′.mir l₉ 0 u)) (ap only (LL.tells E.the-type E′.the-laws r (w ∷ []) ir)) refl $
         drop ! $ split ! $ move ! (1 ∷ []) $ split ! $
-        -- [the token of answer; true; the token of table; the last answer; …; the last table; _17; …; the tokens of records and tally; what tally owns]
-        keep ! (6 ∷ 7 ∷ 8 ∷ 9 ∷ 10 ∷ 11 ∷ 12 ∷ 13 ∷ 14 ∷ 15 ∷ 16 ∷ 17 ∷ 18 ∷ 19 ∷ 20 ∷ 21 ∷ 22 ∷ 23 ∷ 24 ∷ 25 ∷ 26 ∷ 27 ∷ 28 ∷ 29 ∷ 30 ∷ 31 ∷ 32 ∷ 33 ∷ 34 ∷ 35 ∷ 36 ∷ 37 ∷ 38 ∷ 39 ∷ 40 ∷ 41 ∷ 2 ∷ 42 ∷ 0 ∷ 43 ∷ 5 ∷ 3 ∷ 44 ∷ []) $
-        counts v r (zs .0) (zs .1 .0) (subst (λ (us : List Val). Is E.the-row r us) (LL.tells E.the-type E′.the-laws r (w ∷ []) ir) ir) lt la
+        -- [the token of answer; true; the token of table; the last answer; …; the last table; _20; …; the tokens of records and tally; what tally owns]
+        keep ! (6 ∷ 7 ∷ 8 ∷ 9 ∷ 10 ∷ 11 ∷ 12 ∷ 13 ∷ 14 ∷ 15 ∷ 16 ∷ 17 ∷ 18 ∷ 19 ∷ 20 ∷ 21 ∷ 22 ∷ 23 ∷ 24 ∷ 25 ∷ 26 ∷ 27 ∷ 28 ∷ 29 ∷ 30 ∷ 31 ∷ 32 ∷ 33 ∷ 34 ∷ 35 ∷ 36 ∷ 37 ∷ 38 ∷ 39 ∷ 40 ∷ 41 ∷ 42 ∷ 43 ∷ 44 ∷ 45 ∷ 46 ∷ 47 ∷ 2 ∷ 48 ∷ 0 ∷ 49 ∷ 5 ∷ 3 ∷ 50 ∷ []) $
+        counts v v′ r (zs .0) (zs .1 .0) (subst (λ (us : List Val). Is E.the-row r us) (LL.tells E.the-type E′.the-laws r (w ∷ []) ir) ir) lt la
         (e₁ ∙ ap endedOf same) (e₂ ∙ ap (tableAfter ts) same) (e₃ ∙ ap (answerAfter bs) same))))))))))
       where
         same : found k ≡ outcome
-        same = found-outcome ts (length bs) ys k (checked-size k (v ∷ []) ik) e
+        same = found-outcome ts (length bs) ys k (checked-size k (v′ ∷ []) ik) e
 
-    -- the first call: the table is lent for it, and the records are looked at
-    checks : Sq W Entered (runs C Λ En mir.t-1 (atRet En Post))
-    checks =
-        assigns ! (of-opd ! (load ! (from ! (fld ! refl (stop !))) (look-in ! 28 (sub ! 1 refl (whole !))))) (from ! (stop !)) (init ! 24 refl (tt, record { fits = ga .0 })) $
-        assigns ! (of-opd ! (load ! (from ! (fld ! refl (stop !))) (look-in ! 30 (sub ! 1 refl (whole !))))) (from ! (stop !)) (init ! 22 refl (tt, record { fits = gy .0 })) $
-        assigns ! (addr ! (from ! (fld ! refl (hop ! (look-in ! 32 (sub ! 0 refl (whole !))) (stop !))))) (from ! (stop !)) (init ! 16 refl (tt, tt)) $
-        assigns ! (agg ! (and-then ! (load ! (from ! (stop !)) (look ! 16 refl)) (and-then ! (load ! (from ! (fld ! refl (stop !))) (look-in ! 32 (sub ! 1 refl (whole !)))) (no-more !)))) (from ! (stop !)) (init ! 14 refl (tt, (tt, (record { fits = gt .0 }, tt)))) $
-        -- the table is lent for a lifetime ν of the call
-        lft-new ! tt (λ ν. move ! (41 ∷ 37 ∷ []) $
-        use2 W (later (some (λ (δ : GName). ‵ (ShrSlice (named 0) (ν ∷ []) u8 .own (xt δ) (vt ∷ [])) ⊛ ‵ (LentShared u8 κ₀ (ν ∷ []) q₀ γt bt ot ts)))) (lends-shared u8 κ₀ (ν ∷ []) q₀ γt bt ot ts 𝓤 H A W (named 0) (named 0)) $ await ! tt $ pick ! (λ δ. split ! $
-        move ! (0 ∷ 42 ∷ 2 ∷ 39 ∷ []) $ group ! 4 $ use1 W (raw (CheckC 𝓤 H A at-mem run .pre (to-check ν δ))) (goes-check ν δ) $
-        -- [what `check_records` asks; what is kept of table; _17; …; the tokens of answer and tally; what answer and tally own]
-        calls-at ! fm (CheckC 𝓤 H A at-mem run) known-check (to-check ν δ) (and-then ! (load ! (from ! (stop !)) (look ! 16 refl)) (and-then ! (load ! (from ! (stop !)) (look ! 26 refl)) (and-then ! (load ! (from ! (stop !)) (look ! 32 refl)) (no-more !)))) (λ w.
-        use1 W (later (some (λ (k : Checked). ((‵ (flft (ν ∷ []) fullShare) ⊛ ‵ (flft κ₁ q₁) ⊛ ‵ ftrue) ⊛ ‵ (K.the-row .own k (w ∷ []))) ⊛ raw (ensured 𝓤 H A check.ended (check.clauses 𝓤 H A at-mem run) (ν ∷ [], (κ₁, tt)) (xt δ, (length bs, (y, tt))) tt k)))) (id⊢ 𝓤 _) $ await ! tt $ pick ! (λ k.
-        split ! $ move ! (1 ∷ []) $ use1 W (raw (fact 𝓤 (Found ts (length bs) ys k))) (check-said ν δ k) $ heard ! (Found ts (length bs) ys k) (λ e. split ! $ split ! $ move ! (2 ∷ []) $
-        peeks ! K.the-row (Is K.the-row) (shows 𝓤 H A K.the-row) k (w ∷ []) (λ ik.
-        land ! (from ! (stop !)) (init ! 24 refl (LL.lawful K.the-type K′.the-laws 𝓤 H A W .typed k _ ik .0)) $ drop ! $
+    -- the second call: the table is lent for it, and the records are looked at
+    checks : (k : Checked) (v : Val) → Is K.the-row k (v ∷ []) → Begins k → Sq W (AtCheck v) (runs C Λ En mir.t-6 (atRet En Post))
+    checks k v ik e =
+        assigns ! (addr ! (from ! (fld ! refl (hop ! (look-in ! 38 (sub ! 0 refl (whole !))) (stop !))))) (from ! (stop !)) (init ! 16 refl (tt, tt)) $
+        assigns ! (agg ! (and-then ! (load ! (from ! (stop !)) (look ! 16 refl)) (and-then ! (load ! (from ! (fld ! refl (stop !))) (look-in ! 38 (sub ! 1 refl (whole !)))) (no-more !)))) (from ! (stop !)) (init ! 14 refl (tt, (tt, (record { fits = gt .0 }, tt)))) $
+        lft-new ! tt (λ ν. move ! (47 ∷ 43 ∷ []) $
+        use2 W (later (some (λ (δ : GName). ‵ (LentT ν δ) ⊛ ‵ (LentShared u8 κ₀ (ν ∷ []) q₀ γt bt ot ts)))) (lends-shared u8 κ₀ (ν ∷ []) q₀ γt bt ot ts 𝓤 H A W (named 0) (named 0)) $ await ! tt $ pick ! (λ δ. split ! $
+        move ! (0 ∷ 48 ∷ 2 ∷ 45 ∷ []) $ group ! 4 $ use1 W (raw (CheckC 𝓤 H A at-mem run .pre (to-check ν δ k v))) (goes-check ν δ k v ik e) $
+        -- [what `check_records` asks; what is kept of table; _20; …; the tokens of answer and tally; what answer and tally own]
+        calls-at ! fm (CheckC 𝓤 H A at-mem run) known-check (to-check ν δ k v) (and-then ! (load ! (from ! (stop !)) (look ! 16 refl)) (and-then ! (load ! (from ! (stop !)) (look ! 28 refl)) (and-then ! (load ! (from ! (stop !)) (look ! 38 refl)) (no-more !)))) (λ w.
+        use1 W (later (some (λ (k′ : Checked). ((‵ (flft (ν ∷ []) fullShare) ⊛ ‵ (flft κ₁ q₁) ⊛ ‵ ftrue) ⊛ ‵ (K.the-row .own k′ (w ∷ []))) ⊛ raw (ensured 𝓤 H A check.ended (check.clauses 𝓤 H A at-mem run) (ν ∷ [], (κ₁, tt)) (check-args δ k) tt k′)))) (id⊢ 𝓤 _) $ await ! tt $ pick ! (λ k′.
+        split ! $ move ! (1 ∷ []) $ use1 W (raw (fact 𝓤 (Finds k k′))) (check-said ν δ k k′) $ heard ! (Finds k k′) (λ e′. split ! $ split ! $ move ! (2 ∷ []) $
+        peeks ! K.the-row (Is K.the-row) (shows 𝓤 H A K.the-row) k′ (w ∷ []) (λ ik′.
+        land ! (from ! (stop !)) (init ! 28 refl (LL.lawful K.the-type K′.the-laws 𝓤 H A W .typed k′ _ ik′ .0)) $ drop ! $
         -- the lifetime is ended, and the table comes back
         lft-end ! tt $ move ! (0 ∷ 2 ∷ []) $ use2 W (later (‵ OwnT ⊛ ‵ (flft κ₀ q₀))) (shared-back u8 κ₀ (ν ∷ []) q₀ γt bt ot ts 𝓤 H A W (named 0) (named 0) gt) $ await ! tt $ split ! $ move ! (2 ∷ []) $ split ! $
-        -- [the token of records; true; what table owns; its token; _17; …; the tokens of answer and tally; what answer and tally own]
-        keep ! (4 ∷ 5 ∷ 6 ∷ 7 ∷ 8 ∷ 9 ∷ 10 ∷ 11 ∷ 12 ∷ 13 ∷ 14 ∷ 15 ∷ 16 ∷ 17 ∷ 18 ∷ 19 ∷ 20 ∷ 21 ∷ 22 ∷ 23 ∷ 24 ∷ 25 ∷ 26 ∷ 27 ∷ 28 ∷ 29 ∷ 30 ∷ 31 ∷ 32 ∷ 33 ∷ 34 ∷ 35 ∷ 36 ∷ 37 ∷ 38 ∷ 39 ∷ 3 ∷ 0 ∷ 40 ∷ 41 ∷ 2 ∷ 42 ∷ 43 ∷ []) $ runs-on k w ik e))))))
+        -- [the token of records; true; what table owns; its token; _20; …; the tokens of answer and tally; what answer and tally own]
+        keep ! (4 ∷ 5 ∷ 6 ∷ 7 ∷ 8 ∷ 9 ∷ 10 ∷ 11 ∷ 12 ∷ 13 ∷ 14 ∷ 15 ∷ 16 ∷ 17 ∷ 18 ∷ 19 ∷ 20 ∷ 21 ∷ 22 ∷ 23 ∷ 24 ∷ 25 ∷ 26 ∷ 27 ∷ 28 ∷ 29 ∷ 30 ∷ 31 ∷ 32 ∷ 33 ∷ 34 ∷ 35 ∷ 36 ∷ 37 ∷ 38 ∷ 39 ∷ 40 ∷ 41 ∷ 42 ∷ 43 ∷ 44 ∷ 45 ∷ 3 ∷ 0 ∷ 46 ∷ 47 ∷ 2 ∷ 48 ∷ 49 ∷ []) $ runs-on v k′ w ik′ (e′ (length bs) (e ys))))))))
 
-  module _ (C : Calls 𝓤 H) (Λ : Loops 𝓤 H) (fm : FmC 𝓤 H (W .laws) C) (known-check : Triple 𝓤 (C #entry·records·check-records) (CheckC 𝓤 H A at-mem run)) (known-course : Triple 𝓤 (C #entry·running·run-checked) (CourseC 𝓤 H A at-mem run)) (known-count : Triple 𝓤 (C #tally·count) (CountC 𝓤 H A at-mem run)) where
+    -- the first call: the table is lent for it, and it, the room for the answer and the clock are looked at
+    opens : Sq W Entered (runs C Λ En mir.t-1 (atRet En Post))
+    opens =
+        assigns ! (of-opd ! (load ! (from ! (fld ! refl (stop !))) (look-in ! 34 (sub ! 1 refl (whole !))))) (from ! (stop !)) (init ! 30 refl (tt, record { fits = ga .0 })) $
+        assigns ! (of-opd ! (load ! (from ! (fld ! refl (stop !))) (look-in ! 36 (sub ! 1 refl (whole !))))) (from ! (stop !)) (init ! 28 refl (tt, record { fits = gy .0 })) $
+        assigns ! (addr ! (from ! (fld ! refl (hop ! (look-in ! 38 (sub ! 0 refl (whole !))) (stop !))))) (from ! (stop !)) (init ! 20 refl (tt, tt)) $
+        assigns ! (agg ! (and-then ! (load ! (from ! (stop !)) (look ! 20 refl)) (and-then ! (load ! (from ! (fld ! refl (stop !))) (look-in ! 38 (sub ! 1 refl (whole !)))) (no-more !)))) (from ! (stop !)) (init ! 18 refl (tt, (tt, (record { fits = gt .0 }, tt)))) $
+        -- the table is lent for a lifetime ν of the call
+        lft-new ! tt (λ ν. move ! (47 ∷ 43 ∷ []) $
+        use2 W (later (some (λ (δ : GName). ‵ (LentT ν δ) ⊛ ‵ (LentShared u8 κ₀ (ν ∷ []) q₀ γt bt ot ts)))) (lends-shared u8 κ₀ (ν ∷ []) q₀ γt bt ot ts 𝓤 H A W (named 0) (named 0)) $ await ! tt $ pick ! (λ δ. split ! $
+        move ! (0 ∷ 2 ∷ []) $ use2 W (raw (BeforeC 𝓤 H A at-mem run .pre (to-before ν δ))) (goes-before ν δ) $
+        -- [what `before_records` asks; what is kept of table; _20; …; the tokens of the others; what they own]
+        calls-at ! fm (BeforeC 𝓤 H A at-mem run) known-before (to-before ν δ) (and-then ! (load ! (from ! (stop !)) (look ! 20 refl)) (and-then ! (load ! (from ! (stop !)) (look ! 32 refl)) (no-more !))) (λ w.
+        use1 W (later (some (λ (k : Checked). ((‵ (flft (ν ∷ []) fullShare) ⊛ ‵ ftrue) ⊛ ‵ (K.the-row .own k (w ∷ []))) ⊛ raw (ensured 𝓤 H A before.ended (before.clauses 𝓤 H A at-mem run) (ν ∷ [], tt) (xt δ, (length bs, tt)) tt k)))) (id⊢ 𝓤 _) $ await ! tt $ pick ! (λ k.
+        split ! $ move ! (1 ∷ []) $ use1 W (raw (fact 𝓤 (Begins k))) (before-said ν δ k) $ heard ! (Begins k) (λ e. split ! $ split ! $ move ! (2 ∷ []) $
+        peeks ! K.the-row (Is K.the-row) (shows 𝓤 H A K.the-row) k (w ∷ []) (λ ik.
+        land ! (from ! (stop !)) (init ! 30 refl (LL.lawful K.the-type K′.the-laws 𝓤 H A W .typed k _ ik .0)) $ drop ! $
+        -- the lifetime is ended, and the table comes back
+        lft-end ! tt $ move ! (0 ∷ 2 ∷ []) $ use2 W (later (‵ OwnT ⊛ ‵ (flft κ₀ q₀))) (shared-back u8 κ₀ (ν ∷ []) q₀ γt bt ot ts 𝓤 H A W (named 0) (named 0) gt) $ await ! tt $ split ! $
+        -- [what table owns; its token; true; _20; …; the tokens of the others; what they own]
+        keep ! (3 ∷ 4 ∷ 5 ∷ 6 ∷ 7 ∷ 8 ∷ 9 ∷ 10 ∷ 11 ∷ 12 ∷ 13 ∷ 14 ∷ 15 ∷ 16 ∷ 17 ∷ 18 ∷ 19 ∷ 20 ∷ 21 ∷ 22 ∷ 23 ∷ 24 ∷ 25 ∷ 26 ∷ 27 ∷ 28 ∷ 29 ∷ 30 ∷ 31 ∷ 32 ∷ 33 ∷ 34 ∷ 35 ∷ 36 ∷ 37 ∷ 38 ∷ 39 ∷ 40 ∷ 41 ∷ 42 ∷ 43 ∷ 44 ∷ 1 ∷ 45 ∷ 46 ∷ 47 ∷ 0 ∷ 48 ∷ 49 ∷ 50 ∷ []) $ checks k w ik e))))))
+
+  module _ (C : Calls 𝓤 H) (Λ : Loops 𝓤 H) (fm : FmC 𝓤 H (W .laws) C) (known-before : Triple 𝓤 (C #entry·records·before-records) (BeforeC 𝓤 H A at-mem run)) (known-check : Triple 𝓤 (C #entry·records·check-records) (CheckC 𝓤 H A at-mem run)) (known-course : Triple 𝓤 (C #entry·running·run-checked) (CourseC 𝓤 H A at-mem run)) (known-count : Triple 𝓤 (C #tally·count) (CountC 𝓤 H A at-mem run)) where
     walk : ent 𝓤 (onEntry 𝓤 H A f.signature (κ₀, (κ₁, (κ₂, (κ₃, tt)))) (q₀, (q₁, (q₂, (q₃, tt)))) args at) (WpFn 𝓤 H C Λ code.function (vt ∷ vy ∷ va ∷ vptr bc oc ∷ []) Post)
     walk =
         qed W ((‵ (flft κ₀ q₀) ⊛ ‵ (flft κ₁ q₁) ⊛ ‵ (flft κ₂ q₂) ⊛ ‵ (flft κ₃ q₃) ⊛ ‵ ftrue) ∷ ‵ (owns (MutSlice (named 0) κ₀ u8 ∷ ShrSlice (named 1) κ₁ R.the-row ∷ MutSlice (named 2) κ₂ u8 ∷ MutRef (named 3) κ₃ Y.the-row ∷ []) args at) ∷ []) ∵
         enter ! C Λ code.function (vt ∷ vy ∷ va ∷ vptr bc oc ∷ []) _ $
-        alloc1 ! (λ l₀. alloc1 ! (λ l₁. alloc1 ! (λ l₂. alloc1 ! (λ l₃. alloc1 ! (λ l₄. alloc1 ! (λ l₅. alloc1 ! (λ l₆. alloc1 ! (λ l₇. alloc1 ! (λ l₈. alloc1 ! (λ l₉. alloc1 ! (λ l₁₀. alloc1 ! (λ l₁₁. alloc1 ! (λ l₁₂. alloc1 ! (λ l₁₃. alloc1 ! (λ l₁₄. alloc1 ! (λ l₁₅. alloc1 ! (λ l₁₆. alloc1 ! (λ l₁₇. alloc0 ! $ params1 ! $
-        pass1 ! (init ! 32 refl (tt, (tt, (record { fits = gt .0 }, tt)))) $ pass1 ! (init ! 30 refl (tt, (tt, (record { fits = gy .0 }, tt)))) $ pass1 ! (init ! 28 refl (tt, (tt, (record { fits = ga .0 }, tt)))) $ pass1 ! (init ! 26 refl (tt, tt)) $ pass0 ! $
-        move ! (37 ∷ []) $ fsplit ! $ move ! (1 ∷ []) $ fsplit ! $ move ! (1 ∷ []) $ fsplit ! $ move ! (1 ∷ []) $ fsplit ! $
-        -- [what tally owns; true; answer; records; table; _17; …; the tokens]
-        move ! (41 ∷ []) $ split ! $ move ! (1 ∷ []) $ split ! $ move ! (1 ∷ []) $ split ! $ move ! (1 ∷ []) $ split ! $
-        -- [the token of tally; true; answer; records; table; what tally owns; true; answer; records; table; _17; …]
-        keep ! (10 ∷ 11 ∷ 12 ∷ 13 ∷ 14 ∷ 15 ∷ 16 ∷ 17 ∷ 18 ∷ 19 ∷ 20 ∷ 21 ∷ 22 ∷ 23 ∷ 24 ∷ 25 ∷ 26 ∷ 27 ∷ 28 ∷ 29 ∷ 30 ∷ 31 ∷ 32 ∷ 33 ∷ 34 ∷ 35 ∷ 36 ∷ 37 ∷ 38 ∷ 39 ∷ 40 ∷ 41 ∷ 42 ∷ 43 ∷ 44 ∷ 45 ∷ 4 ∷ 3 ∷ 2 ∷ 0 ∷ 9 ∷ 8 ∷ 7 ∷ 5 ∷ []) $ checks C Λ fm known-check known-course known-count l₀ l₁ l₂ l₃ l₄ l₅ l₆ l₇ l₈ l₉ l₁₀ l₁₁ l₁₂ l₁₃ l₁₄ l₁₅ l₁₆ l₁₇))))))))))))))))))
+        alloc1 ! (λ l₀. alloc1 ! (λ l₁. alloc1 ! (λ l₂. alloc1 ! (λ l₃. alloc1 ! (λ l₄. alloc1 ! (λ l₅. alloc1 ! (λ l₆. alloc1 ! (λ l₇. alloc1 ! (λ l₈. alloc1 ! (λ l₉. alloc1 ! (λ l₁₀. alloc1 ! (λ l₁₁. alloc1 ! (λ l₁₂. alloc1 ! (λ l₁₃. alloc1 ! (λ l₁₄. alloc1 ! (λ l₁₅. alloc1 ! (λ l₁₆. alloc1 ! (λ l₁₇. alloc1 ! (λ l₁₈. alloc1 ! (λ l₁₉. alloc1 ! (λ l₂₀. alloc0 ! $ params1 ! $
+        pass1 ! (init ! 38 refl (tt, (tt, (record { fits = gt .0 }, tt)))) $ pass1 ! (init ! 36 refl (tt, (tt, (record { fits = gy .0 }, tt)))) $ pass1 ! (init ! 34 refl (tt, (tt, (record { fits = ga .0 }, tt)))) $ pass1 ! (init ! 32 refl (tt, tt)) $ pass0 ! $
+        move ! (43 ∷ []) $ fsplit ! $ move ! (1 ∷ []) $ fsplit ! $ move ! (1 ∷ []) $ fsplit ! $ move ! (1 ∷ []) $ fsplit ! $
+        -- [what tally owns; true; answer; records; table; _20; …; the tokens]
+        move ! (47 ∷ []) $ split ! $ move ! (1 ∷ []) $ split ! $ move ! (1 ∷ []) $ split ! $ move ! (1 ∷ []) $ split ! $
+        -- [the token of tally; true; answer; records; table; what tally owns; true; answer; records; table; _20; …]
+        keep ! (10 ∷ 11 ∷ 12 ∷ 13 ∷ 14 ∷ 15 ∷ 16 ∷ 17 ∷ 18 ∷ 19 ∷ 20 ∷ 21 ∷ 22 ∷ 23 ∷ 24 ∷ 25 ∷ 26 ∷ 27 ∷ 28 ∷ 29 ∷ 30 ∷ 31 ∷ 32 ∷ 33 ∷ 34 ∷ 35 ∷ 36 ∷ 37 ∷ 38 ∷ 39 ∷ 40 ∷ 41 ∷ 42 ∷ 43 ∷ 44 ∷ 45 ∷ 46 ∷ 47 ∷ 48 ∷ 49 ∷ 50 ∷ 51 ∷ 4 ∷ 3 ∷ 2 ∷ 0 ∷ 9 ∷ 8 ∷ 7 ∷ 5 ∷ []) $ opens C Λ fm known-before known-check known-course known-count l₀ l₁ l₂ l₃ l₄ l₅ l₆ l₇ l₈ l₉ l₁₀ l₁₁ l₁₂ l₁₃ l₁₄ l₁₅ l₁₆ l₁₇ l₁₈ l₁₉ l₂₀)))))))))))))))))))))
 
 module _ {M : Type 1} (𝓤 : URA M) (H : Heap 𝓤) (A : Atoms 𝓤) (W : Given 𝓤 H A) (at-mem : Memory → SProp 𝓤) (run : Routine → Fun 𝓤) where
-  slot-walks : (C : Calls 𝓤 H) (Λ : Loops 𝓤 H) → FmC 𝓤 H (W .laws) C → Triple 𝓤 (C #entry·records·check-records) (CheckC 𝓤 H A at-mem run) → Triple 𝓤 (C #entry·running·run-checked) (CourseC 𝓤 H A at-mem run) → Triple 𝓤 (C #tally·count) (CountC 𝓤 H A at-mem run)
+  slot-walks : (C : Calls 𝓤 H) (Λ : Loops 𝓤 H) → FmC 𝓤 H (W .laws) C → Triple 𝓤 (C #entry·records·before-records) (BeforeC 𝓤 H A at-mem run) → Triple 𝓤 (C #entry·records·check-records) (CheckC 𝓤 H A at-mem run) → Triple 𝓤 (C #entry·running·run-checked) (CourseC 𝓤 H A at-mem run) → Triple 𝓤 (C #tally·count) (CountC 𝓤 H A at-mem run)
       → Walks 𝓤 H A f.ended stayed (WpFn 𝓤 H C Λ code.function) (f.clauses 𝓤 H A at-mem run)
-  slot-walks C Λ fm known-check known-course known-count = walked 𝓤 H A f.ended stayed (f.clauses 𝓤 H A at-mem run) (WpFn 𝓤 H C Λ code.function)
+  slot-walks C Λ fm known-before known-check known-course known-count = walked 𝓤 H A f.ended stayed (f.clauses 𝓤 H A at-mem run) (WpFn 𝓤 H C Λ code.function)
       (λ κs. (slice-vals, (slice-vals, (slice-vals, (ptr-vals, tt))))) (λ κs. (mut-slice-tells (named 0) (κs .0) u8, (shr-slice-tells (named 1) (κs .1 .0) R.the-row, (mut-slice-tells (named 2) (κs .1 .1 .0) u8, (mut-tells (named 3) (κs .1 .1 .1 .0) Y.the-row, tt)))))
       (λ κs qs bounds a g are. via 𝓤 _ (fst∗ 𝓤 _ (emp 𝓤)) (walk 𝓤 H A W at-mem run (κs .0) (κs .1 .0) (κs .1 .1 .0) (κs .1 .1 .1 .0) (qs .0) (qs .1 .0) (qs .1 .1 .0) (qs .1 .1 .1 .0)
       (a .0 .ptr .0) (a .0 .ptr .1) (a .0 .name) (a .0 .now) (are .0 .0 .1) (a .1 .0) (are .1 .0 .0 .1) (a .1 .1 .0 .ptr .0) (a .1 .1 .0 .ptr .1) (a .1 .1 .0 .name) (a .1 .1 .0 .now) (are .1 .1 .0 .0 .1)
-      (a .1 .1 .1 .0 .ptr .0) (a .1 .1 .1 .0 .ptr .1) (a .1 .1 .1 .0 .name) (a .1 .1 .1 .0 .now) C Λ fm known-check known-course known-count))
+      (a .1 .1 .1 .0 .ptr .0) (a .1 .1 .1 .0 .ptr .1) (a .1 .1 .1 .0 .name) (a .1 .1 .1 .0 .now) C Λ fm known-before known-check known-course known-count))
 
   goes : AllGo 𝓤 H A W 4 (f.signature .params) (f.ended .kept) stayed
   goes = (goes-gave-slice 𝓤 H A W 4 0 tt (plain (λ _. u8)), (goes-dropped 𝓤 H A W 4 (shrSliceOf (1 ∷ []) tt (plain (λ _. R.the-row))) yes (λ κs x f. refl), (goes-gave-slice 𝓤 H A W 4 2 tt (plain (λ _. u8)), (goes-gave-ref 𝓤 H A W 4 3 tt (plain (λ _. Y.the-row)), tt))))
 
 slot-meets : {M : Type 1} (𝓤 : URA M) (H : Heap 𝓤) (A : Atoms 𝓤) → Given 𝓤 H A → (at-mem : Memory → SProp 𝓤) (run : Routine → Fun 𝓤) (𝓣 : Tables 𝓤 H)
-    → Triple 𝓤 (𝓣 .C #entry·records·check-records) (CheckC 𝓤 H A at-mem run) → Triple 𝓤 (𝓣 .C #entry·running·run-checked) (CourseC 𝓤 H A at-mem run) → Triple 𝓤 (𝓣 .C #tally·count) (CountC 𝓤 H A at-mem run)
+    → Triple 𝓤 (𝓣 .C #entry·records·before-records) (BeforeC 𝓤 H A at-mem run) → Triple 𝓤 (𝓣 .C #entry·records·check-records) (CheckC 𝓤 H A at-mem run) → Triple 𝓤 (𝓣 .C #entry·running·run-checked) (CourseC 𝓤 H A at-mem run) → Triple 𝓤 (𝓣 .C #tally·count) (CountC 𝓤 H A at-mem run)
     → Meets 𝓤 H A f.signature (WpFn 𝓤 H (𝓣 .C) (𝓣 .Λ) code.function) (f.spec 𝓤 H A at-mem run)
-slot-meets 𝓤 H A W at-mem run 𝓣 known-check known-course known-count =
+slot-meets 𝓤 H A W at-mem run 𝓣 known-before known-check known-course known-count =
     walk-meets 𝓤 H A f.ended stayed W (goes 𝓤 H A W at-mem run) (f.clauses 𝓤 H A at-mem run) (WpFn 𝓤 H (𝓣 .C) (𝓣 .Λ) code.function) (WpFn-mono 𝓤 H (W .laws) 𝓣 code.function)
-    (slot-walks 𝓤 H A W at-mem run (𝓣 .C) (𝓣 .Λ) (fmOf 𝓤 H (W .laws) 𝓣) known-check known-course known-count)
+    (slot-walks 𝓤 H A W at-mem run (𝓣 .C) (𝓣 .Λ) (fmOf 𝓤 H (W .laws) 𝓣) known-before known-check known-course known-count)
 
 pub slot-spec : {M : Type 1} → stated.statement M
 unfolding code.routine tablesOf
@@ -398,6 +463,7 @@ slot-spec 𝓤 H 𝓜 𝓖 𝓡 =
     entered 𝓤 H (tripleOf 𝓤 H (𝓖 .A) f.signature (f.spec 𝓤 H (𝓖 .A) (𝓜 .mem) (𝓡 .run)))
     (tables 𝓤 H 𝓜 𝓡 code.env .C) (tables 𝓤 H 𝓜 𝓡 code.env .Λ) #entry·slot code.function (code.unfolded 𝓤 H 𝓜 𝓡)
     (slot-meets 𝓤 H (𝓖 .A) (givenOf 𝓤 H 𝓜 𝓖) (𝓜 .mem) (𝓡 .run) (tablesOf 𝓤 H 𝓜 (tables 𝓤 H 𝓜 𝓡 code.env))
+    (cited 𝓤 H (BeforeC 𝓤 H (𝓖 .A) (𝓜 .mem) (𝓡 .run)) 𝓜 𝓡 code.env #entry·records·before-records before-def.routine code.calls-entry·records·before-records (before-thm.met 𝓤 H 𝓜 𝓖 𝓡))
     (cited 𝓤 H (CheckC 𝓤 H (𝓖 .A) (𝓜 .mem) (𝓡 .run)) 𝓜 𝓡 code.env #entry·records·check-records check-def.routine code.calls-entry·records·check-records (check-thm.met 𝓤 H 𝓜 𝓖 𝓡))
     (cited 𝓤 H (CourseC 𝓤 H (𝓖 .A) (𝓜 .mem) (𝓡 .run)) 𝓜 𝓡 code.env #entry·running·run-checked course-def.routine code.calls-entry·running·run-checked (course-thm.met 𝓤 H 𝓜 𝓖 𝓡))
     (cited 𝓤 H (CountC 𝓤 H (𝓖 .A) (𝓜 .mem) (𝓡 .run)) 𝓜 𝓡 code.env #tally·count count-def.routine code.calls-tally·count (count-thm.met 𝓤 H 𝓜 𝓖 𝓡)))
