@@ -3,10 +3,9 @@
 --     place-front, place-behind, place-below  how many entries stand before a new cell
 --     enter-place                            entering puts it behind them
 --     place-found, place-none                the same by the entries' numbers
---     copied-up                              a record copied by two numbers of 64 bits
 --     new-written                            a new entry written over a record
 --     place-within, entered-bytes            the bytes of a switch that a cell has entered
-use Prim.Native.Nat.{ℕ, suc, _+_, _*_, _-_, _^_, _≤_, _<_}
+use Prim.Native.Nat.{ℕ, suc, _+_, _*_, _-_, _≤_, _<_}
 use mathlib.Core.Bool.{Bool, true, false, _&&_}
 use mathlib.Core.Path.{_≡_, refl, sym, _∙_, ap, ap₂, subst}
 use mathlib.Core.List.{List, [], _∷_, _++_, List·Memᴰ, List·Memᴰ·head, List·Memᴰ·tail, Memᴰ·append-right}
@@ -26,28 +25,27 @@ use Rattle.model.specs.State.{Entry, isListed}
 use Rattle.model.specs.Crossbar.{inListOf, newEntry, enter}
 use Rattle.model.proofs.SoundArrival.{Enters, front, behind, enters, length-enter}
 use Rattle.layout.specs.Entry.{entryAt, portsIn, countIn}
-use Rattle.layout.specs.Number.{bytesOf, numberAt}
-use Rattle.layout.specs.Records.{recordStart, recordAt}
+use Rattle.layout.specs.Number.{bytesOf}
+use Rattle.layout.specs.Records.{recordStart}
 use Rattle.layout.specs.Table.{entrySize, placeOf, entryBytes, entriesBytes, sectionBytes, stateOf, encode, IsTable}
-use Rattle.layout.specs.Table.{tableSize}
-use Rattle.layout.proofs.Halves.{read-halves, put-halves}
-use Rattle.layout.proofs.Number.{bytes?, bytes?-take, bytes?-drop, bytesOf-numberOf, numberAt-below}
+use Rattle.layout.proofs.Put.{put}
 use Rattle.layout.proofs.Table.{length-entryBytes, length-entriesBytes}
 use Rattle.table.specs.Entries.{entryWith, flowWord}
-use Rattle.arrival.specs.Arrival.{entered, enterPlace, put, movedUp}
+use Rattle.table.proofs.Fields.{placeOf-listed}
+use Rattle.arrival.specs.Arrival.{entered, enterPlace, movedUp}
 use Rattle.arrival.specs.Fault.{sectionIn}
 use Rattle.arrival.proofs.Faults.{none?-at}
 use Rattle.arrival.proofs.Insert.{Around, encode-around, changedAt}
 use Rattle.arrival.proofs.Insert.{zerosAfter, section-old, section-new, insert-entry}
 use Rattle.arrival.proofs.Stored.{table-encode, ports-below, sections-number, section-sound, section-length}
-use Rattle.arrival.proofs.Stored.{section-entry, listed-byte}
+use Rattle.arrival.proofs.Stored.{section-entry}
 
 ------------------------------------------------------------------------
 -- an entry in the list of a flow
 
 in-list-listed : (c : Cell) (e : Entry) (b : ℕ) → placeOf b ≡ e .place → inListOf c e ≡ eqb b 1 && sameFlow (e .cell) c
 unfolding inListOf
-in-list-listed c e b q = ap (λ x. x && sameFlow (e .cell) c) (ap isListed (sym q) ∙ listed-byte b)
+in-list-listed c e b q = ap (λ x. x && sameFlow (e .cell) c) (ap isListed (sym q) ∙ placeOf-listed b)
 
 -- by the first number of its record
 pub in-list-word : (c : Cell) (e : Entry) (b n flow : ℕ) → placeOf b ≡ e .place → n ≡ flowWord (e .cell) + 65536 * b
@@ -167,37 +165,14 @@ module _ (bs : List ℕ) (t : IsTable bs) (c : Cell) (within : c .input < portsI
       omega arith
 
 ------------------------------------------------------------------------
--- a record copied up
-
-pub copied-up : (k from to low high : ℕ) (old mid new : List ℕ) → bytes? old ≡ true → length old ≡ tableSize → k < 1023
-    → from ≡ recordStart k → to ≡ recordStart (k + 1)
-    → low ≡ numberAt 8 from old → high ≡ numberAt 8 (from + 8) old
-    → mid ≡ take to old ++ (bytesOf 8 low ++ drop (to + 8) old)
-    → new ≡ take (to + 8) mid ++ (bytesOf 8 high ++ drop (to + 8 + 8) mid)
-    → new ≡ put (recordStart (k + 1)) (recordAt old k) old
-unfolding put recordAt numberAt
-copied-up k from to low high old mid new b size few f t l h first second =
-    let small : low < 256 ^ 8 = rw l (numberAt-below 8 from old b (omega arith)) in
-    let both : low + 256 ^ 8 * high ≡ numberAt 16 from old = read-halves 8 from low high old (omega arith) l h in
-    let count : length (take 16 (drop from old)) ≡ 16 =
-    length-take-le 16 (drop from old) (simp length-drop (omega arith)) in
-    let same : bytesOf 16 (numberAt 16 from old) ≡ take 16 (drop from old) =
-    bytesOf-numberOf 16 (take 16 (drop from old)) (bytes?-take 16 (drop from old) (bytes?-drop from old b)) count in
-    put-halves 8 to low high (numberAt 16 from old) old mid new (omega arith) first second small (sym both)
-    ∙ ap₂ (λ x n. take to old ++ (x ++ drop (to + n) old)) same (sym count)
-    ∙ ap₂ (λ x y. put x (take 16 (drop y old)) old) t f
-
-------------------------------------------------------------------------
 -- the entry of a new cell
 
 -- written over a record
 pub new-written : (k : ℕ) (c : Cell) (bs : List ℕ)
-    → take (recordStart k) bs ++ (entryBytes (entryWith c 1) ++ drop (recordStart k + entrySize) bs)
-    ≡ put (recordStart k) (entryBytes (newEntry c)) bs
-unfolding put entryWith newEntry placeOf
-new-written k c bs =
-    ap (λ n. take (recordStart k) bs ++ (entryBytes (newEntry c) ++ drop (recordStart k + n) bs))
-    (sym (length-entryBytes (newEntry c)))
+    → put (recordStart k) entrySize (entryBytes (entryWith c 1)) bs
+    ≡ put (recordStart k) entrySize (entryBytes (newEntry c)) bs
+unfolding entryWith newEntry placeOf
+new-written k c bs = refl
 
 ------------------------------------------------------------------------
 -- a cell enters
@@ -250,7 +225,7 @@ module _ (bs : List ℕ) (t : IsTable bs) (c : Cell) (within : c .input < portsI
       (ap sectionBytes (enter-place c here) ∙ section-new here place here-short (newEntry c))
 
   encode-enter : (at end : ℕ) → at ≡ cellLimit * c .input + place → end ≡ cellLimit * c .input + countIn bs (c .input)
-      → set (put (recordStart at) (entryBytes (newEntry c)) (movedUp (recordStart at) (recordStart end) entrySize bs))
+      → set (put (recordStart at) entrySize (entryBytes (newEntry c)) (movedUp (recordStart at) (recordStart end) entrySize bs))
       (16 + c .input) (countIn bs (c .input) + 1) ≡ encode (entered c (stateOf bs))
   encode-enter at end p q =
       let new : length (entryBytes (newEntry c)) ≡ entrySize = length-entryBytes (newEntry c) in
@@ -259,7 +234,7 @@ module _ (bs : List ℕ) (t : IsTable bs) (c : Cell) (within : c .input < portsI
       omega (arith, around .to-count, around .to-section, length-front) in
       let to-end : recordStart at + length (entriesBytes (drop place here)) ≡ recordStart end =
       omega (arith, length-back, place-below c here, section-length bs t (c .input) within) in
-      ap (λ k. set (put (recordStart at) (entryBytes (newEntry c)) (movedUp (recordStart at) (recordStart end) k bs))
+      ap (λ k. set (put (recordStart at) k (entryBytes (newEntry c)) (movedUp (recordStart at) (recordStart end) k bs))
       (16 + c .input) (countIn bs (c .input) + 1)) (sym new)
       ∙ insert-entry (around .before) (around .between) (entriesBytes (take place here))
       (entriesBytes (drop place here)) (replicate entrySize 0) (zerosAfter here place here-short) (around .after)
@@ -275,9 +250,9 @@ module _ (bs : List ℕ) (t : IsTable bs) (c : Cell) (within : c .input < portsI
   pub entered-bytes : (at count : ℕ) (moved new : List ℕ)
       → at ≡ cellLimit * c .input + enterPlace c (sectionIn bs (c .input)) → count ≡ countIn bs (c .input)
       → moved ≡ movedUp (recordStart at) (recordStart (cellLimit * c .input + count)) entrySize bs
-      → new ≡ put (recordStart at) (entryBytes (newEntry c)) moved
+      → new ≡ put (recordStart at) entrySize (entryBytes (newEntry c)) moved
       → set new (16 + c .input) (count + 1) ≡ encode (entered c (stateOf bs))
   entered-bytes at count moved new p q m n =
       ap₂ (λ l k. set l (16 + c .input) (k + 1))
-      (n ∙ ap (put (recordStart at) (entryBytes (newEntry c))) m) q
+      (n ∙ ap (put (recordStart at) entrySize (entryBytes (newEntry c))) m) q
       ∙ encode-enter at (cellLimit * c .input + count) p (ap (λ k. cellLimit * c .input + k) q)

@@ -1,6 +1,6 @@
 -- The checks of a slot's records, on the bytes.
 --     port-by-input, port-by-output    4 by the two fields
---     port-input, port-output          what 4 says of a record that passes
+--     port-input                       what 4 says of a record that passes, passed on
 --     flow-below                       what 5 says of a record that passes
 --     turn-after                       6 by the lowest input whose turn it is
 --     own-flow                         the flow of an entry of the record's input, by the numbers of the flows
@@ -9,19 +9,19 @@
 --     full-section                     8 by the count of the record's input
 --     fault-none                       all five
 --     clear-not                        a fault is not `Clear`
-use Prim.Native.Nat.{ℕ, zero, suc, _+_, _*_, _-_, _/_, _≤_, _<_}
+use Prim.Native.Nat.{ℕ, suc, _+_, _*_, _-_, _/_, _≤_, _<_}
 use mathlib.Core.Bool.{Bool, true, false, not, _&&_}
 use mathlib.Core.Path.{_≡_, refl, sym, _∙_, ap, ap₂, subst}
 use mathlib.Core.Logic.{_≢_}
-use mathlib.Core.List.{List, [], _∷_, flatten, List·Memᴰ, List·Memᴰ·head, List·Memᴰ·tail}
+use mathlib.Core.List.{List, [], _∷_, flatten, List·Memᴰ}
 use mathlib.Core.Option.{Option, none, some}
 use native.Mathlib.Omega.{arith}
 use borrow.Author.Tests.{ltb-true, leb-true, leb-false, lt-ltb, le-ltb, le-leb, lt-leb, eq-eqb, ne-eqb}
 use lib.Dec.{ltb, leb, eqb}
 use lib.ListN.{length, getD}
 use Rattle.laws.specs.Lists.{some?, none?}
-use Rattle.laws.proofs.Tests.{same, and-i, and-l, or-l, or-false-l, or-false-r, not-false-e}
-use Rattle.laws.proofs.Lists.{Passing, some?-e, some?-i, some?-false, some?-map, none?-i, all?-i}
+use Rattle.laws.proofs.Tests.{same, and-i, and-l, or-l, not-false-e}
+use Rattle.laws.proofs.Lists.{Passing, some?-e, some?-i, some?-false, some?-map, none?-i, all?-i, getD-mem}
 use Rattle.laws.proofs.Count.{count-all, count-map}
 use Rattle.cell.specs.declared.Cell.{Cell}
 use Rattle.cell.specs.declared.Refusal.{Refusal}
@@ -30,6 +30,8 @@ use Rattle.cell.specs.Limits.{cellLimit, flowLimit, inputFull}
 use Rattle.cell.proofs.Flow.{flow-input}
 use Rattle.model.specs.State.{Entry, cells}
 use Rattle.model.specs.Checks.{noSuchPort, noSuchFlow, outOfTurn, fallingRank, full, fault}
+use Rattle.model.proofs.Admitted.{faultless}
+pub use Rattle.model.proofs.Admitted.{port-input}
 use Rattle.model.proofs.Bags.{flatten-mem, mem-flatten}
 use Rattle.model.proofs.Sections.{count-flatten-one}
 use Rattle.layout.specs.Entry.{entryAt, portsIn, countIn}
@@ -56,16 +58,6 @@ port-by-output ports p c e h =
     let inside : leb ports (c .input) ≡ false = lt-leb ports (c .input) (omega arith) in
     rw (inside, e)
 
-pub port-input : (ports : ℕ) (c : Cell) → noSuchPort ports c ≡ false → c .input < ports
-unfolding noSuchPort
-port-input ports c h =
-    leb-false ports (c .input) (or-false-l (leb ports (c .input)) (leb ports (c .output)) h)
-
-pub port-output : (ports : ℕ) (c : Cell) → noSuchPort ports c ≡ false → c .output < ports
-unfolding noSuchPort
-port-output ports c h =
-    leb-false ports (c .output) (or-false-r (leb ports (c .input)) (leb ports (c .output)) h)
-
 ------------------------------------------------------------------------
 -- 5
 
@@ -87,11 +79,6 @@ turn-after (some b) c = go (leb (c .input) (b .input)) refl
 
 ------------------------------------------------------------------------
 -- 7 and 8 look at one section
-
-pub getD-mem : {A : Type 0} (l : List A) (j : ℕ) (d : A) → j < length l → List·Memᴰ (getD l j d) l
-getD-mem [] j d h = absurd (omega arith)
-getD-mem (x ∷ l) zero d h = List·Memᴰ·head refl
-getD-mem (x ∷ l) (suc j) d h = List·Memᴰ·tail (getD-mem l j d (omega arith))
 
 module _ {A : Type 0} (p : A → Bool) where
   some?-at : (l : List A) (j : ℕ) (d : A) → j < length l → p (getD l j d) ≡ true → some? p l ≡ true

@@ -1,5 +1,4 @@
 -- A new entry in a section's bytes.
---     take-drop-take                                a part of a part
 --     movedUp-none, movedUp-more, put-movedUp       bytes moved up, and others put in where they stood
 --     Around, encode-around                         the bytes of a state around one section and its count
 --     section-old, section-new                      a section with one more entry
@@ -19,8 +18,9 @@ use Rattle.layout.specs.Number.{bytesOf}
 use Rattle.layout.specs.Table.{entrySize, sectionSize, layoutNumber, entryBytes, entriesBytes, sectionBytes}
 use Rattle.layout.specs.Table.{sectionsBytes, countsBytes, encode}
 use Rattle.layout.proofs.Number.{length-bytesOf}
-use Rattle.layout.proofs.Table.{length-entriesBytes, length-sectionBytes, length-countsBytes}
-use Rattle.arrival.specs.Arrival.{put, movedUp}
+use Rattle.layout.proofs.Put.{put}
+use Rattle.layout.proofs.Table.{length-entriesBytes, entriesBytes-append, length-sectionBytes, length-countsBytes}
+use Rattle.arrival.specs.Arrival.{movedUp}
 
 ------------------------------------------------------------------------
 -- movedUp
@@ -32,7 +32,7 @@ movedUp-none at size bs =
     rw none (sym (take-append-drop (at + size) bs))
 
 -- a part of the first n
-pub take-drop-take : (w at n : ℕ) (l : List ℕ) → at + w ≤ n → take w (drop at (take n l)) ≡ take w (drop at l)
+take-drop-take : (w at n : ℕ) (l : List ℕ) → at + w ≤ n → take w (drop at (take n l)) ≡ take w (drop at l)
 take-drop-take w zero n l h = take-take w n l (omega arith)
 take-drop-take w (suc at) zero l h = absurd (omega arith)
 take-drop-take w (suc at) (suc n) [] h = refl
@@ -40,8 +40,8 @@ take-drop-take w (suc at) (suc n) (x ∷ l) h = take-drop-take w at n l (omega a
 
 -- the bytes before those that were moved are moved too
 pub movedUp-more : (at next end size : ℕ) (bs cur : List ℕ) → next ≡ at + size → next ≤ end → end + size ≤ length bs
-    → cur ≡ movedUp next end size bs → put next (take size (drop at cur)) cur ≡ movedUp at end size bs
-unfolding put movedUp
+    → cur ≡ movedUp next end size bs → put next size (take size (drop at cur)) cur ≡ movedUp at end size bs
+unfolding movedUp
 movedUp-more at next end size bs cur e h room c =
     let front : List ℕ = take (next + size) bs in
     let back : List ℕ = take (end - next) (drop next bs) ++ drop (end + size) bs in
@@ -52,8 +52,6 @@ movedUp-more at next end size bs cur e h room c =
     ∙ ap (take size) (drop-append-le at front back (omega arith))
     ∙ take-append-le size (drop at front) back (omega arith)
     ∙ take-drop-take size at (next + size) bs (omega arith) in
-    let count : length (take size (drop at bs)) ≡ size =
-    length-take-le size (drop at bs) (simp length-drop (omega arith)) in
     let first : take next cur ≡ take (at + size) bs =
     ap (take next) c
     ∙ take-append-le next front back (omega arith)
@@ -66,7 +64,7 @@ movedUp-more at next end size bs cur e h room c =
     ∙ sym (take-add size (end - next) (drop at bs))
     ∙ ap (λ n. take n (drop at bs)) more in
     ap₂ (λ x y. x ++ y) first
-    (ap₂ (λ w n. w ++ drop (next + n) cur) copy (ap length copy ∙ count)
+    (ap (λ w. w ++ drop (next + size) cur) copy
     ∙ ap (λ l. take size (drop at bs) ++ l) later
     ∙ sym (append-assoc (take size (drop at bs)) (take (end - next) (drop next bs)) (drop (end + size) bs))
     ∙ ap (λ l. l ++ drop (end + size) bs) joined)
@@ -74,8 +72,8 @@ movedUp-more at next end size bs cur e h room c =
 -- bytes put in where the moved ones began
 pub put-movedUp : (at end : ℕ) (xs ys old zs new : List ℕ) → length xs ≡ at → at + length ys ≡ end
     → length old ≡ length new
-    → put at new (movedUp at end (length new) (xs ++ (ys ++ (old ++ zs)))) ≡ xs ++ (new ++ (ys ++ zs))
-unfolding put movedUp
+    → put at (length new) new (movedUp at end (length new) (xs ++ (ys ++ (old ++ zs)))) ≡ xs ++ (new ++ (ys ++ zs))
+unfolding movedUp
 put-movedUp at end xs ys old zs new e f size =
     let bs : List ℕ = xs ++ (ys ++ (old ++ zs)) in
     let long : length bs ≡ at + (length ys + (length new + length zs)) =
@@ -93,7 +91,7 @@ put-movedUp at end xs ys old zs new e f size =
     ap (drop (end + length new)) (simp append-assoc)
     ∙ drop-at ((xs ++ ys) ++ old) zs (end + length new) whole in
     let moved : movedUp at end (length new) bs ≡ front ++ (ys ++ zs) = ap₂ (λ x y. front ++ (x ++ y)) middle last in
-    ap (put at new) moved
+    ap (put at (length new) new) moved
     ∙ ap₂ (λ x y. x ++ (new ++ y))
     (take-append-le at front (ys ++ zs) (omega arith)
     ∙ take-take at (at + length new) bs (omega arith)
@@ -228,12 +226,6 @@ encode-around s i h k few =
 ------------------------------------------------------------------------
 -- a section with one more entry
 
-entriesBytes-append : (es fs : List Entry) → entriesBytes (es ++ fs) ≡ entriesBytes es ++ entriesBytes fs
-unfolding entriesBytes
-entriesBytes-append [] fs = refl
-entriesBytes-append (e ∷ es) fs =
-    ap (λ l. entryBytes e ++ l) (entriesBytes-append es fs) ∙ sym (append-assoc (entryBytes e) _ _)
-
 zeros-more : (n a b : ℕ) → n ≡ a + b → replicate {A = ℕ} n 0 ≡ replicate a 0 ++ replicate b 0
 zeros-more n a b e = ap (λ k. replicate k 0) e ∙ sym (replicate-append-replicate a b 0)
 
@@ -280,7 +272,7 @@ pub insert-entry : (before between w y old z after new bs : List ℕ) (n m i fro
     → bs ≡ before ++ (bytesOf 1 n ++ (between ++ ((w ++ (y ++ (old ++ z))) ++ after)))
     → length before ≡ 16 + i → length before + (1 + (length between + length w)) ≡ from → from + length y ≡ end
     → length old ≡ length new → m < 256
-    → set (put from new (movedUp from end (length new) bs)) (16 + i) m
+    → set (put from (length new) new (movedUp from end (length new) bs)) (16 + i) m
     ≡ before ++ (bytesOf 1 m ++ (between ++ ((w ++ (new ++ (y ++ z))) ++ after)))
 unfolding bytesOf
 insert-entry before between w y old z after new bs n m i from end whole to-count to-entry to-end size small =
@@ -290,8 +282,8 @@ insert-entry before between w y old z after new bs n m i from end whole to-count
     ∙ ap (λ k. length before + k)
     (length-append (bytesOf 1 n) (between ++ w) ∙ ap (λ k. 1 + k) (length-append between w))
     ∙ to-entry in
-    let put-in : put from new (movedUp from end (length new) bs) ≡ front ++ (new ++ (y ++ (z ++ after))) =
-    ap (λ l. put from new (movedUp from end (length new) l))
+    let put-in : put from (length new) new (movedUp from end (length new) bs) ≡ front ++ (new ++ (y ++ (z ++ after))) =
+    ap (λ l. put from (length new) new (movedUp from end (length new) l))
     (whole ∙ insert-groups before (bytesOf 1 n) between w y old z after)
     ∙ put-movedUp from end front y old (z ++ after) new width to-end size in
     let byte : m ≡ m % 256 = omega arith in

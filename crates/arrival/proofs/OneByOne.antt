@@ -15,11 +15,12 @@ use mathlib.Core.Option.{Option, none, some, Option·some-ne-none}
 use native.Mathlib.Numerals.{add-one}
 use native.Mathlib.Omega.{arith}
 use borrow.Author.Tests.{ltb-true}
-use lib.Dec.{ltb, lit≤}
+use lib.Dec.{ltb}
 use lib.ListN.{length, take, drop, getD, length-drop, take-append-drop}
 use lib.Seq.{take-suc, take-all, length-take-le, split-at}
 use Rattle.laws.specs.Lists.{all?, pairwise, update}
 use Rattle.laws.proofs.Tests.{and-i, and-l, and-r}
+use Rattle.laws.proofs.Lists.{getD-mem}
 use Rattle.laws.proofs.Pairwise.{pairwise-append-l, pairwise-split}
 use Rattle.cell.specs.declared.Arrival.{Arrival}
 use Rattle.cell.specs.declared.Cell.{Cell}
@@ -35,15 +36,15 @@ use Rattle.model.proofs.CheckOrder.{faults-first, faults-next}
 use Rattle.model.proofs.SoundArrival.{Arrived, kept, entered as one-came, arrive-at, length-arrive}
 use Rattle.model.proofs.SoundArrival.{arrival-admitted, arrival-room, arrival-sound}
 use Rattle.model.proofs.SoundLaws.{SoundTable, sound-e, sound-i}
-use Rattle.layout.specs.Arrivals.{arrivalSize, arrivalOf, arrivalsOf}
+use Rattle.layout.specs.Arrivals.{arrivalSize, arrivalsOf}
 use Rattle.layout.specs.Entry.{portsIn, clockIn, countIn}
 use Rattle.layout.specs.Number.{bytesOf, word}
 use Rattle.layout.specs.Table.{stateOf, encode, decode, IsTable}
-use Rattle.layout.proofs.Number.{bytes?, bytes?-take, bytes?-drop, below-fits32, word-fits}
+use Rattle.layout.proofs.Arrivals.{arrivalOf-fits}
+use Rattle.layout.proofs.Number.{bytes?, bytes?-take, bytes?-drop, below-fits32}
 use Rattle.layout.proofs.Table.{stateOf-encode, decode-encode, sound-ports}
 use Rattle.arrival.specs.Arrival.{entered, arrived}
 use Rattle.arrival.specs.Fault.{arrivalAt, coming, faultIn}
-use Rattle.arrival.proofs.Faults.{getD-mem}
 use Rattle.places.proofs.Placed.{decode-ports, decode-count}
 use Rattle.arrival.proofs.Stored.{table-sound, table-encode, table-clock, table-ports, sections-number}
 use Rattle.arrival.proofs.Stored.{length-coming, coming-at, coming-read}
@@ -107,17 +108,6 @@ all?-take p (suc n) (x ∷ l) h =
     and-i (p x) (all? p (take n l)) (and-l (p x) (all? p l) h) (all?-take p n l (and-r (p x) (all? p l) h))
 
 -- records of bytes fit
-record-fits : (bs : List ℕ) → bytes? bs ≡ true → length bs ≡ arrivalSize → arrivalFits (arrivalOf bs) ≡ true
-unfolding arrivalFits arrivalOf
-record-fits bs b size =
-    and-i _ _
-    (and-i _ _
-    (and-i _ _
-    (and-i _ _ (word-fits bs 0 b (rw size (lit≤ tt))) (word-fits bs 4 b (rw size (lit≤ tt))))
-    (word-fits bs 8 b (rw size (lit≤ tt))))
-    (word-fits bs 12 b (rw size (lit≤ tt))))
-    (word-fits bs 16 b (rw size (lit≤ tt)))
-
 records-fit : (n : ℕ) (bs : List ℕ) → bytes? bs ≡ true → arrivalSize * n ≤ length bs
     → all? arrivalFits (arrivalsOf n bs) ≡ true
 unfolding arrivalsOf all?
@@ -125,7 +115,7 @@ records-fit zero bs b room = refl
 records-fit (suc n) bs b room =
     let rest : arrivalSize * n ≤ length (drop arrivalSize bs) = omega (arith, length-drop arrivalSize bs) in
     and-i _ _
-    (record-fits (take arrivalSize bs) (bytes?-take arrivalSize bs b) (length-take-le arrivalSize bs (omega arith)))
+    (arrivalOf-fits (take arrivalSize bs) (bytes?-take arrivalSize bs b) (length-take-le arrivalSize bs (omega arith)))
     (records-fit n (drop arrivalSize bs) (bytes?-drop arrivalSize bs b) rest)
 
 clock-raised : (s : Switch) (cs : List Cell)

@@ -1,33 +1,30 @@
 -- What the bytes of a table and of a slot's arrivals hold.
 --     is-table, table-sound, -encode, -length, -ports, -clock    what it is to be a table
 --     section-length, section-entry                    a section, its entries by their numbers
---     listed-byte                                      the byte of a place in a list
 --     arrivalAt-cell, length-coming, coming-at, coming-read    the records of a slot
 use Prim.Native.Nat.{ℕ, zero, suc, _+_, _*_, _/_, _≤_, _<_}
-use mathlib.Core.Bool.{Bool, true, false, false≢true}
+use mathlib.Core.Bool.{true, false≢true}
 use mathlib.Core.Path.{_≡_, refl, sym, _∙_, ap}
 use mathlib.Core.List.{List, map}
 use mathlib.Core.Option.{Option, none, some}
 use native.Mathlib.Omega.{arith}
-use lib.Dec.{eqb}
 use lib.ListN.{length, take, drop, getD, length-map}
 use lib.Seq.{drop-drop}
 use Rattle.cell.specs.declared.Arrival.{Arrival}
 use Rattle.cell.specs.declared.Cell.{Cell}
 use Rattle.cell.specs.Cell.{accepted}
 use Rattle.cell.specs.Limits.{cellLimit, portLimit}
-use Rattle.model.specs.State.{listed, crossed, buffered, Entry, Switch, isListed}
+use Rattle.model.specs.State.{Entry, Switch}
 use Rattle.model.specs.Sound.{sound}
 use Rattle.model.proofs.SoundLaws.{SoundSection, sound-e, sections-e}
 use Rattle.layout.specs.Arrivals.{arrivalSize, arrivalOf, arrivalsOf}
 use Rattle.layout.specs.Entry.{entryAt, portsIn, clockIn, countIn}
-use Rattle.layout.specs.Number.{numberOf, numberAt, word}
-use Rattle.layout.specs.Table.{placeOf, stateOf, encode, decode, tableSize, IsTable}
+use Rattle.layout.specs.Number.{word}
+use Rattle.layout.specs.Table.{stateOf, encode, decode, tableSize, IsTable}
 use Rattle.layout.proofs.Arrivals.{length-arrivalsOf}
-use Rattle.layout.proofs.Records.{stateOf-entry}
+use Rattle.layout.proofs.Records.{numberAt-part, stateOf-entry}
 use Rattle.layout.proofs.Table.{decode-sound, encode-decode, decode-length, stateOf-encode, sound-ports, sound-length}
 use Rattle.arrival.specs.Fault.{sectionIn, arrivalAt, coming}
-use Rattle.arrival.proofs.Insert.{take-drop-take}
 use Rattle.places.proofs.Placed.{decode-count, decode-count-few}
 
 ------------------------------------------------------------------------
@@ -81,26 +78,7 @@ module _ (bs : List ℕ) (t : IsTable bs) where
         stateOf-entry bs i j d (λ i b. decode-count-few bs (stateOf bs) t i (omega arith)) within h
 
 ------------------------------------------------------------------------
--- a place
-
-pub listed-byte : (b : ℕ) → isListed (placeOf b) ≡ eqb b 1
-unfolding isListed placeOf
-listed-byte b = go (eqb b 1) (eqb b 2)
-  where
-    go : (x y : Bool) → isListed (elim x [ true ↦ listed | false ↦ elim y [ true ↦ crossed | false ↦ buffered ] ]) ≡ x
-    go true y = refl
-    go false true = refl
-    go false false = refl
-
-------------------------------------------------------------------------
 -- the records of a slot
-
--- a number of a part
-numberAt-part : (w at n from : ℕ) (bs : List ℕ) → at + w ≤ n
-    → numberAt w at (take n (drop from bs)) ≡ numberAt w (from + at) bs
-unfolding numberAt
-numberAt-part w at n from bs h =
-    ap numberOf (take-drop-take w at n (drop from bs) h ∙ ap (take w) (drop-drop at from bs))
 
 module _ (bs : List ℕ) (k : ℕ) where
   arrivalAt-word : (at : ℕ) → at + 4 ≤ 20

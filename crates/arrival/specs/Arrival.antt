@@ -2,7 +2,7 @@
 use Prim.Native.Nat.{ℕ, suc, _+_, _-_}
 use mathlib.Core.Bool.{true, false}
 use mathlib.Core.List.{List, [], _∷_, _++_}
-use lib.ListN.{length, take, drop}
+use lib.ListN.{take, drop}
 use Rattle.laws.specs.Lists.{some?, update}
 use Rattle.cell.specs.declared.Cell.{Cell}
 use Rattle.model.specs.State.{Entry, Switch}
@@ -24,10 +24,6 @@ arrived table arrivals =
 unfoldable pub enterPlace : Cell → List Entry → ℕ
 enterPlace c [] = 0
 enterPlace c (e ∷ es) = elim (some? (inListOf c) (e ∷ es)) [ true ↦ suc (enterPlace c es) | false ↦ 0 ]
-
--- bytes written over others, from a place on
-unfoldable pub put : ℕ → List ℕ → List ℕ → List ℕ
-put at new bs = take at bs ++ (new ++ drop (at + length new) bs)
 
 -- the bytes from `at` up to `end` copied so many places up
 unfoldable pub movedUp : ℕ → ℕ → ℕ → List ℕ → List ℕ

@@ -13,7 +13,7 @@ ghost use Rattle.layout.specs.Entry.{entryAt, portsIn, clockIn, countIn};
 ghost use Rattle.layout.specs.Records.{recordStart, recordAt};
 ghost use Rattle.layout.specs.Table.{tableSize, entrySize, entryBytes, stateOf, encode, IsTable};
 ghost use Rattle.table.specs.Entries.{flowWord};
-ghost use Rattle.arrival.specs.Arrival.{entered, arrived, enterPlace, put, movedUp};
+ghost use Rattle.arrival.specs.Arrival.{entered, arrived, enterPlace, movedUp};
 ghost use Rattle.arrival.specs.Fault.{sectionIn, arrivalAt, faultIn, faultAt};
 ghost use Rattle.arrival.specs.Fault.{turnAfter, outranks};
 use cell::Cell;
@@ -191,21 +191,8 @@ fn move_up(table: &mut [u8], at: usize, end: usize)
     let mut k = end;
     while at < k {
         k -= 1;
-        copy_up(table, k);
+        table::entry::copy_record(table, k, k + 1);
     }
-}
-
-// Copies an entry one place up.
-fn copy_up(table: &mut [u8], k: usize)
-    requires { ⌜ (length (now table) ≡ tableSize) × (k < 1023) ⌝ }
-    ensures { λ _. ⌜ now (table .exit) ≡ put (recordStart (k + 1)) (recordAt (now (table .entry)) k) (now (table .entry)) ⌝ }
-{
-    let from = table::entry::start_of(k);
-    let to = table::entry::start_of(k + 1);
-    let low = table::word::read_u64(table, from);
-    let high = table::word::read_u64(table, from + 8);
-    table::word::write_u64(table, to, low);
-    table::word::write_u64(table, to + 8, high);
 }
 
 // The cell that a record would become.

@@ -1,6 +1,6 @@
 -- The laws of the flow's identity. Nothing else looks inside `sameFlow`:
 --     flow-by-input, flow-by-output, flow-by-number   which field decides
---     flow-refl, flow-sym, flow-trans                 an equivalence
+--     flow-sym, flow-trans                            an equivalence
 --     flow-input, flow-output                         cells of a flow have one input and one output
 use Prim.Native.Nat.{ℕ}
 use mathlib.Core.Bool.{Bool, true, false, _&&_}
@@ -43,9 +43,6 @@ flow-e c d h = go _ refl _ refl _ refl h
     go true i true o false f e = absurd (mathlib.Core.Bool.false≢true e)
     go true i false o f g e = absurd (mathlib.Core.Bool.false≢true e)
     go false i o p f g e = absurd (mathlib.Core.Bool.false≢true e)
-
-pub flow-refl : (c : Cell) → sameFlow c c ≡ true
-flow-refl c = flow-i (record { input = refl; output = refl; flow = refl })
 
 pub flow-sym : (c d : Cell) → sameFlow c d ≡ true → sameFlow d c ≡ true
 flow-sym c d h =

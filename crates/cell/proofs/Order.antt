@@ -4,7 +4,7 @@
 --     over-in-flow                                within a flow whose ranks do not fall, the order of acceptance
 use Prim.Native.Nat.{ℕ, _<_, _≤_}
 use native.Mathlib.Omega.{arith}
-use mathlib.Core.Bool.{Bool, true, false, _&&_, _||_}
+use mathlib.Core.Bool.{Bool, true, false, _&&_, or-false}
 use mathlib.Core.Path.{_≡_, refl, sym, _∙_}
 use mathlib.Core.Logic.{_⊎_, inl, inr, _≢_}
 use borrow.Author.Tests.{ltb-true, ltb-false, eqb-true, eqb-false, lt-ltb, le-ltb, eq-eqb, ne-eqb}
@@ -15,21 +15,13 @@ use Rattle.cell.specs.Order.{over}
 module _ (c d : Cell) where
   pub over-by-rank : c .rank ≢ d .rank → over c d ≡ ltb (c .rank) (d .rank)
   unfolding over
-  over-by-rank h = simp (ne-eqb _ _ h) (go (ltb (c .rank) (d .rank)))
-    where
-      go : (b : Bool) → (b || false) ≡ b
-      go true = refl
-      go false = refl
+  over-by-rank h = simp (ne-eqb _ _ h) (or-false (ltb (c .rank) (d .rank)))
 
   pub over-by-slot : c .rank ≡ d .rank → c .slot ≢ d .slot → over c d ≡ ltb (c .slot) (d .slot)
   unfolding over
   over-by-slot h k =
       let l : d .rank ≤ c .rank = omega arith in
-      simp (le-ltb _ _ l, eq-eqb _ _ h, ne-eqb _ _ k) (go (ltb (c .slot) (d .slot)))
-    where
-      go : (b : Bool) → (b || false) ≡ b
-      go true = refl
-      go false = refl
+      simp (le-ltb _ _ l, eq-eqb _ _ h, ne-eqb _ _ k) (or-false (ltb (c .slot) (d .slot)))
 
   pub over-by-input : c .rank ≡ d .rank → c .slot ≡ d .slot → over c d ≡ ltb (c .input) (d .input)
   unfolding over

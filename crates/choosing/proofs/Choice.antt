@@ -21,6 +21,7 @@ use Rattle.laws.proofs.Lists.{Passing, some?-i, some?-e, some?-false, none?-i, 
 use Rattle.laws.proofs.Lists.{mem-keep-in, mem-keep-passes}
 use Rattle.laws.proofs.Count.{length-keep, count-keep-le}
 use Rattle.laws.proofs.Least.{least-nil}
+use Rattle.laws.proofs.Numbers.{numbersFrom-mem, mem-numbersFrom}
 use Rattle.laws.proofs.Pairwise.{pairwise-nil, pairwise-keep}
 use Rattle.cell.specs.Limits.{cellLimit}
 use Rattle.cell.proofs.Order.{Compared, below, equal, above, compare}
@@ -42,7 +43,7 @@ use Rattle.choosing.proofs.Scans.{ofInput-scheduled, ofInput-urgent, ur
 use Rattle.places.proofs.Window.{waitingAt-at, inTable-e, inTable-i, inTable-below, inTable-input}
 use Rattle.places.proofs.Window.{ofInput-window, ofInput-none}
 use Rattle.places.proofs.Window.{length-window, window-ordered, agrees-holds}
-use Rattle.places.proofs.Window.{waitingAt-input, numbersFrom-i, numbersFrom-e}
+use Rattle.places.proofs.Window.{waitingAt-input}
 use Rattle.choosing.proofs.Walk.{listed-byte}
 use Rattle.choosing.proofs.Columns.{set-below, written-none, written-join, written-less, written-other}
 
@@ -145,7 +146,7 @@ module _ (table places : List ℕ) (r : Readable table) where
       (at-mem (candidatesOf (phase all) input) m h) in
       let listed = candidate-listed all (mem-keep-in (is input) (phase all .candidates) (w .1)) in
       let e = inTable-e table places r (lists-all all listed) in
-      subst (λ n. n < 1024) (w .2) (inTable-below table places r (w .0 .at) (e .1))
+      subst (λ n. n < 1024) (w .2) (inTable-below r (e .1))
 
   ------------------------------------------------------------------------
   -- the scheduled cells
@@ -363,7 +364,7 @@ module _ (table places : List ℕ) (r : Readable table) where
       out : none? (λ f. ahead f s) (lists all) ≡ true → none? test run ≡ true
       out n =
           none?-i test run (λ m k. by-fail (test m) (λ t.
-          go m (numbersFrom-e (cellLimit * input) (s .at - cellLimit * input) k) t))
+          go m (mem-numbersFrom (cellLimit * input) (s .at - cellLimit * input) k) t))
         where
           go : (m : ℕ) → (cellLimit * input ≤ m) × (m < cellLimit * input + (s .at - cellLimit * input))
               → test m ≡ true → ⊥
@@ -398,7 +399,7 @@ module _ (table places : List ℕ) (r : Readable table) where
               let below-s : f .at < s .at = ahead-at f s t in
               let here : f ≡ waitingAt table places (f .at) = inTable-e table places r (lists-all all m) .0 in
               none?-clash test n
-              (numbersFrom-i (cellLimit * input) (s .at - cellLimit * input) low (omega arith))
+              (numbersFrom-mem (cellLimit * input) (s .at - cellLimit * input) low (omega arith))
               (sym (listed-byte table places (f .at)) ∙ ap (λ w. isListed (w .place)) (sym here) ∙ lists-listed all m)
 
   -- a scheduled number is in the section of its input
@@ -441,7 +442,7 @@ module _ (table places : List ℕ) (r : Readable table) where
             let q : s ≡ x = List·Memᴰ·eq-of-singleton (subst (List·Memᴰ s) h m) in
             let n : k ≡ x .at = is-scheduled ∙ scheduledOf-one input x h in
             let inside = inTable-e table places r (one-member input x h .0) .1 in
-            let small : x .at < 1024 = inTable-below table places r (x .at) inside in
+            let small : x .at < 1024 = inTable-below r inside in
             clash (sym (stands-unlisted input x h) ∙ subst (λ y. none? (λ f. ahead f y) (lists all) ≡ true) q t)
             (subst (λ j. unlisted (cellLimit * input) j ≡ false) n (f (omega arith)))
 

@@ -15,11 +15,11 @@ use lib.Seq.{getD-set-same, getD-set-other}
 use Rattle.laws.specs.Lists.{none?, numbersFrom}
 use Rattle.laws.proofs.Tests.{and-i, not-i, by-fail}
 use Rattle.laws.proofs.Lists.{none?-nil, none?-cons, none?-append, none?-clash}
+use Rattle.laws.proofs.Numbers.{numbersFrom-mem, numbersFrom-more}
 use Rattle.cell.specs.Limits.{cellLimit}
 use Rattle.cell.proofs.Order.{Compared, below, equal, above, compare}
 use Rattle.places.specs.Scan.{Column, Written, Described}
 use Rattle.choosing.specs.Walk.{Elsewhere, Filled, Sound}
-use Rattle.places.proofs.Window.{numbersFrom-i, numbersFrom-suc}
 
 -- the first n places hold f, and one place more
 pub set-below : (l : List ℕ) (f : ℕ → ℕ) (n v : ℕ) → n < length l → ((i : ℕ) → i < n → getD l i 0 ≡ f i) → v ≡ f n
@@ -47,7 +47,7 @@ module _ (p : ℕ → Bool) (from : ℕ) where
       let n : k + 1 - from ≡ suc (k - from) = omega arith in
       let last : from + (k - from) ≡ k = omega arith in
       ap (λ n. none? p (numbersFrom from n)) n
-      ∙ ap (none? p) (numbersFrom-suc from (k - from) ∙ ap (λ a. numbersFrom from (k - from) ++ (a ∷ [])) last)
+      ∙ ap (none? p) (numbersFrom-more from (k - from) ∙ ap (λ a. numbersFrom from (k - from) ++ (a ∷ [])) last)
       ∙ none?-append p (numbersFrom from (k - from)) (k ∷ [])
       ∙ and-i (none? p (numbersFrom from (k - from))) (none? p (k ∷ [])) h
       (none?-cons p k [] ∙ and-i (not (p k)) (none? p []) (not-i (p k) f) (none?-nil p))
@@ -55,7 +55,7 @@ module _ (p : ℕ → Bool) (from : ℕ) where
   pub run-stop : (k to : ℕ) → from ≤ k → k < to → p k ≡ true → none? p (numbersFrom from (to - from)) ≡ false
   run-stop k to l m t =
       by-fail (none? p (numbersFrom from (to - from))) (λ n.
-      none?-clash p n (numbersFrom-i from (to - from) l (omega arith)) t)
+      none?-clash p n (numbersFrom-mem from (to - from) l (omega arith)) t)
 
 ------------------------------------------------------------------------
 -- from one place up to another

@@ -72,7 +72,7 @@ module _ {table places : List ℕ} {cross : List (List ℕ)} {best : List ℕ} {
   inside = at-inside table places (w .readable) input n (reached .port) here k at
 
   pub step-small : k < 1024
-  step-small = inTable-below table places (w .readable) k inside
+  step-small = inTable-below (w .readable) inside
 
   pub step-output : entryAt table k .cell .output < 16
   step-output = omega (arith, w .readable .outputs k inside, w .readable .ports)

@@ -8,7 +8,7 @@ use Prim.Native.Nat.{ℕ, _+_, _*_, _/_, _<_, _≤_}
 use native.Mathlib.Omega.{arith}
 use native.Mathlib.Numerals.{add-one}
 use mathlib.Core.Bool.{Bool, true, false, not, _&&_, _||_, or-false}
-use mathlib.Core.Path.{_≡_, refl, sym, _∙_, ap, ap₂, subst}
+use mathlib.Core.Path.{_≡_, sym, _∙_, ap, ap₂, subst}
 use mathlib.Core.Logic.{_⊎_, inl, inr, _≢_}
 use mathlib.Core.List.{List, [], _∷_, List·Memᴰ, Memᴰ·cast}
 use borrow.Author.Tests.{eqb-true, eq-eqb, leb-true, leb-false}
@@ -24,32 +24,20 @@ use Rattle.cell.specs.Limits.{cellLimit}
 use Rattle.cell.specs.Order.{over}
 use Rattle.cell.proofs.Flow.{flow-i, flow-e}
 use Rattle.cell.proofs.Order.{Compared, below, equal, above, compare, over-trans}
-use Rattle.model.specs.State.{listed, crossed, buffered, isListed}
+use Rattle.model.specs.State.{isListed}
 use Rattle.model.specs.Phase.{Waiting, ahead, beats, sameOutput, sameCrosspoint, blocked, crosspointEmpty}
 use Rattle.model.proofs.PhaseFacts.{lists, lists-i, lists-all, lists-listed}
 use Rattle.model.proofs.WaitingOrder.{ahead-i, ahead-at, ahead-input, beats-i, beats-over, output-i, output-e}
 use Rattle.model.proofs.WaitingOrder.{crosspoint-i, crosspoint-input, crosspoint-output}
-use Rattle.layout.specs.Table.{placeOf}
 use Rattle.layout.specs.Entry.{entryAt, portsIn, countIn}
 use Rattle.places.specs.View.{waitingAt, window, inTable, InTable, crosspointAt}
+use Rattle.table.proofs.Fields.{placeOf-listed}
 use Rattle.places.specs.Choices.{bestOf}
 use Rattle.places.specs.Scan.{Readable, Holds}
 use Rattle.choosing.specs.Walk.{Seen, flowIndex, isOfFlow, isHead}
 use Rattle.choosing.proofs.Best.{Chief, chief-of}
 use Rattle.places.proofs.Window.{waitingAt-at, waitingAt-input, waitingAt-place, window-zero, window-suc}
 use Rattle.places.proofs.Window.{window-i, window-e, window-input, inTable-i, inTable-e, inTable-input}
-
-------------------------------------------------------------------------
--- in the list
-
-pub placeOf-listed : (b : ℕ) → isListed (placeOf b) ≡ eqb b 1
-unfolding isListed placeOf
-placeOf-listed b = go (eqb b 1) (eqb b 2)
-  where
-    go : (s t : Bool) → isListed (elim s [ true ↦ listed | false ↦ elim t [ true ↦ crossed | false ↦ buffered ] ]) ≡ s
-    go true t = refl
-    go false true = refl
-    go false false = refl
 
 ------------------------------------------------------------------------
 -- the flag of a flow

@@ -9,7 +9,7 @@ use native.Mathlib.Numerals.{add-one}
 use mathlib.Core.Bool.{Bool, true, false, not}
 use mathlib.Core.Path.{_≡_, refl, sym, _∙_, ap, subst}
 use mathlib.Core.Logic.{_⊎_, inl, inr, _≢_}
-use mathlib.Core.List.{List, [], _∷_, _++_, map, append-nil}
+use mathlib.Core.List.{List, [], _∷_, _++_, map, map-append, append-nil}
 use lib.ListN.{length, getD, set, replicate, length-append, length-map, length-set, List·getD-append}
 use lib.Seq.{getD-set-same, getD-set-other, getD-append-seam}
 use Rattle.laws.specs.Lists.{keep, none?, pairwise, first?, numbersFrom}
@@ -19,7 +19,6 @@ use Rattle.laws.proofs.Count.{length-keep, count-le-length}
 use Rattle.cell.specs.Limits.{cellLimit}
 use Rattle.cell.proofs.Order.{Compared, below, equal, above, compare}
 use Rattle.model.specs.Phase.{Waiting, ahead, phase}
-use Rattle.model.proofs.Sections.{map-append}
 use Rattle.layout.specs.Entry.{portsIn, countIn}
 use Rattle.places.specs.View.{waitingAt, window, inTable}
 use Rattle.places.specs.Choices.{nowhere, numberOf, scheduledOf, ofInput}

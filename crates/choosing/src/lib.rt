@@ -271,14 +271,14 @@ fn enter_scheduled(
     while input < 16 {
         let at = input;
         input += 1;
-        let k = wide(scheduled[at]);
-        if k >= 1024 {
+        let number = scheduled[at];
+        if number >= NOWHERE {
             continue;
         }
-        if !stands_first(places, 64 * at, k) {
+        if !stands_first(places, 64 * at, number as usize) {
             continue;
         }
-        numbers[64 * at] = scheduled[at];
+        numbers[64 * at] = number;
         counts[at] = 1;
     }
 }
@@ -351,16 +351,10 @@ fn describe_part(
 {
     let mut m = from;
     while m < to {
-        let k = wide(numbers[m]);
+        let k = numbers[m] as usize;
         outputs[m] = table::entry::output_of(table, k);
         ranks[m] = table::entry::rank_of(table, k);
         slots[m] = table::entry::slot_of(table, k);
         m += 1;
     }
-}
-
-fn wide(n: u16) -> usize
-    ensures { λ r. ⌜ r ≡ n ⌝ }
-{
-    n as usize
 }

@@ -1,21 +1,18 @@
 -- A record copied to another, and its place replaced.
---     copied-self, copied-words   a record copied to itself, and by two numbers of 64 bits
---     set-append-add              an element of the second of two lists
---     placed-put                  the place of an entry that was put in
-use Prim.Native.Nat.{ℕ, _+_, _*_, _%_, _^_, _≤_, _<_}
+--     copied-self      a record copied to itself
+--     set-append-add   an element of the second of two lists
+--     placed-put       the place of an entry that was put in
+use Prim.Native.Nat.{ℕ, _+_, _%_, _≤_, _<_}
 use native.Mathlib.Omega.{arith}
 use native.Mathlib.Nat.{zero-add, suc-add}
-use mathlib.Core.Bool.{true}
-use mathlib.Core.Path.{_≡_, sym, _∙_, ap, ap₂}
+use mathlib.Core.Path.{_≡_, sym, _∙_, ap}
 use mathlib.Core.List.{List, [], _∷_, _++_}
-use lib.ListN.{length, set, take, drop, take-append-drop, length-drop}
+use lib.ListN.{length, set, take, drop, take-append-drop}
 use lib.Seq.{drop-drop, length-take-le, set-append-left}
 use Rattle.model.specs.State.{Entry}
-use Rattle.layout.specs.Number.{bytesOf, numberAt}
-use Rattle.layout.specs.Table.{entrySize, tableSize, placeByte, placeOf, entryBytes}
+use Rattle.layout.specs.Number.{bytesOf}
+use Rattle.layout.specs.Table.{entrySize, placeByte, placeOf, entryBytes}
 use Rattle.layout.specs.Records.{recordStart, recordAt}
-use Rattle.layout.proofs.Halves.{read-halves, put-halves}
-use Rattle.layout.proofs.Number.{bytes?, bytes?-take, bytes?-drop, bytesOf-numberOf, numberAt-below}
 use Rattle.layout.proofs.Table.{length-entryBytes}
 use Rattle.table.specs.Entries.{entryWith}
 use Rattle.table.proofs.Fields.{place-i}
@@ -32,23 +29,6 @@ copied-self k old =
     (ap (λ bs. take at old ++ (take entrySize (drop at old) ++ bs)) (sym (drop-drop entrySize at old))
     ∙ ap (λ bs. take at old ++ bs) (take-append-drop entrySize (drop at old))
     ∙ take-append-drop at old)
-
-pub copied-words : (k free from to low high : ℕ) (old mid new : List ℕ) → bytes? old ≡ true → length old ≡ tableSize
-    → k < 1024 → free ≤ k → from ≡ recordStart k → to ≡ recordStart free
-    → low ≡ numberAt 8 from old → high ≡ numberAt 8 (from + 8) old
-    → mid ≡ put to 8 (bytesOf 8 low) old → new ≡ put (to + 8) 8 (bytesOf 8 high) mid
-    → new ≡ put (recordStart free) entrySize (recordAt old k) old
-unfolding recordAt numberAt
-copied-words k free from to low high old mid new b size few behind f t l h first second =
-    let small : low < 256 ^ 8 = rw l (numberAt-below 8 from old b (omega arith)) in
-    let both : low + 256 ^ 8 * high ≡ numberAt 16 from old = read-halves 8 from low high old (omega arith) l h in
-    let count : length (take 16 (drop from old)) ≡ 16 =
-    length-take-le 16 (drop from old) (simp length-drop (omega arith)) in
-    let same : bytesOf 16 (numberAt 16 from old) ≡ take 16 (drop from old) =
-    bytesOf-numberOf 16 (take 16 (drop from old)) (bytes?-take 16 (drop from old) (bytes?-drop from old b)) count in
-    put-halves 8 to low high (numberAt 16 from old) old mid new (omega arith) first second small (sym both)
-    ∙ ap (λ bs. put to 16 bs old) same
-    ∙ ap₂ (λ x y. put x 16 (take 16 (drop y old)) old) t f
 
 ------------------------------------------------------------------------
 -- its place replaced

@@ -17,6 +17,7 @@ use lib.Seq.{take-all, take-suc, take-append-add, drop-at, drop-cons, drop-drop,
 use lib.Seq.{set-at, set-append-left, getD-drop, getD-at, drop-nil, drop-length, append-snoc}
 use Rattle.laws.specs.Lists.{keep, numbersFrom, upTo}
 use Rattle.laws.proofs.Tests.{cond-pass, cond-fail}
+use Rattle.laws.proofs.Numbers.{numbersFrom-at}
 use Rattle.laws.proofs.Lists.{keep-ext, keep-map, keep-pass, keep-fail}
 use Rattle.cell.specs.Limits.{cellLimit, portLimit}
 use Rattle.cell.proofs.Order.{Compared, below, equal, above, compare}
@@ -35,7 +36,7 @@ use Rattle.places.specs.Sections.{entryPlaced, sectionPlaced, sectionsPlaced}
 use Rattle.places.specs.Scan.{Readable}
 use Rattle.departure.specs.Departing.{Ready, Chosen, stays, staying, Removable, removed, leavingIn, departed}
 use Rattle.places.proofs.Window
-use Rattle.places.proofs.Placed.{getD-numbers, length-numbers, numberFrom-placed, encode-count, section-short}
+use Rattle.places.proofs.Placed.{length-numbers, numberFrom-placed, encode-count, section-short}
 use Rattle.places.proofs.Placed.{decode-ports, decode-clock, decode-sections, decode-record, inTable-number}
 use Rattle.places.proofs.Bytes.{encode-from, encode-rest}
 use Rattle.departure.proofs.Copied.{set-append-add}
@@ -245,7 +246,7 @@ section-placed : (table places : List ℕ) (i : ℕ) → i < portsIn table
     → getD (sectionsPlaced table places) i [] ≡ sectionPlaced table places i
 unfolding sectionsPlaced upTo
 section-placed table places i l =
-    getD-numbers (sectionPlaced table places) 0 (portsIn table) i [] l ∙ ap (sectionPlaced table places) (zero-add i)
+    numbersFrom-at (sectionPlaced table places) 0 (portsIn table) i [] l ∙ ap (sectionPlaced table places) (zero-add i)
 
 -- the sections without the cells that leave
 abbrev fresh : List ℕ → List ℕ → List (List Entry)

@@ -175,7 +175,7 @@ module _ {table places : List ℕ} (r : Ready table places) where
           record { size = length-set numbers output next ∙ c .size; each = λ o h. go o h (compare o output) }
         where
           small : k < nowhere
-          small = Window.inTable-below table places (ready-readable r) k (b .entry)
+          small = Window.inTable-below (ready-readable r) (b .entry)
 
           next : ℕ
           next = betterOf table (getD numbers output 0) k

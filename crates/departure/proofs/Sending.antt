@@ -20,6 +20,7 @@ use Rattle.laws.specs.Lists.{keep, first?, upTo}
 use Rattle.laws.proofs.Tests.{clash, by-fail, same}
 use Rattle.laws.proofs.Lists.{none?-i, keep-mem, mem-keep-in, mem-keep-passes}
 use Rattle.laws.proofs.Least.{least-mem}
+use Rattle.laws.proofs.Numbers.{numbersFrom-at}
 use Rattle.cell.specs.declared.Cell.{Cell}
 use Rattle.cell.specs.Order.{over}
 use Rattle.cell.proofs.Order.{Compared, below, equal, above, compare, over-trans, over-irrefl}
@@ -38,7 +39,7 @@ use Rattle.places.specs.Choices.{nowhere, Best, BestAmong, empty, best}
 use Rattle.departure.specs.Departing.{Ready, Buffered, BufferedBelow, Chosen, departureAt, sevenBytes}
 use Rattle.departure.specs.Departing.{noCell, leavingIn}
 use Rattle.places.proofs.Window
-use Rattle.places.proofs.Placed.{getD-numbers, length-numbers}
+use Rattle.places.proofs.Placed.{length-numbers}
 use Rattle.table.proofs.Put.{put, put-next}
 use Rattle.departure.proofs.Leaving.{ready-readable}
 
@@ -81,7 +82,7 @@ module _ {table places : List ℕ} (r : Ready table places) where
           x = Window.inTable-e table places (ready-readable r) m
 
           small : e .at < 1024
-          small = Window.inTable-below table places (ready-readable r) (e .at) (x .1)
+          small = Window.inTable-below (ready-readable r) (x .1)
 
           own : Buffered table places output (e .at)
           own = subst (λ o. Buffered table places o (e .at)) (beats-output e (cellAt n) w ∙ h .own .cell .goes) (buffered-e m b)
@@ -109,7 +110,7 @@ module _ {table places : List ℕ} (r : Ready table places) where
         own = buffered-e mem (leaving-buffered all m)
 
         small : e .at < 1024
-        small = Window.inTable-below table places (ready-readable r) (e .at) (x .1)
+        small = Window.inTable-below (ready-readable r) (x .1)
 
         port : e .cell .output < 16
         port = omega (arith, own .goes, ready-readable r .outputs (e .at) (x .1), ready-readable r .ports)
@@ -141,7 +142,7 @@ module _ {table places : List ℕ} (r : Ready table places) where
         x = Window.inTable-e table places (ready-readable r) m
 
         small : e .at < 1024
-        small = Window.inTable-below table places (ready-readable r) (e .at) (x .1)
+        small = Window.inTable-below (ready-readable r) (x .1)
 
         port : e .cell .output < 16
         port =
@@ -310,7 +311,7 @@ module _ {table places : List ℕ} (r : Ready table places) {numbers : List ℕ}
         (buffered-e r (leaving-in (inTable table places) member) (leaving-buffered (inTable table places) member))
 
     number-small : e .at < 1024
-    number-small = Window.inTable-below table places (ready-readable r) (e .at) (waits .1)
+    number-small = Window.inTable-below (ready-readable r) (waits .1)
 
     number-is : e .at ≡ getD numbers o 0
     number-is = sym (leaves-e r c member) ∙ ap (λ p. getD numbers p 0) output-is
@@ -368,6 +369,6 @@ module _ {table places : List ℕ} (r : Ready table places) {numbers : List ℕ}
           → departureAt table (getD numbers o 0) ≡ getD (departuresOf (portsIn table) (leavingIn table places)) o none
       go o l (below h) =
           let at : 0 + o ≡ o = omega arith in
-          departure-chosen o l ∙ sym (getD-numbers sends 0 (portsIn table) o none h ∙ ap sends at)
+          departure-chosen o l ∙ sym (numbersFrom-at sends 0 (portsIn table) o none h ∙ ap sends at)
       go o l (equal h) = past o l (omega arith)
       go o l (above h) = past o l (omega arith)

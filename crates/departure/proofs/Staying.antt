@@ -2,12 +2,12 @@
 --     cleared-            one record more is cleared
 --     staying-, Closing   one entry more closes up
 --     removed-section     a section that has closed up
-use Prim.Native.Nat.{ℕ, zero, suc, _+_, _*_, _-_, _/_, _≤_, _<_}
+use Prim.Native.Nat.{ℕ, suc, _+_, _*_, _-_, _/_, _≤_, _<_}
 use native.Mathlib.Omega.{arith}
 use native.Mathlib.Nat.{add-zero}
 use mathlib.Core.Bool.{Bool, true, false, not}
 use mathlib.Core.Path.{_≡_, refl, sym, _∙_, ap, ap₂}
-use mathlib.Core.List.{List, [], _∷_, _++_, map, append-assoc, append-nil}
+use mathlib.Core.List.{List, [], _∷_, _++_, map, map-append, append-assoc, append-nil}
 use borrow.Author.Tests.{eq-eqb, ne-eqb}
 use lib.Dec.{eqb}
 use lib.ListN.{length, getD, set, take, drop, replicate, take-append-drop, length-append, length-map, length-replicate}
@@ -16,21 +16,20 @@ use Rattle.laws.specs.Lists.{keep, numbersFrom}
 use Rattle.laws.proofs.Tests.{cond-pass, cond-fail}
 use Rattle.laws.proofs.Lists.{keep-append, keep-pass, keep-fail, keep-nil}
 use Rattle.laws.proofs.Count.{length-keep, count-le-length}
+use Rattle.laws.proofs.Numbers.{length-numbersFrom, numbersFrom-more}
 use Rattle.cell.specs.Limits.{cellLimit}
 use Rattle.model.specs.State.{Entry}
-use Rattle.model.proofs.Sections.{map-append}
 use Rattle.layout.specs.Number.{bytesOf}
 use Rattle.layout.specs.Table.{headerSize, entrySize, sectionSize, tableSize, placeOf, entryOf, entryBytes}
 use Rattle.layout.specs.Table.{entriesBytes}
 use Rattle.layout.specs.Table.{sectionBytes}
 use Rattle.layout.specs.Entry.{entryAt, countIn}
 use Rattle.layout.specs.Records.{recordStart, recordAt}
-use Rattle.layout.proofs.Table.{length-entryBytes, length-entriesBytes}
+use Rattle.layout.proofs.Table.{length-entryBytes, length-entriesBytes, entriesBytes-append}
 use Rattle.places.specs.Sections.{entryPlaced}
 use Rattle.table.specs.Entries.{entryWith}
 use Rattle.departure.specs.Departing.{stays, staying, putAt, freeAfter, closedOne, closed, cleared}
 use Rattle.departure.specs.Departing.{Movable, Removable, removed}
-use Rattle.places.proofs.Window.{numbersFrom-suc}
 use Rattle.table.proofs.Put.{put, put-next, drop-put, length-put}
 use Rattle.departure.proofs.Copied.{placed-put}
 
@@ -126,18 +125,6 @@ pub recordAt-same : (old new : List ℕ) (k : ℕ) → drop (recordStart k) new 
 unfolding recordAt
 recordAt-same old new k h = ap (take entrySize) h
 
-length-numbersFrom : (k n : ℕ) → length (numbersFrom k n) ≡ n
-unfolding numbersFrom
-length-numbersFrom k zero = refl
-length-numbersFrom k (suc n) = ap suc (length-numbersFrom (k + 1) n)
-
-entriesBytes-append : (es fs : List Entry) → entriesBytes (es ++ fs) ≡ entriesBytes es ++ entriesBytes fs
-unfolding entriesBytes
-entriesBytes-append [] fs = refl
-entriesBytes-append (e ∷ es) fs =
-    ap (λ bs. entryBytes e ++ bs) (entriesBytes-append es fs)
-    ∙ sym (append-assoc (entryBytes e) (entriesBytes es) (entriesBytes fs))
-
 entriesBytes-last : (es : List Entry) (e : Entry) → entriesBytes (es ++ (e ∷ [])) ≡ entriesBytes es ++ entryBytes e
 unfolding entriesBytes
 entriesBytes-last es e = entriesBytes-append es (e ∷ []) ∙ ap (λ bs. entriesBytes es ++ bs) (append-nil (entryBytes e))
@@ -155,7 +142,7 @@ module _ (table places numbers : List ℕ) (first : ℕ) where
       let more : n + 1 ≡ suc n = omega arith in
       ap (map (entryPlaced table places))
       (ap (λ m. keep (stays table numbers) (numbersFrom first m)) more
-      ∙ ap (keep (stays table numbers)) (numbersFrom-suc first n)
+      ∙ ap (keep (stays table numbers)) (numbersFrom-more first n)
       ∙ keep-append (stays table numbers) (numbersFrom first n) ((first + n) ∷ [])
       ∙ ap (λ l. keep (stays table numbers) (numbersFrom first n) ++ l)
       (keep-pass (stays table numbers) (first + n) [] h ∙ ap (λ l. (first + n) ∷ l) (keep-nil (stays table numbers))))
@@ -168,7 +155,7 @@ module _ (table places numbers : List ℕ) (first : ℕ) where
       let more : n + 1 ≡ suc n = omega arith in
       ap (map (entryPlaced table places))
       (ap (λ m. keep (stays table numbers) (numbersFrom first m)) more
-      ∙ ap (keep (stays table numbers)) (numbersFrom-suc first n)
+      ∙ ap (keep (stays table numbers)) (numbersFrom-more first n)
       ∙ keep-append (stays table numbers) (numbersFrom first n) ((first + n) ∷ [])
       ∙ ap (λ l. keep (stays table numbers) (numbersFrom first n) ++ l)
       (keep-fail (stays table numbers) (first + n) [] h ∙ keep-nil (stays table numbers))

@@ -192,12 +192,7 @@ fn copy_down(table: &mut [u8], k: usize, free: usize)
     if k == free {
         return;
     }
-    let from = table::entry::start_of(k);
-    let to = table::entry::start_of(free);
-    let low = table::word::read_u64(table, from);
-    let high = table::word::read_u64(table, from + 8);
-    table::word::write_u64(table, to, low);
-    table::word::write_u64(table, to + 8, high);
+    table::entry::copy_record(table, k, free);
 }
 
 // Clears the records from one up to another.

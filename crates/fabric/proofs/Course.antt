@@ -9,16 +9,16 @@ use mathlib.Core.Option.{Option, none, some}
 use lib.ListN.{length, getD, take, drop, length-map}
 use native.Mathlib.Omega.{arith}
 use Rattle.laws.specs.Lists.{upTo, numbersFrom}
+use Rattle.laws.proofs.Numbers.{numbersFrom-at}
 use Rattle.cell.specs.Limits.{cellLimit, clockEnd}
 use Rattle.model.specs.State.{Entry, Switch}
 use Rattle.model.specs.Sound.{sound, soundSections}
 use Rattle.model.specs.Phase.{Phase, Waiting, numberFrom, numberSections, numbered, waiting, phase, moved}
 use Rattle.model.specs.Crossbar.{leaving, departuresOf, without, run, answerOf}
 use Rattle.model.specs.Slackness.{Orderly, OneCrosspoint, relocated}
-use Rattle.model.proofs.Numbering.{waiting-moved, entryAfter, entryOf, numberFrom-entries}
+use Rattle.model.proofs.Numbering.{waiting-moved, entryAfter}
 use Rattle.model.proofs.SoundOrderly.{sound-orderly, sound-one-crosspoint}
-use Rattle.model.proofs.SoundPhase.{phase-sound}
-use Rattle.model.proofs.Shapes.{waiting-injective}
+use Rattle.model.proofs.Shapes.{length-number, waiting-injective}
 use Rattle.layout.specs.Answer.{departuresBytes, answerBytes, answerSize}
 use Rattle.layout.specs.Host.{filled}
 use Rattle.layout.specs.Number.{bytesOf}
@@ -32,7 +32,7 @@ use Rattle.table.proofs.Put.{put-next}
 use Rattle.places.specs.View.{inTable, InTable}
 use Rattle.places.specs.Sections.{entryPlaced, sectionPlaced, sectionsPlaced}
 use Rattle.places.specs.Loading.{Loaded}
-use Rattle.places.proofs.Placed.{inTable-waiting, length-numbers, getD-numbers, decode-readable, decode-ports, decode-clock}
+use Rattle.places.proofs.Placed.{inTable-waiting, length-numbers, decode-readable, decode-ports, decode-clock}
 use Rattle.places.proofs.Placed.{decode-ports-few, decode-count-few, sectionsPlaced-same}
 use Rattle.arrival.specs.Arrival.{arrived}
 use Rattle.arrival.specs.Fault.{coming, faultIn}
@@ -48,9 +48,6 @@ lengths : {A : Type 0} (f g : A → List Entry) → ((a : A) → length (f a) �
     → map length (map f l) ≡ map length (map g l)
 lengths f g h [] = refl
 lengths f g h (a ∷ l) = ap₂ (λ x y. x ∷ y) (h a) (lengths f g h l)
-
-length-number : (at : ℕ) (es : List Entry) → length (numberFrom at es) ≡ length es
-length-number at es = sym (length-map (numberFrom at es) entryOf) ∙ ap length (numberFrom-entries at es)
 
 lengths-numbered : (p : Phase) (input : ℕ) (ss : List (List Entry))
     → map length (map (map (entryAfter p)) (numberSections input ss)) ≡ map length ss
@@ -74,14 +71,6 @@ module _ (table : List ℕ) (good : IsTable table) where
 
   first-sound : soundSections (s .ports) (s .clock) 0 (s .sections) ≡ true
   first-sound = sound-sections s (decode-sound table s good)
-
-  between-sound : soundSections (s .ports) (s .clock) 0 (between table) ≡ true
-  unfolding between
-  between-sound = phase-sound (s .ports) (s .clock) (s .sections) first-sound
-
-  settled-sound : soundSections (s .ports) (s .clock) 0 (settled table) ≡ true
-  unfolding settled
-  settled-sound = phase-sound (s .ports) (s .clock) (between table) between-sound
 
   pub begins : (places : List ℕ) (cross : List (List ℕ)) → Loaded table places cross → Steady table places cross
   begins places cross l =
@@ -134,7 +123,7 @@ module _ (table : List ℕ) (good : IsTable table) where
   own-at k i =
       let few : countIn table (k / cellLimit) ≤ cellLimit =
       decode-count-few table s good (k / cellLimit) (omega (arith, decode-ports-few table s good, i .input)) in
-      getD-numbers (placeByteAt table) 0 1024 k 0 (omega (arith, few, i .position, i .input, decode-ports-few table s good))
+      numbersFrom-at (placeByteAt table) 0 1024 k 0 (omega (arith, few, i .position, i .input, decode-ports-few table s good))
       ∙ ap (placeByteAt table) (omega arith)
 
   lengths-placed : (places : List ℕ) → map length (sectionsPlaced table places) ≡ map length (s .sections)

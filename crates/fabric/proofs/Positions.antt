@@ -7,14 +7,16 @@ use native.Mathlib.Omega.{arith}
 use mathlib.Core.Bool.{Bool, true, false, _&&_, _||_}
 use mathlib.Core.Path.{_≡_, refl, sym, _∙_, ap, ap₂}
 use mathlib.Core.Logic.{_⊎_, inl, inr}
-use mathlib.Core.List.{List, [], _∷_, _++_, map, flatten, append-nil, append-assoc, List·Memᴰ, List·Memᴰ·head, List·Memᴰ·tail}
+use mathlib.Core.List.{List, [], _∷_, _++_, map, flatten, append-nil, List·Memᴰ, List·Memᴰ·head, List·Memᴰ·tail}
 use borrow.Author.Tests.{eqb-true, ltb-true, ltb-false}
 use lib.Dec.{ltb, eqb}
 use lib.ListN.{length, getD, length-map, List·getD-map}
 use Rattle.laws.specs.Lists.{keep, count, numbersFrom, upTo, pairwise}
 use Rattle.laws.proofs.Tests.{same, either, clash}
 use Rattle.laws.proofs.Lists.{keep-nil, keep-append, keep-comm, keep-keep, keep-none, none?-i, mem-keep-in, mem-keep-passes}
+use Rattle.laws.proofs.Lists.{getD-mem, flatten-map-append}
 use Rattle.laws.proofs.Count.{length-keep, count-le-length}
+use Rattle.laws.proofs.Numbers.{mem-numbersFrom, numbersFrom-add}
 use Rattle.laws.proofs.Pairwise.{pairwise-nil, pairwise-head, pairwise-tail, pairwise-keep}
 use Rattle.cell.specs.Limits.{cellLimit, portLimit}
 use Rattle.cell.specs.declared.Cell.{Cell}
@@ -33,7 +35,7 @@ use Rattle.layout.specs.Entry.{entryAt, portsIn, countIn}
 use Rattle.places.specs.View.{waitingAt, inTable, window}
 use Rattle.places.specs.Scan.{Readable}
 use Rattle.places.specs.Choices.{ofInput, candidatesOf}
-use Rattle.places.proofs.Window.{numbersFrom-e, numbersFrom-add, ofInput-window, ofInput-none, inTable-e}
+use Rattle.places.proofs.Window.{ofInput-window, ofInput-none, inTable-e}
 use Rattle.places.proofs.Window.{length-window, window-ordered}
 use Rattle.moving.proofs.Relocated.{flatten-through}
 
@@ -53,12 +55,6 @@ module _ {A : Type 0} where
   flatten-empty g [] e = refl
   flatten-empty g (x ∷ l) e = ap₂ _++_ (e x (List·Memᴰ·head refl)) (flatten-empty g l (λ i m. e i (List·Memᴰ·tail m)))
 
-  flatten-append : (g : ℕ → List A) (l m : List ℕ) → flatten (map g (l ++ m)) ≡ flatten (map g l) ++ flatten (map g m)
-  unfolding flatten
-  flatten-append g [] m = refl
-  flatten-append g (x ∷ l) m =
-      ap (λ r. g x ++ r) (flatten-append g l m) ∙ sym (append-assoc (g x) (flatten (map g l)) (flatten (map g m)))
-
   keep-sections : (p : A → Bool) (g : ℕ → List A) (l : List ℕ)
       → flatten (map (λ i. keep p (g i)) l) ≡ keep p (flatten (map g l))
   unfolding flatten
@@ -75,17 +71,12 @@ module _ {A : Type 0} where
       ap₂ _∷_ (ap f (omega arith) ∙ h 0 (omega arith))
       (map-numbersFrom f (k + 1) l d (λ m b. ap f (omega arith) ∙ h (suc m) (omega arith)))
 
-  getD-mem : (l : List A) (d : A) (i : ℕ) → i < length l → List·Memᴰ (getD l i d) l
-  getD-mem [] d i h = absurd (omega arith)
-  getD-mem (x ∷ l) d zero h = List·Memᴰ·head refl
-  getD-mem (x ∷ l) d (suc i) h = List·Memᴰ·tail (getD-mem l d i (omega arith))
-
   -- the first of two members of a list that stand in order
   pairwise-at : (r : A → A → Bool) (l : List A) (d : A) (i j : ℕ) → pairwise r l ≡ true → i < j → j < length l
       → r (getD l i d) (getD l j d) ≡ true
   pairwise-at r [] d i j h b c = absurd (omega arith)
   pairwise-at r (x ∷ l) d i zero h b c = absurd (omega arith)
-  pairwise-at r (x ∷ l) d zero (suc j) h b c = pairwise-head r h (getD-mem l d j (omega arith))
+  pairwise-at r (x ∷ l) d zero (suc j) h b c = pairwise-head r h (getD-mem l j d (omega arith))
   pairwise-at r (x ∷ l) d (suc i) (suc j) h b c =
       pairwise-at r l d i j (pairwise-tail r x l h) (omega arith) (omega arith)
 
@@ -106,12 +97,12 @@ module _ {table : List ℕ} (r : Readable table) (places : List ℕ) where
   unfolding inTable upTo
   all-sections =
       ap (λ l. flatten (map part l)) split
-      ∙ flatten-append part (numbersFrom 0 n) (numbersFrom n (16 - n))
+      ∙ flatten-map-append part (numbersFrom 0 n) (numbersFrom n (16 - n))
       ∙ ap₂ _++_
       (flatten-map-ext part (λ i. window table places i (countIn table i)) (numbersFrom 0 n) (λ i m.
-      ofInput-window table places r i (omega (arith, numbersFrom-e 0 n m .1))))
+      ofInput-window table places r i (omega (arith, mem-numbersFrom 0 n m .1))))
       (flatten-empty part (numbersFrom n (16 - n)) (λ i m.
-      ofInput-none table places r i (numbersFrom-e n (16 - n) m .0)))
+      ofInput-none table places r i (mem-numbersFrom n (16 - n) m .0)))
       ∙ append-nil (flatten (map (λ i. window table places i (countIn table i)) (numbersFrom 0 n)))
     where
       n : ℕ
@@ -247,13 +238,13 @@ module _ {table : List ℕ} (r : Readable table) (places counts numbers outputs 
   cellOf-at i m l b =
       ap (waitingAt table places) (h .number i m l (rw (length-map (ofPort i) (λ e. e .at)) b)
       ∙ List·getD-map (λ e. e .at) (ofPort i) m noCell)
-      ∙ sym (inTable-e table places r (of-all i (getD-mem (ofPort i) noCell m b)) .0)
+      ∙ sym (inTable-e table places r (of-all i (getD-mem (ofPort i) m noCell b)) .0)
 
   pub candidates-positions : map cellOf (positions counts) ≡ phase (inTable table places) .candidates
   unfolding positions positionsTo upTo ofPort
   candidates-positions =
       sym (flatten-through cellOf ofPort (λ i. numbersFrom (cellLimit * i) (getD counts i 0)) (upTo portLimit) (λ i m.
-      let l : i < portLimit = omega (arith, numbersFrom-e 0 portLimit m .1) in
+      let l : i < portLimit = omega (arith, mem-numbersFrom 0 portLimit m .1) in
       sym (ap (λ n. map cellOf (numbersFrom (cellLimit * i) n)) (length-of i l)
       ∙ map-numbersFrom cellOf (cellLimit * i) (ofPort i) noCell (λ n b. cellOf-at i n l b))))
       ∙ candidates-sections r places
@@ -318,7 +309,7 @@ module _ {table : List ℕ} (r : Readable table) (places counts numbers outputs 
       cell = ap cellOf at ∙ cellOf-at i m (c .0) inside
 
       own : List·Memᴰ (cellOf k) (ofPort i)
-      own = rw cell (getD-mem (ofPort i) noCell m inside)
+      own = rw cell (getD-mem (ofPort i) m noCell inside)
 
   module _ {k l : ℕ} (p : Position k) (q : Position l) where
     -- of two positions of one input the smaller one is ahead

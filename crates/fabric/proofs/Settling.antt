@@ -2,18 +2,18 @@
 --     match-held       the cell that an output holds is its match
 --     match-of         and every match is held
 --     settled          so the code's straight cells are those of the phase
-use Prim.Native.Nat.{ℕ, zero, suc, _+_, _*_, _/_, _%_, _<_, _≤_}
+use Prim.Native.Nat.{ℕ, _+_, _*_, _/_, _%_, _<_, _≤_}
 use native.Mathlib.Omega.{arith}
 use mathlib.Core.Bool.{Bool, true, false, _&&_}
 use mathlib.Core.Path.{_≡_, refl, sym, _∙_, ap}
 use mathlib.Core.Logic.{_⊎_, inl, inr}
-use mathlib.Core.List.{List, [], _∷_, map, List·Memᴰ, Memᴰ·map, Memᴰ·of-map, Memᴰ·cast}
+use mathlib.Core.List.{List, map, List·Memᴰ, Memᴰ·map, Memᴰ·of-map, Memᴰ·cast}
 use borrow.Author.Tests.{eqb-true, eqb-false, eq-eqb, ltb-true, ltb-false}
 use lib.Dec.{ltb, eqb}
 use lib.ListN.{length, getD}
 use Rattle.laws.specs.Lists.{keep}
 use Rattle.laws.proofs.Tests.{either, clash, and-i, and-l}
-use Rattle.laws.proofs.Lists.{keep-mem, mem-keep-in, mem-keep-passes}
+use Rattle.laws.proofs.Lists.{keep-mem, mem-keep-in, mem-keep-passes, getD-any}
 use Rattle.cell.specs.Limits.{cellLimit, portLimit}
 use Rattle.matching.specs.Positions.{positions}
 use Rattle.matching.specs.Found.{Found}
@@ -34,12 +34,6 @@ use Rattle.moving.proofs.Ports.{numberBy, ByPort, has, lacks, by-none, by-cases
 use Rattle.moving.proofs.Ports.{straight-output, scheduled-input, scheduledOf-by, straightOf-by}
 use Rattle.moving.proofs.Known.{Known, known}
 use Rattle.fabric.proofs.Positions.{Lined, cellOf, cellOf-number, Position, position-e, few, matched-positions}
-
--- within a list what stands past its end does not matter
-getD-any : (l : List ℕ) (i d e : ℕ) → i < length l → getD l i d ≡ getD l i e
-getD-any [] i d e h = absurd (omega arith)
-getD-any (x ∷ l) zero d e h = refl
-getD-any (x ∷ l) (suc i) d e h = getD-any l i d e (omega arith)
 
 module _ {table : List ℕ} (r : Readable table) (places : List ℕ) (o : Orderly (inTable table places))
     (counts numbers outputs ranks slots : List ℕ) (h : Lined table places counts numbers outputs ranks slots)
@@ -170,7 +164,7 @@ module _ {table : List ℕ} (r : Readable table) (places : List ℕ) (o : Orderl
 
       go : (ltb i portLimit ≡ true) ⊎ (ltb i portLimit ≡ false) → F x ≡ chosen
       go (inr t) =
-          sym (straight-free scheduled numbers held refused x i 0 refl (ltb-false _ _ t))
+          sym (straight-free scheduled numbers held refused x (ltb-false _ _ t))
           ∙ sym (none (λ e m q.
           let k : Known r places e = known r places (match-all all (straight-matched all m)) in
           let b : i ≡ inputOf e = sym (holds x l) ∙ ap (λ y. getD held y portLimit) (sym q) ∙ match-of (straight-matched all m) in
@@ -226,12 +220,12 @@ module _ {table : List ℕ} (r : Readable table) (places : List ℕ) (o : Orderl
 
           case : (eqb k (getD scheduled i 0) ≡ true) ⊎ (eqb k (getD scheduled i 0) ≡ false) → F x ≡ chosen
           case (inl q) =
-              sym (straight-scheduled scheduled numbers held refused x i m refl refl (eqb-true _ _ q))
+              sym (straight-scheduled scheduled numbers held refused x (eqb-true _ _ q))
               ∙ sym (none (λ f j to.
               let one : f ≡ e = match-output all o (straight-matched all j) (w .mem) (to ∙ sym (w .to)) in
               not-urgent (eqb-true _ _ q) (Memᴰ·cast (sym one) (straight-urgent all o j))))
           case (inr q) =
-              sym (straight-match scheduled numbers held refused x i m refl refl b (eqb-false _ _ q))
+              sym (straight-match scheduled numbers held refused x b (eqb-false _ _ q))
               ∙ number
               ∙ sym (ap (numberBy outputOf (phase all .straight)) (sym (w .to))
               ∙ by-one outputOf (phase all .straight) (straight-output all o)

@@ -1,6 +1,6 @@
 -- Laws of count, in this order:
 --     its clauses; ++, map, keep, the length of a kept list
---     count-zero, count-none, count-pos, count-find    when it is 0 and when it is not
+--     count-zero, count-pos, count-find                when it is 0 and when it is not
 --     count-le, count-lt, count-ext                    two tests compared on the members
 --     count-split, count-or, count-not, count-all      a test taken apart by another
 use Prim.Native.Nat.{ℕ, suc, _+_, _≤_, _<_}
@@ -8,8 +8,7 @@ use native.Mathlib.Omega.{arith}
 use mathlib.Core.Bool.{Bool, true, false, cond, not, _&&_, _||_}
 use mathlib.Core.Path.{_≡_, refl, sym, _∙_, ap, ap₂}
 use mathlib.Core.Logic.{_⊎_, inl, inr}
-use mathlib.Core.List.{List, [], _∷_, _++_, map, List·Memᴰ, List·Memᴰ·head, List·Memᴰ·tail, List·Memᴰ·not-nil}
-use mathlib.Core.List.{List·Memᴰ·cases-cons}
+use mathlib.Core.List.{List, [], _∷_, _++_, map, List·Memᴰ, List·Memᴰ·head, List·Memᴰ·tail}
 use lib.ListN.{length}
 use Rattle.laws.specs.Lists.{keep, none?, all?, count}
 use Rattle.laws.proofs.Tests.{clash, and-r}
@@ -113,13 +112,6 @@ module _ {A : Type 0} where
   count-pos p (List·Memᴰ·head {x = y} {xs = l} e) h = omega (arith, count-pass p y l (ap p (sym e) ∙ h))
   count-pos p (List·Memᴰ·tail {x = y} {xs = l} m) h = omega (arith, count-cons p y l, count-pos p m h)
 
-  pub count-none : (p : A → Bool) (l : List A) → _≡_ {A = ℕ} (count p l) 0 → none? p l ≡ true
-  count-none p l z = go (find p l)
-    where
-      go : Passing p l ⊎ (none? p l ≡ true) → none? p l ≡ true
-      go (inl w) = absurd (omega (arith, count-pos p (w .1) (w .2)))
-      go (inr n) = n
-
   pub count-find : (p : A → Bool) (l : List A) → 0 < count p l → Passing p l
   count-find p l z = go (find p l)
     where
@@ -145,23 +137,6 @@ module _ {A : Type 0} where
 
   ------------------------------------------------------------------------
   -- at most one
-
-  -- where at most one passes, two members that pass are equal
-  pub count-same : (p : A → Bool) (l : List A) {x y : A} → count p l ≤ 1
-      → List·Memᴰ x l → p x ≡ true → List·Memᴰ y l → p y ≡ true → x ≡ y
-  count-same p [] c m h n k = absurd (List·Memᴰ·not-nil m)
-  count-same p (z ∷ l) {x} {y} c m h n k = go (List·Memᴰ·cases-cons m) (List·Memᴰ·cases-cons n) (count-same p l)
-    where
-      -- the head passes, and so does a later one
-      two : {w : A} → p z ≡ true → List·Memᴰ w l → p w ≡ true → x ≡ y
-      two e i t = absurd (omega (arith, count-pass p z l e, count-pos p i t))
-
-      go : (x ≡ z) ⊎ List·Memᴰ x l → (y ≡ z) ⊎ List·Memᴰ y l
-          → (count p l ≤ 1 → List·Memᴰ x l → p x ≡ true → List·Memᴰ y l → p y ≡ true → x ≡ y) → x ≡ y
-      go (inl e) (inl f) rec = e ∙ sym f
-      go (inl e) (inr j) rec = two (ap p (sym e) ∙ h) j k
-      go (inr i) (inl f) rec = two (ap p (sym f) ∙ k) i h
-      go (inr i) (inr j) rec = rec (omega (arith, count-cons p z l)) i h j k
 
   ------------------------------------------------------------------------
   -- a test taken apart by another

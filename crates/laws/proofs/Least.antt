@@ -1,7 +1,7 @@
 -- Laws of least: those of a list that no other of it is before.
 --     least-mem, mem-least-in, mem-least-none   its members
 --     least-below, least-before                 under a strict order each member is at or after a least one
---     least-part, keep-least, least-least       of a part of the list
+--     least-part, keep-least                    of a part of the list
 --     least-ext, least-map                      by another order, under map
 use Prim.Native.Nat.{ℕ, zero, suc, _<_}
 use native.Mathlib.Omega.{arith}
@@ -13,7 +13,7 @@ use Rattle.laws.specs.Lists.{keep, none?, count, least}
 use Rattle.laws.specs.Order.{Strict}
 use Rattle.laws.proofs.Tests.{by-fail, same}
 use Rattle.laws.proofs.Lists.{Passing, find, none?-e, none?-i, none?-clash, none?-ext, none?-within, none?-map}
-use Rattle.laws.proofs.Lists.{all?-i, keep-mem, mem-keep-in, mem-keep-passes, keep-all, keep-ext}
+use Rattle.laws.proofs.Lists.{keep-mem, mem-keep-in, mem-keep-passes, keep-ext}
 use Rattle.laws.proofs.Lists.{keep-keep, keep-map}
 use Rattle.laws.proofs.Count.{count-lt}
 
@@ -145,15 +145,6 @@ module _ {A : Type 0} where
   least-ext lt gt l h =
       keep-ext (λ x. none? (λ y. lt y x) l) (λ x. none? (λ y. gt y x) l) l
       (λ x m. none?-ext (λ y. lt y x) (λ y. gt y x) l (λ y k. h y x k m))
-
-  pub least-least : (lt : A → A → Bool) (l : List A) → least lt (least lt l) ≡ least lt l
-  least-least lt l = least-keeps lt (least lt l) ∙ keep-all first (least lt l) (all?-i first (least lt l) (λ x m. go m))
-    where
-      first : A → Bool
-      first x = none? (λ y. lt y x) (least lt l)
-
-      go : {x : A} → List·Memᴰ x (least lt l) → first x ≡ true
-      go {x} m = none?-within (λ y. lt y x) (least lt l) l (λ y k t. mem-least-in lt l k) (mem-least-none lt l m)
 
   pub least-map : {B : Type 0} (lt : B → B → Bool) (f : A → B) (l : List A)
       → least lt (map f l) ≡ map f (least (λ x y. lt (f x) (f y)) l)

@@ -3,3 +3,4 @@ pub mod Lists
 pub mod Count
 pub mod Least
 pub mod Pairwise
+pub mod Numbers

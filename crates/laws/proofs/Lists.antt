@@ -1,16 +1,20 @@
 -- Laws of the tests over lists, a section for each: some?, none?, all?, then keep. Counts are in Count, least in
--- Least, pairwise in Pairwise; membership in ++ and map is the library's (mathlib.Core.List).
+-- Least, pairwise in Pairwise, numbers in Numbers; membership in ++ and map is the library's (mathlib.Core.List).
 --     -nil, -cons, -pass, -fail   the clauses
 --     -i, -e                      how to build it from the members, and what it says of them
 --     -mono, -ext, -within        another test that the members pass, the same test, another list
 --     -append, -map, -keep        of l ++ m, map f l, keep p l
 --     find                        some member passes, or none does
 --     keep-mem, mem-keep          the members of a kept list
+--     getD-mem, getD-any          the element at a place
+use Prim.Native.Nat.{ℕ, zero, suc, _<_}
+use native.Mathlib.Omega.{arith}
 use mathlib.Core.Bool.{Bool, true, false, cond, not, _&&_, _||_, and-assoc, or-assoc, and-comm, false≢true}
 use mathlib.Core.Path.{_≡_, refl, sym, _∙_, ap, ap₂}
 use mathlib.Core.Logic.{_⊎_, inl, inr}
 use mathlib.Core.List.{List, [], _∷_, _++_, map, List·Memᴰ, List·Memᴰ·head, List·Memᴰ·tail, List·Memᴰ·not-nil}
-use mathlib.Core.List.{List·Memᴰ·cases-cons}
+use mathlib.Core.List.{List·Memᴰ·cases-cons, flatten, append-assoc}
+use lib.ListN.{length, getD}
 use Rattle.laws.specs.Lists.{keep, some?, none?, all?}
 use Rattle.laws.proofs.Tests.{clash, by-fail, same, and-i, and-l, and-r, or-l, or-r, or-cases}
 use Rattle.laws.proofs.Tests.{not-i, not-e, not-false-e, not-or}
@@ -60,11 +64,6 @@ module _ {A : Type 0} where
   some?-ext p q [] h = refl
   some?-ext p q (y ∷ l) h =
       ap₂ _||_ (h y (List·Memᴰ·head refl)) (some?-ext p q l (λ x m. h x (List·Memᴰ·tail m)))
-
-  -- a list with more members
-  pub some?-within : (p : A → Bool) (l m : List A) → ((x : A) → List·Memᴰ x l → p x ≡ true → List·Memᴰ x m)
-      → some? p l ≡ true → some? p m ≡ true
-  some?-within p l m h s = let w : Passing p l = some?-e p l s in some?-i p (h (w .0) (w .1) (w .2)) (w .2)
 
   ------------------------------------------------------------------------
   -- none?
@@ -180,12 +179,6 @@ module _ {A : Type 0} where
       → all? p l ≡ true → all? q l ≡ true
   all?-mono p q l h a = all?-i q l (λ x m. h x m (all?-e p a m))
 
-  pub all?-ext : (p q : A → Bool) (l : List A) → ((x : A) → List·Memᴰ x l → p x ≡ q x) → all? p l ≡ all? q l
-  unfolding all?
-  all?-ext p q [] h = refl
-  all?-ext p q (y ∷ l) h =
-      ap₂ _&&_ (h y (List·Memᴰ·head refl)) (all?-ext p q l (λ x m. h x (List·Memᴰ·tail m)))
-
   ------------------------------------------------------------------------
   -- keep: its clauses and its members
 
@@ -291,9 +284,6 @@ module _ {A : Type 0} where
   keep-none p (x ∷ l) h =
       keep-fail p x l (not-e (p x) (and-l (not (p x)) (none? p l) h)) ∙ keep-none p l (and-r (not (p x)) (none? p l) h)
 
-  pub keep-same : (p : A → Bool) (l : List A) → keep p (keep p l) ≡ keep p l
-  keep-same p l = keep-all p (keep p l) (all?-i p (keep p l) (λ x m. mem-keep-passes p l m))
-
   ------------------------------------------------------------------------
   -- the tests of a kept list
 
@@ -312,21 +302,6 @@ module _ {A : Type 0} where
       into s =
           let w : Passing both l = some?-e both l s in
           some?-i q (keep-mem p (w .1) (and-l (p (w .0)) (q (w .0)) (w .2))) (and-r (p (w .0)) (q (w .0)) (w .2))
-
-  pub none?-keep : (p q : A → Bool) (l : List A) → none? q (keep p l) ≡ none? (λ x. p x && q x) l
-  none?-keep p q l =
-      none?-not-some? q (keep p l) ∙ ap not (some?-keep p q l) ∙ sym (none?-not-some? (λ x. p x && q x) l)
-
-  pub all?-keep : (p q : A → Bool) (l : List A) → all? q (keep p l) ≡ all? (λ x. not (p x) || q x) l
-  all?-keep p q l =
-      all?-none? q (keep p l)
-      ∙ none?-keep p (λ x. not (q x)) l
-      ∙ none?-ext (λ x. p x && not (q x)) (λ x. not (not (p x) || q x)) l (λ x m. go (p x) (q x))
-      ∙ sym (all?-none? (λ x. not (p x) || q x) l)
-    where
-      go : (a b : Bool) → (a && not b) ≡ not (not a || b)
-      go true b = refl
-      go false b = refl
 
 ------------------------------------------------------------------------
 -- under map
@@ -358,3 +333,27 @@ module _ {A B : Type 0} (p : B → Bool) (f : A → B) where
       go : (b : Bool) → cond b (f x ∷ map f k) (map f k) ≡ map f (cond b (x ∷ k) k)
       go true = refl
       go false = refl
+
+------------------------------------------------------------------------
+-- elements by their places
+
+pub getD-mem : {A : Type 0} (l : List A) (i : ℕ) (d : A) → i < length l → List·Memᴰ (getD l i d) l
+getD-mem [] i d h = absurd (omega arith)
+getD-mem (x ∷ l) zero d h = List·Memᴰ·head refl
+getD-mem (x ∷ l) (suc i) d h = List·Memᴰ·tail (getD-mem l i d (omega arith))
+
+-- within a list what stands past its end does not matter
+pub getD-any : {A : Type 0} (l : List A) (i : ℕ) (d e : A) → i < length l → getD l i d ≡ getD l i e
+getD-any [] i d e h = absurd (omega arith)
+getD-any (x ∷ l) zero d e h = refl
+getD-any (x ∷ l) (suc i) d e h = getD-any l i d e (omega arith)
+
+------------------------------------------------------------------------
+-- lists one after the other
+
+pub flatten-map-append : {A B : Type 0} (f : A → List B) (l m : List A)
+    → flatten (map f (l ++ m)) ≡ flatten (map f l) ++ flatten (map f m)
+unfolding flatten
+flatten-map-append f [] m = refl
+flatten-map-append f (x ∷ l) m =
+    ap (λ k. f x ++ k) (flatten-map-append f l m) ∙ sym (append-assoc (f x) (flatten (map f l)) (flatten (map f m)))

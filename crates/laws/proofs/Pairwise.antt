@@ -3,7 +3,6 @@
 --     pairwise-append, pairwise-split                two lists one after the other
 --     pairwise-mono, pairwise-keep, pairwise-map
 --     pairwise-le-one                                no two pass: at most one passes
---     pairwise-i                                     any two members stand in r
 use Prim.Native.Nat.{_≤_}
 use native.Mathlib.Omega.{arith}
 use mathlib.Core.Bool.{Bool, true, false, not, _&&_}
@@ -38,14 +37,6 @@ module _ {A : Type 0} where
       → pairwise r l ≡ true → pairwise r (x ∷ l) ≡ true
   unfolding pairwise
   pairwise-cons r x l h t = and-i (all? (r x) l) (pairwise r l) (all?-i (r x) l h) t
-
-  -- it is enough that any two members stand in r
-  pub pairwise-i : (r : A → A → Bool) (l : List A) → ((x y : A) → List·Memᴰ x l → List·Memᴰ y l → r x y ≡ true)
-      → pairwise r l ≡ true
-  pairwise-i r [] h = pairwise-nil r
-  pairwise-i r (x ∷ l) h =
-      pairwise-cons r x l (λ y m. h x y (List·Memᴰ·head refl) (List·Memᴰ·tail m))
-      (pairwise-i r l (λ y z m k. h y z (List·Memᴰ·tail m) (List·Memᴰ·tail k)))
 
   -- two members are the same, or one stands in r to the other
   pub pairwise-e : (r : A → A → Bool) (l : List A) {x y : A} → pairwise r l ≡ true → List·Memᴰ x l → List·Memᴰ y l

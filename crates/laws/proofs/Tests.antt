@@ -102,10 +102,6 @@ pub not-false-e : (b : Bool) → not b ≡ false → b ≡ true
 not-false-e true h = refl
 not-false-e false h = sym h
 
-pub not-and : (a b : Bool) → not (a && b) ≡ not a || not b
-not-and true b = refl
-not-and false b = refl
-
 pub not-or : (a b : Bool) → not (a || b) ≡ not a && not b
 not-or true b = refl
 not-or false b = refl

@@ -1,14 +1,15 @@
 -- A number's bytes in two halves: what is read from the halves, and what stands after both have been written.
 use Prim.Native.Nat.{ℕ, zero, suc, _+_, _*_, _^_, _/_, _%_, _≤_, _<_}
 use mathlib.Core.Path.{_≡_, refl, sym, _∙_, ap, ap₂}
-use mathlib.Core.List.{List, [], _∷_, _++_, append-assoc}
-use native.Mathlib.Nat.{zero-add, one-mul, mul-assoc, pow-zero, pow-succ', add-assoc, suc-add}
+use mathlib.Core.List.{List, [], _∷_, _++_}
+use native.Mathlib.Nat.{zero-add, one-mul, mul-assoc, pow-zero, pow-succ', suc-add}
 use native.Mathlib.Numerals.{add-one}
 use native.Mathlib.Omega.{arith}
-use lib.ListN.{length, take, drop, set, getD, length-append, length-drop}
-use lib.Seq.{take-at, drop-at, drop-drop, take-add, length-take-le, set-split}
+use lib.ListN.{length, take, drop, set, getD, length-drop}
+use lib.Seq.{drop-drop, take-add, length-take-le, set-split}
 use Rattle.layout.specs.Number.{bytesOf, numberOf, numberAt}
 use Rattle.layout.proofs.Number.{length-bytesOf}
+use Rattle.layout.proofs.Put.{put, put-next}
 
 ------------------------------------------------------------------------
 -- read
@@ -64,41 +65,13 @@ bytesOf-halves (suc v) w low high small =
     let less : low / 256 < 256 ^ v = omega arith in
     rw suc-add (ap₂ _∷_ first (ap (bytesOf (v + w)) others ∙ bytesOf-halves v w (low / 256) high less))
 
--- bytes at a place, the others kept
-abbrev put : ℕ → ℕ → List ℕ → List ℕ → List ℕ
-put at width bs old = take at old ++ (bs ++ drop (at + width) old)
-
--- one run of bytes and then one behind it
-module _ (at v w : ℕ) (xs ys old : List ℕ) (hx : length xs ≡ v) (room : at + v ≤ length old) where
-  put-front : length (take at old ++ xs) ≡ at + v
-  put-front = length-append (take at old) xs ∙ ap₂ _+_ (length-take-le at old (omega arith)) hx
-
-  put-parts : put at v xs old ≡ (take at old ++ xs) ++ drop (at + v) old
-  put-parts = sym (append-assoc (take at old) xs (drop (at + v) old))
-
-  put-head : take (at + v) (put at v xs old) ≡ take at old ++ xs
-  put-head = rw put-parts (take-at (take at old ++ xs) (drop (at + v) old) (at + v) put-front)
-
-  put-tail : drop (at + v + w) (put at v xs old) ≡ drop (at + (v + w)) old
-  put-tail =
-      sym (drop-drop w (at + v) (put at v xs old))
-      ∙ ap (λ l. drop w (drop (at + v) l)) put-parts
-      ∙ ap (drop w) (drop-at (take at old ++ xs) (drop (at + v) old) (at + v) put-front)
-      ∙ drop-drop w (at + v) old
-      ∙ ap (λ n. drop n old) (add-assoc at v w)
-
-  put-put : put (at + v) w ys (put at v xs old) ≡ put at (v + w) (xs ++ ys) old
-  put-put = ap₂ (λ front back. front ++ (ys ++ back)) put-head put-tail ∙ simp append-assoc
-
 -- a number written half by half
 pub put-halves : (w at low high n : ℕ) (old mid new : List ℕ) → at + (w + w) ≤ length old
     → mid ≡ take at old ++ (bytesOf w low ++ drop (at + w) old)
     → new ≡ take (at + w) mid ++ (bytesOf w high ++ drop (at + w + w) mid) → low < 256 ^ w → n ≡ low + 256 ^ w * high
     → new ≡ take at old ++ (bytesOf (w + w) n ++ drop (at + (w + w)) old)
 put-halves w at low high n old mid new room first second small whole =
-    second
-    ∙ ap (put (at + w) w (bytesOf w high)) first
-    ∙ put-put at w w (bytesOf w low) (bytesOf w high) old (length-bytesOf w low) (omega arith)
+    put-next at w w (bytesOf w low) (bytesOf w high) old mid new (length-bytesOf w low) (length-bytesOf w high) room first second
     ∙ ap (λ bs. put at (w + w) bs old) (sym (bytesOf-halves w w low high small) ∙ ap (bytesOf (w + w)) (sym whole))
 
 pub put-byte : (at b : ℕ) (old : List ℕ) → at + 1 ≤ length old → b < 256

@@ -20,7 +20,7 @@ use Rattle.layout.specs.Arrivals.{recordsOf}
 use Rattle.layout.specs.Answer.{answerSize}
 use Rattle.layout.specs.Table.{encode, decode, tableSize}
 use Rattle.layout.specs.TallyBytes.{tallySize}
-use Rattle.layout.specs.Host.{filled, startCall, bufferAfter, checkCall, slotOf, slotCall, tableAfter, answerAfter}
+use Rattle.layout.specs.Host.{filled, startCall, checkCall, slotOf, slotCall, tableAfter, answerAfter}
 use Rattle.layout.specs.Host.{tallyBytesAfter}
 use Rattle.layout.proofs.Table.{decode-encode}
 
@@ -57,10 +57,6 @@ module _ (ports first : ℕ) (buffer : List ℕ) where
       → startCall ports first buffer ≡ done (fresh ports first)
   unfolding startCall start
   startCall-done h room = rw (h, le-ltb (length buffer) tableSize room, startCall, start)
-
-pub bufferAfter-refused : (buffer : List ℕ) (r : Refusal) (place : ℕ) → bufferAfter buffer (refused r place) ≡ buffer
-unfolding bufferAfter
-bufferAfter-refused buffer r place = refl
 
 ------------------------------------------------------------------------
 -- check

@@ -3,6 +3,7 @@ pub mod Arrivals
 pub mod Halves
 pub mod Host
 pub mod Number
+pub mod Put
 pub mod Records
 pub mod Table
 pub mod Tally

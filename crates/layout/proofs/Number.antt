@@ -7,7 +7,7 @@ use Prim.Native.Nat.{ℕ, zero, suc, _+_, _*_, _^_, _/_, _%_, _≤_, _<_}
 use mathlib.Core.Bool.{Bool, true, false≢true}
 use mathlib.Core.Path.{_≡_, refl, sym, _∙_, ap, ap₂}
 use mathlib.Core.List.{List, [], _∷_, _++_, append-assoc, append-nil}
-use native.Mathlib.Nat.{add-zero, pow-zero, pow-suc}
+use native.Mathlib.Nat.{pow-zero, pow-suc}
 use native.Mathlib.Omega.{arith}
 use borrow.Author.Tests.{ltb-true, lt-ltb, leb-true, le-leb, eqb-true, eq-eqb}
 use lib.Dec.{ltb, eqb}
@@ -52,12 +52,6 @@ pub bytes?-i : (bs : List ℕ) → ((i : ℕ) → getD bs i 0 < 256) → bytes? 
 unfolding bytes? all? isByte
 bytes?-i [] h = refl
 bytes?-i (b ∷ bs) h = and-i (ltb b 256) (bytes? bs) (lt-ltb b 256 (h 0)) (bytes?-i bs (λ i. h (suc i)))
-
-pub bytes?-e : (bs : List ℕ) → bytes? bs ≡ true → (i : ℕ) → getD bs i 0 < 256
-unfolding bytes? all? isByte
-bytes?-e [] h i = omega arith
-bytes?-e (b ∷ bs) h zero = ltb-true b 256 (and-l (ltb b 256) (bytes? bs) h)
-bytes?-e (b ∷ bs) h (suc i) = bytes?-e bs (and-r (ltb b 256) (bytes? bs) h) i
 
 pub zeros-bytes : (n : ℕ) → bytes? (replicate n 0) ≡ true
 unfolding bytes? all? isByte
@@ -148,11 +142,6 @@ numberAt-past w at p q n h = rw (← h, drop-append-add)
 pub numberAt-here : (w n : ℕ) (q : List ℕ) → n < 256 ^ w → numberAt w 0 (bytesOf w n ++ q) ≡ n
 unfolding numberAt
 numberAt-here w n q h = ap numberOf (take-at (bytesOf w n) q w (length-bytesOf w n)) ∙ numberOf-bytesOf w n h
-
--- the number that stands behind p
-pub numberAt-bytesOf : (w n : ℕ) (p q : List ℕ) → n < 256 ^ w → numberAt w (length p) (p ++ (bytesOf w n ++ q)) ≡ n
-numberAt-bytesOf w n p q h =
-    rw (← add-zero (length p)) (numberAt-past w 0 p (bytesOf w n ++ q) (length p) refl ∙ numberAt-here w n q h)
 
 pub word-past : (bs cs : List ℕ) (n at : ℕ) → length bs ≡ n → word (bs ++ cs) (n + at) ≡ word cs at
 unfolding word

@@ -6,7 +6,7 @@
 use Prim.Native.Nat.{ℕ, zero, suc, _+_, _*_, _-_, _/_, _≤_, _<_}
 use mathlib.Core.Bool.{Bool, true, false, _&&_}
 use mathlib.Core.Path.{_≡_, refl, sym, _∙_, ap, ap₂, subst}
-use mathlib.Core.List.{List, [], _∷_, _++_, map, map-append, List·Memᴰ, List·Memᴰ·cases-cons, List·Memᴰ·not-nil}
+use mathlib.Core.List.{List, [], _∷_, _++_, map, map-append, List·Memᴰ}
 use mathlib.Core.Logic.{_⊎_, inl, inr}
 use native.Mathlib.Nat.{zero-add, suc-add, add-zero}
 use native.Mathlib.Omega.{arith}
@@ -17,6 +17,8 @@ use lib.Seq.{take-take, drop-drop, take-nil, getD-drop}
 use Rattle.laws.specs.Lists.{all?, numbersFrom, upTo}
 use Rattle.laws.proofs.Tests.{either, and-l, and-r}
 use Rattle.laws.proofs.Lists.{all?-map}
+use Rattle.laws.proofs.Numbers.{mem-numbersFrom, numbersFrom-add, numbersFrom-at}
+pub use Rattle.laws.proofs.Numbers.{length-numbersFrom}
 use Rattle.cell.specs.Limits.{cellLimit}
 use Rattle.model.specs.State.{Entry}
 use Rattle.model.specs.Sound.{soundSection, soundSections, sound}
@@ -38,7 +40,7 @@ drop-take (suc n) m [] = rw suc-add (sym (take-nil m))
 drop-take (suc n) m (b ∷ bs) = rw suc-add (drop-take n m bs)
 
 -- a number within a part
-numberAt-part : (w at room start : ℕ) (bs : List ℕ) → at + w ≤ room
+pub numberAt-part : (w at room start : ℕ) (bs : List ℕ) → at + w ≤ room
     → numberAt w at (take room (drop start bs)) ≡ numberAt w (start + at) bs
 unfolding numberAt
 numberAt-part w at room start bs h =
@@ -113,29 +115,9 @@ between-cons from to h =
     let more : to - from ≡ suc (to - (from + 1)) = omega arith in
     rw more
 
-numbersFrom-mem : (from n : ℕ) {k : ℕ} → List·Memᴰ k (numbersFrom from n) → (from ≤ k) × (k < from + n)
-unfolding numbersFrom
-numbersFrom-mem from zero m = absurd (List·Memᴰ·not-nil m)
-numbersFrom-mem from (suc n) {k} m = go (numbersFrom-mem (from + 1) n) (List·Memᴰ·cases-cons m)
-  where
-    go : (List·Memᴰ k (numbersFrom (from + 1) n) → (from + 1 ≤ k) × (k < from + 1 + n))
-        → (k ≡ from) ⊎ List·Memᴰ k (numbersFrom (from + 1) n) → (from ≤ k) × (k < from + suc n)
-    go later (inl e) = (omega arith, omega arith)
-    go later (inr m) = let b = later m in (omega arith, omega arith)
-
--- what stands at a place of a list over numbers
-numbersFrom-at : {A : Type 0} (f : ℕ → A) (from n i : ℕ) (a : A) → i < n
-    → getD (map f (numbersFrom from n)) i a ≡ f (from + i)
-unfolding numbersFrom
-numbersFrom-at f from zero i a h = absurd (omega arith)
-numbersFrom-at f from (suc n) zero a h = ap f (sym (add-zero from))
-numbersFrom-at f from (suc n) (suc i) a h =
-    let next : from + 1 + i ≡ from + suc i = omega arith in
-    numbersFrom-at f (from + 1) n i a (omega arith) ∙ ap f next
-
 pub between-mem : (from to : ℕ) {k : ℕ} → List·Memᴰ k (between from to) → (from ≤ k) × (k < to)
 unfolding between
-between-mem from to m = let b = numbersFrom-mem from (to - from) m in (omega arith, omega arith)
+between-mem from to m = let b = mem-numbersFrom from (to - from) m in (omega arith, omega arith)
 
 -- what holds of all of them holds of each
 numbersFrom-each : (p : ℕ → Bool) (n from k : ℕ) → all? p (numbersFrom from n) ≡ true → from ≤ k → k < from + n
@@ -156,11 +138,6 @@ pub between-each : (p : ℕ → Bool) (from to k : ℕ) → all? p (between from
 unfolding between
 between-each p from to k h low high = numbersFrom-each p (to - from) from k h low (omega arith)
 
-pub length-numbersFrom : (k n : ℕ) → length (numbersFrom k n) ≡ n
-unfolding numbersFrom
-length-numbersFrom k zero = refl
-length-numbersFrom k (suc n) = ap suc (length-numbersFrom (k + 1) n)
-
 ------------------------------------------------------------------------
 -- the entries of the records from one up to another
 
@@ -172,14 +149,6 @@ pub entriesBetween-cons : (bs : List ℕ) (from to : ℕ) → from < to
     → entriesBetween bs from to ≡ entryAt bs from ∷ entriesBetween bs (from + 1) to
 unfolding entriesBetween
 entriesBetween-cons bs from to h = ap (map (entryAt bs)) (between-cons from to h)
-
-numbersFrom-add : (from n m : ℕ) → numbersFrom from (n + m) ≡ numbersFrom from n ++ numbersFrom (from + n) m
-unfolding numbersFrom
-numbersFrom-add from zero m = ap₂ numbersFrom (sym (add-zero from)) (zero-add m)
-numbersFrom-add from (suc n) m =
-    let next : from + 1 + n ≡ from + suc n = omega arith in
-    ap (numbersFrom from) (suc-add n m)
-    ∙ ap (λ l. from ∷ l) (numbersFrom-add (from + 1) n m ∙ ap (λ k. numbersFrom (from + 1) n ++ numbersFrom k m) next)
 
 -- in two parts
 pub entriesBetween-split : (bs : List ℕ) (from k to : ℕ) → from ≤ k → k ≤ to

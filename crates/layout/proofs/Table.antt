@@ -27,11 +27,11 @@ use Rattle.layout.proofs.Number.{sameBytes-refl, sameBytes-exact}
 ------------------------------------------------------------------------
 -- the place of an entry
 
-placeByte-below : (p : Place) → placeByte p < 256
+pub placeByte-range : (p : Place) → (1 ≤ placeByte p) × (placeByte p ≤ 3)
 unfolding placeByte
-placeByte-below listed = lit≤ tt
-placeByte-below crossed = lit≤ tt
-placeByte-below buffered = lit≤ tt
+placeByte-range listed = (lit≤ tt, lit≤ tt)
+placeByte-range crossed = (lit≤ tt, lit≤ tt)
+placeByte-range buffered = (lit≤ tt, lit≤ tt)
 
 pub placeOf-placeByte : (p : Place) → placeOf (placeByte p) ≡ p
 unfolding placeOf placeByte
@@ -40,7 +40,8 @@ placeOf-placeByte crossed = refl
 placeOf-placeByte buffered = refl
 
 placeOf-bytesOf : (p : Place) → placeOf (numberOf (bytesOf 1 (placeByte p))) ≡ p
-placeOf-bytesOf p = ap placeOf (numberOf-bytesOf 1 (placeByte p) (placeByte-below p)) ∙ placeOf-placeByte p
+placeOf-bytesOf p =
+    ap placeOf (numberOf-bytesOf 1 (placeByte p) (omega (arith, placeByte-range p .1))) ∙ placeOf-placeByte p
 
 ------------------------------------------------------------------------
 -- an entry
@@ -53,6 +54,11 @@ pub entryBytes-bytes : (e : Entry) → bytes? (entryBytes e) ≡ true
 unfolding entryBytes
 entryBytes-bytes e = search (bytes?-append, bytesOf-bytes) depth 12
 
+-- its place among them
+pub entryBytes-place : (e : Entry) → numberAt 1 2 (entryBytes e) ≡ placeByte (e .place)
+unfolding entryBytes numberAt numberOf bytesOf
+entryBytes-place e = let b = placeByte-range (e .place) in omega arith
+
 pub length-entriesBytes : (es : List Entry) → length (entriesBytes es) ≡ entrySize * length es
 unfolding entriesBytes
 length-entriesBytes [] = refl
@@ -60,6 +66,13 @@ length-entriesBytes (e ∷ es) =
     length-append (entryBytes e) (entriesBytes es)
     ∙ ap₂ _+_ (length-entryBytes e) (length-entriesBytes es)
     ∙ omega arith
+
+pub entriesBytes-append : (es fs : List Entry) → entriesBytes (es ++ fs) ≡ entriesBytes es ++ entriesBytes fs
+unfolding entriesBytes
+entriesBytes-append [] fs = refl
+entriesBytes-append (e ∷ es) fs =
+    ap (λ bs. entryBytes e ++ bs) (entriesBytes-append es fs)
+    ∙ sym (append-assoc (entryBytes e) (entriesBytes es) (entriesBytes fs))
 
 pub entriesBytes-bytes : (es : List Entry) → bytes? (entriesBytes es) ≡ true
 unfolding entriesBytes bytes? all?

@@ -11,13 +11,13 @@ use native.Mathlib.Numerals.{add-one}
 use mathlib.Core.Bool.{Bool, true, false, _&&_}
 use mathlib.Core.Path.{_≡_, refl, sym, _∙_, ap, subst}
 use mathlib.Core.Logic.{_⊎_, inl, inr, _≢_}
-use mathlib.Core.List.{List, [], _∷_, List·Memᴰ}
+use mathlib.Core.List.{List, _∷_, List·Memᴰ}
 use borrow.Author.Tests.{leb-true, leb-false, eqb-true, eqb-false, eq-eqb, ltb-true, ltb-false}
 use lib.Dec.{leb, ltb, eqb}
-use lib.ListN.{length, getD, replicate, length-replicate, getD-replicate, List·getD-eq-default}
+use lib.ListN.{getD, replicate, length-replicate, getD-replicate, List·getD-eq-default}
 use Rattle.laws.specs.Lists.{none?, count, numbersFrom}
 use Rattle.laws.proofs.Tests.{either, clash, by-fail, same, and-i, and-r}
-use Rattle.laws.proofs.Lists.{none?-i, keep-mem, keep-ext}
+use Rattle.laws.proofs.Lists.{none?-i, keep-mem, keep-ext, getD-any}
 use Rattle.laws.proofs.Count.{count-nil, count-pass, count-fail, count-append, count-ext}
 use Rattle.matching.specs.Matching.{proposed, matched, proposals}
 use Rattle.matching.specs.Stable.{AtRest, stop}
@@ -94,12 +94,6 @@ module _ (counts : List ℕ) (refused : ℕ → ℕ) where
 
 ------------------------------------------------------------------------
 -- no input is about to propose
-
--- where there is an element, the default does not matter
-getD-any : (l : List ℕ) (i a b : ℕ) → i < length l → getD l i a ≡ getD l i b
-getD-any [] i a b h = absurd (omega arith)
-getD-any (x ∷ l) zero a b h = refl
-getD-any (x ∷ l) (suc i) a b h = getD-any l i a b (omega arith)
 
 module _ (counts outputs ranks slots : List ℕ) where
   abbrev overs : ℕ → ℕ → Bool

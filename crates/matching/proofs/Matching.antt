@@ -31,10 +31,6 @@ module _ {A : Type 0} (ahead over : A → A → Bool) where
   ------------------------------------------------------------------------
   -- a part of the list
 
-  pub matched-proposed : (l : List A) → matched ahead over l ≡ proposed ahead over (settled ahead over l)
-  unfolding matched
-  matched-proposed l = refl
-
   -- the matching is a part of the list, in the order of the list
   pub matched-keep : (l : List A) → (p : A → Bool) × (matched ahead over l ≡ keep p l)
   unfolding matched

@@ -8,13 +8,15 @@ use native.Mathlib.Omega.{arith}
 use mathlib.Core.Bool.{Bool, true, false}
 use mathlib.Core.Path.{_≡_, refl, sym, _∙_, ap}
 use mathlib.Core.Logic.{_⊎_, inl, inr, _≢_}
-use mathlib.Core.List.{List, [], _∷_, _++_, map, flatten, append-assoc, append-nil, List·Memᴰ, List·Memᴰ·head}
-use mathlib.Core.List.{List·Memᴰ·tail, List·Memᴰ·not-nil, List·Memᴰ·cases-cons, List·Memᴰ·append-cases, Memᴰ·cast}
+use mathlib.Core.List.{List, [], _∷_, _++_, map, flatten, append-nil, List·Memᴰ}
+use mathlib.Core.List.{List·Memᴰ·not-nil, List·Memᴰ·append-cases}
 use mathlib.Core.List.{Memᴰ·append-left, Memᴰ·append-right}
 use borrow.Author.Tests.{ltb-true, eqb-true, eqb-false, lt-ltb, le-ltb, eq-eqb}
 use lib.Dec.{ltb, eqb}
 use Rattle.laws.specs.Lists.{numbersFrom, upTo}
 use Rattle.laws.specs.Order.{Strict}
+use Rattle.laws.proofs.Lists.{flatten-map-append}
+use Rattle.laws.proofs.Numbers.{numbersFrom-mem, mem-numbersFrom, numbersFrom-more}
 use Rattle.laws.proofs.Tests.{clash, and-i, and-l, and-r, and-false-r}
 use Rattle.cell.specs.declared.Cell.{Cell}
 use Rattle.cell.specs.Order.{over}
@@ -22,42 +24,7 @@ use Rattle.cell.proofs.Order.{over-irrefl, over-trans, over-total}
 use Rattle.matching.specs.Positions.{at, positionsTo, positions, aheadAt, cellAt, overAt}
 
 ------------------------------------------------------------------------
--- numbers one after the other
-
-pub numbersFrom-mem : (k n m : ℕ) → m < n → List·Memᴰ (k + m) (numbersFrom k n)
-unfolding numbersFrom
-numbersFrom-mem k zero m h = absurd (omega arith)
-numbersFrom-mem k (suc n) zero h = let e : k + 0 ≡ k = omega arith in List·Memᴰ·head e
-numbersFrom-mem k (suc n) (suc m) h =
-    let e : k + suc m ≡ k + 1 + m = omega arith in
-    List·Memᴰ·tail (Memᴰ·cast e (numbersFrom-mem (k + 1) n m (omega arith)))
-
-pub mem-numbersFrom : (k n : ℕ) {m : ℕ} → List·Memᴰ m (numbersFrom k n) → (k ≤ m) × (m < k + n)
-unfolding numbersFrom
-mem-numbersFrom k zero i = absurd (List·Memᴰ·not-nil i)
-mem-numbersFrom k (suc n) {m} i = go (List·Memᴰ·cases-cons i) (mem-numbersFrom (k + 1) n)
-  where
-    go : (m ≡ k) ⊎ List·Memᴰ m (numbersFrom (k + 1) n)
-        → (List·Memᴰ m (numbersFrom (k + 1) n) → (k + 1 ≤ m) × (m < k + 1 + n)) → (k ≤ m) × (m < k + suc n)
-    go (inl e) rec = omega arith
-    go (inr j) rec = let w : (k + 1 ≤ m) × (m < k + 1 + n) = rec j in omega arith
-
-pub numbersFrom-more : (k n : ℕ) → numbersFrom k (suc n) ≡ numbersFrom k n ++ ((k + n) ∷ [])
-unfolding numbersFrom
-numbersFrom-more k zero = ap (λ m. m ∷ []) (let e : k ≡ k + 0 = omega arith in e)
-numbersFrom-more k (suc n) =
-    ap (λ l. k ∷ l) (numbersFrom-more (k + 1) n
-    ∙ ap (λ m. numbersFrom (k + 1) n ++ (m ∷ [])) (let e : k + 1 + n ≡ k + suc n = omega arith in e))
-
-------------------------------------------------------------------------
 -- input by input
-
-flatten-map-append : (f : ℕ → List ℕ) (l m : List ℕ)
-    → flatten (map f (l ++ m)) ≡ flatten (map f l) ++ flatten (map f m)
-unfolding flatten
-flatten-map-append f [] m = refl
-flatten-map-append f (x ∷ l) m =
-    ap (λ k. f x ++ k) (flatten-map-append f l m) ∙ sym (append-assoc (f x) (flatten (map f l)) (flatten (map f m)))
 
 module _ (counts : List ℕ) where
   -- the candidates of input i
@@ -85,7 +52,7 @@ module _ (counts : List ℕ) where
           → List·Memᴰ (64 * i + m) (positionsTo counts n ++ numbersFrom (64 * n) (at counts n))
       go true e rec =
           let f : i ≡ n = eqb-true i n e in
-          Memᴰ·append-right (positionsTo counts n) (rw (← f) (numbersFrom-mem (64 * i) (at counts i) m k))
+          Memᴰ·append-right (positionsTo counts n) (rw (← f) (numbersFrom-mem (64 * i) (at counts i) (omega arith) (omega arith)))
       go false e rec =
           let f : i ≢ n = eqb-false i n e in
           Memᴰ·append-left (numbersFrom (64 * n) (at counts n)) (rec (omega arith) k)

@@ -1,5 +1,5 @@
 -- Laws of proposed: each input's first candidate that was not refused.
---     proposed-mem, mem-proposed-in, mem-proposed-first   its members
+--     mem-proposed-in, mem-proposed-first   its members
 --     proposed-below, none?-proposed   each candidate is proposed, or one ahead of it is
 --     proposed-part                    a proposal stays one as long as it is not refused
 --     proposed-top                     where a proposal is over c, the best of those is one that no proposal is over
@@ -10,7 +10,7 @@ use mathlib.Core.List.{List, [], List·Memᴰ}
 use Rattle.laws.specs.Lists.{keep, some?, none?, least}
 use Rattle.laws.specs.Order.{Strict}
 use Rattle.laws.proofs.Lists.{Passing, some?-e}
-use Rattle.laws.proofs.Least.{least-keeps, least-nil, least-mem, mem-least-in, mem-least-none, mem-least-first}
+use Rattle.laws.proofs.Least.{least-keeps, least-nil, mem-least-in, mem-least-none, mem-least-first}
 use Rattle.laws.proofs.Least.{least-below, least-before, least-part, none?-least}
 use Rattle.matching.specs.Matching.{proposed}
 
@@ -22,11 +22,6 @@ module _ {A : Type 0} (ahead over : A → A → Bool) where
   pub proposed-keeps : (l : List A) → proposed ahead over l ≡ keep (λ c. none? (λ d. ahead d c) l) l
   unfolding proposed
   proposed-keeps l = least-keeps ahead l
-
-  pub proposed-mem : {c : A} {l : List A} → List·Memᴰ c l → none? (λ d. ahead d c) l ≡ true
-      → List·Memᴰ c (proposed ahead over l)
-  unfolding proposed
-  proposed-mem m n = least-mem ahead m n
 
   pub mem-proposed-in : (l : List A) {c : A} → List·Memᴰ c (proposed ahead over l) → List·Memᴰ c l
   unfolding proposed

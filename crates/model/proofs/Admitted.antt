@@ -1,6 +1,6 @@
 -- The checks 4 to 8 of a slot's records.
---     same-faults     they look only at the bag of the cells in the switch
---     admitted        what they say of records without a fault
+--     same-faults                          they look only at the bag of the cells in the switch
+--     port-input, port-output, admitted    what they say of records without a fault
 use Prim.Native.Nat.{ℕ, _+_, _<_}
 use native.Mathlib.Omega.{arith}
 use mathlib.Core.Bool.{Bool, true, false, cond, _&&_}
@@ -112,17 +112,17 @@ each P c cs p ps d m = go (List·Memᴰ·cases-cons m)
     go (inl e) = rw e p
     go (inr k) = ps d k
 
+pub port-input : (ports : ℕ) (c : Cell) → noSuchPort ports c ≡ false → c .input < ports
+unfolding noSuchPort
+port-input ports c h =
+    leb-false ports (c .input) (or-false-l (leb ports (c .input)) (leb ports (c .output)) h)
+
+pub port-output : (ports : ℕ) (c : Cell) → noSuchPort ports c ≡ false → c .output < ports
+unfolding noSuchPort
+port-output ports c h =
+    leb-false ports (c .output) (or-false-r (leb ports (c .input)) (leb ports (c .output)) h)
+
 module _ (ports : ℕ) (waiting : List Cell) where
-  port-input : (c : Cell) → noSuchPort ports c ≡ false → c .input < ports
-  unfolding noSuchPort
-  port-input c h =
-      leb-false ports (c .input) (or-false-l (leb ports (c .input)) (leb ports (c .output)) h)
-
-  port-output : (c : Cell) → noSuchPort ports c ≡ false → c .output < ports
-  unfolding noSuchPort
-  port-output c h =
-      leb-false ports (c .output) (or-false-r (leb ports (c .input)) (leb ports (c .output)) h)
-
   flow-known : (c : Cell) → noSuchFlow c ≡ false → flowInRange (c .flow) ≡ true
   unfolding noSuchFlow
   flow-known c h = not-false-e (flowInRange (c .flow)) h
@@ -169,8 +169,8 @@ module _ (ports : ℕ) (waiting : List Cell) where
       let w = faults-none place before c cs h in
       let later = admitted-from (place + 1) (some c) cs (w .1) in
       record {
-        inputs = each (λ d. d .input < ports) c cs (port-input c (w .0 .port)) (later .inputs);
-        outputs = each (λ d. d .output < ports) c cs (port-output c (w .0 .port)) (later .outputs);
+        inputs = each (λ d. d .input < ports) c cs (port-input ports c (w .0 .port)) (later .inputs);
+        outputs = each (λ d. d .output < ports) c cs (port-output ports c (w .0 .port)) (later .outputs);
         flows = each (λ d. flowInRange (d .flow) ≡ true) c cs (flow-known c (w .0 .flow)) (later .flows);
         turns =
             pairwise-cons (λ c d. ltb (c .input) (d .input)) c cs

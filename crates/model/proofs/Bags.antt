@@ -1,11 +1,11 @@
 -- Lists as bags: two lists are the same bag when every test passes as often in the one as in the other. A list of
 -- lists is taken as the bag of all their members.
---     bag-refl, bag-sym, bag-trans, bag-of-path
---     bag-append, bag-keep, bag-least, bag-passed   what makes the same bags of the same bags
---     bag-some?, bag-none?, bag-all?                the same tests pass
+--     bag-trans, bag-of-path
+--     bag-keep, bag-least, bag-passed               what makes the same bags of the same bags
+--     bag-some?, bag-none?                          the same tests pass
 --     bag-mem, bag-first?                           the same members; the same first, where all members are equal
 --     flatten, update, map                          their laws as far as the queues need them
-use Prim.Native.Nat.{ℕ, zero, suc, _+_, _<_, _≤_}
+use Prim.Native.Nat.{ℕ, zero, suc, _+_, _<_}
 use native.Mathlib.Omega.{arith}
 use mathlib.Core.Bool.{Bool, true, not}
 use mathlib.Core.Path.{_≡_, refl, sym, _∙_, ap, ap₂}
@@ -15,9 +15,9 @@ use mathlib.Core.List.{List·Memᴰ, List·Memᴰ·head, List·Memᴰ·not-nil, 
 use mathlib.Core.List.{Memᴰ·append-left, Memᴰ·append-right, Memᴰ·cast}
 use mathlib.Core.Option.{Option, some, Option·map}
 use lib.ListN.{length, getD}
-use Rattle.laws.specs.Lists.{keep, some?, none?, all?, count, least, update, first?, numbersFrom, upTo}
+use Rattle.laws.specs.Lists.{keep, some?, none?, count, least, update, first?, numbersFrom, upTo}
 use Rattle.laws.proofs.Tests.{same}
-use Rattle.laws.proofs.Lists.{Passing, some?-e, some?-i, none?-not-some?, all?-none?, keep-ext, keep-append}
+use Rattle.laws.proofs.Lists.{Passing, some?-e, some?-i, none?-not-some?, keep-ext, keep-append}
 use Rattle.laws.proofs.Lists.{keep-nil}
 use Rattle.laws.proofs.Count.{count-append, count-keep, count-pos, count-find}
 use Rattle.laws.proofs.Least.{least-keeps}
@@ -26,21 +26,11 @@ module _ {A : Type 0} where
   abbrev pub SameBag : List A → List A → Type 0
   SameBag xs ys = (p : A → Bool) → count p xs ≡ count p ys
 
-  pub bag-refl : (xs : List A) → SameBag xs xs
-  bag-refl xs p = refl
-
-  pub bag-sym : (xs ys : List A) → SameBag xs ys → SameBag ys xs
-  bag-sym xs ys h p = sym (h p)
-
   pub bag-trans : (xs ys zs : List A) → SameBag xs ys → SameBag ys zs → SameBag xs zs
   bag-trans xs ys zs h k p = h p ∙ k p
 
   pub bag-of-path : {xs ys : List A} → xs ≡ ys → SameBag xs ys
   bag-of-path e p = ap (count p) e
-
-  pub bag-append : (xs xs′ ys ys′ : List A) → SameBag xs xs′ → SameBag ys ys′ → SameBag (xs ++ ys) (xs′ ++ ys′)
-  bag-append xs xs′ ys ys′ h k p =
-      count-append p xs ys ∙ ap₂ _+_ (h p) (k p) ∙ sym (count-append p xs′ ys′)
 
   module _ (xs ys : List A) (bag : SameBag xs ys) where
     ------------------------------------------------------------------------
@@ -58,9 +48,6 @@ module _ {A : Type 0} where
 
     pub bag-none? : (p : A → Bool) → none? p xs ≡ none? p ys
     bag-none? p = none?-not-some? p xs ∙ ap not (bag-some? p) ∙ sym (none?-not-some? p ys)
-
-    pub bag-all? : (p : A → Bool) → all? p xs ≡ all? p ys
-    bag-all? p = all?-none? p xs ∙ bag-none? (λ x. not (p x)) ∙ sym (all?-none? p ys)
 
     ------------------------------------------------------------------------
     -- parts
@@ -112,10 +99,6 @@ module _ {A : Type 0} where
 module _ {A : Type 0} where
   ------------------------------------------------------------------------
   -- flatten
-
-  pub flatten-nil : flatten {A = A} [] ≡ []
-  unfolding flatten
-  flatten-nil = refl
 
   pub flatten-cons : (l : List A) (ls : List (List A)) → flatten (l ∷ ls) ≡ l ++ flatten ls
   unfolding flatten
@@ -175,13 +158,6 @@ module _ {A : Type 0} where
   getD-update-other zero (suc j) f (x ∷ l) d h = refl
   getD-update-other (suc i) zero f (x ∷ l) d h = refl
   getD-update-other (suc i) (suc j) f (x ∷ l) d h = getD-update-other i j f l d (λ e. h (ap suc e))
-
-  -- past the end nothing is changed
-  pub update-out : (i : ℕ) (f : A → A) (l : List A) → length l ≤ i → update i f l ≡ l
-  unfolding update
-  update-out i f [] h = refl
-  update-out zero f (x ∷ l) h = absurd (omega arith)
-  update-out (suc i) f (x ∷ l) h = ap (λ k. x ∷ k) (update-out i f l (omega arith))
 
   -- what is in the changed list or in one of the others
   pub mem-update : (i j : ℕ) (f : List A → List A) (ls : List (List A)) {x : A}

@@ -1,10 +1,10 @@
 -- Cells among the cells of all outputs: which goes first, and when two are the same.
 --     beatsCell           both go to one output, and the one has the higher output priority
---     beats-cell-i, -output, -over, -irrefl, -trans, -total
+--     beats-cell-i, -output, -alike, -total
 --     same-cell-refl, same-cell-path
 use Prim.Native.Nat.{ℕ}
-use mathlib.Core.Bool.{Bool, true, false, _&&_}
-use mathlib.Core.Path.{_≡_, refl, sym, _∙_, ap}
+use mathlib.Core.Bool.{Bool, true, _&&_}
+use mathlib.Core.Path.{_≡_, sym, ap}
 use mathlib.Core.Logic.{_⊎_, inl, inr, _≢_}
 use borrow.Author.Tests.{eqb-true, eq-eqb}
 use lib.Dec.{eqb}
@@ -12,7 +12,7 @@ use Rattle.laws.proofs.Tests.{and-i, and-l, and-r}
 use Rattle.cell.specs.declared.Cell.{Cell}
 use Rattle.cell.specs.Cell.{sameCell}
 use Rattle.cell.specs.Order.{over}
-use Rattle.cell.proofs.Order.{over-irrefl, over-trans, over-total}
+use Rattle.cell.proofs.Order.{over-total}
 
 -- those of an output
 abbrev pub goesTo : ℕ → Cell → Bool
@@ -33,22 +33,10 @@ pub beats-cell-output : (c d : Cell) → beatsCell c d ≡ true → c .output �
 unfolding beatsCell
 beats-cell-output c d h = eqb-true (c .output) (d .output) (and-l (eqb (c .output) (d .output)) (over c d) h)
 
-pub beats-cell-over : (c d : Cell) → beatsCell c d ≡ true → over c d ≡ true
-unfolding beatsCell
-beats-cell-over c d h = and-r (eqb (c .output) (d .output)) (over c d) h
-
 -- among the cells of one output it is output priority
 pub beats-cell-alike : (c d : Cell) → c .output ≡ d .output → beatsCell c d ≡ over c d
 unfolding beatsCell
 beats-cell-alike c d e = ap (λ b. b && over c d) (eq-eqb (c .output) (d .output) e)
-
-pub beats-cell-irrefl : (c : Cell) → beatsCell c c ≡ false
-beats-cell-irrefl c = beats-cell-alike c c refl ∙ over-irrefl c
-
-pub beats-cell-trans : (b c d : Cell) → beatsCell b c ≡ true → beatsCell c d ≡ true → beatsCell b d ≡ true
-beats-cell-trans b c d h k =
-    beats-cell-i b d (beats-cell-output b c h ∙ beats-cell-output c d k)
-    (over-trans b c d (beats-cell-over b c h) (beats-cell-over c d k))
 
 -- of two cells of one output that differ in input or slot, one goes first
 pub beats-cell-total : (c d : Cell) → c .output ≡ d .output → (c .input ≢ d .input) ⊎ (c .slot ≢ d .slot)

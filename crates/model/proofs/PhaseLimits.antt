@@ -3,6 +3,7 @@
 --     phase-brought      at most one cell enters the buffer of an output
 --     phase-crosspoint   no crosspoint comes to hold two cells
 --     phase-orderly      the cells are orderly afterwards
+--     apart-e            what it is that two cells do not share a crosspoint
 use Prim.Native.Nat.{ℕ, _≤_}
 use mathlib.Core.Bool.{Bool, true, not, _&&_}
 use mathlib.Core.Path.{_≡_, sym, _∙_, ap, ap₂}
@@ -43,7 +44,7 @@ apart-i e f h =
     c : Bool
     c = sameCrosspoint e f
 
-apart-e : (e f : Waiting) → apart e f ≡ true → isCrossed (e .place) ≡ true → isCrossed (f .place) ≡ true
+pub apart-e : (e f : Waiting) → apart e f ≡ true → isCrossed (e .place) ≡ true → isCrossed (f .place) ≡ true
     → sameCrosspoint e f ≡ true → ⊥
 unfolding apart
 apart-e e f a h j c =

@@ -27,6 +27,7 @@ use Rattle.model.proofs.Bags.{keep-flatten, mem-flatten}
 use Rattle.model.proofs.Bags.{length-update, mem-update, count-update}
 use Rattle.model.proofs.Bags.{map-ext, map-upTo}
 use Rattle.model.proofs.CellOrder.{goesTo, beatsCell, beats-cell-output, beats-cell-alike}
+use Rattle.model.proofs.Sections.{empty-at}
 
 -- a queue for each output, with the cells that go there
 pub record Queues (ports : ℕ) (queues : List (List Cell)) : Type 0 where
@@ -36,16 +37,11 @@ pub record Queues (ports : ℕ) (queues : List (List Cell)) : Type 0 where
 ------------------------------------------------------------------------
 -- kept by every step
 
-empty : (n o : ℕ) → getD {A = List Cell} (replicate n []) o [] ≡ []
-empty zero o = refl
-empty (suc n) zero = refl
-empty (suc n) (suc o) = empty n o
-
 pub queues-fresh : (ports : ℕ) → Queues ports (replicate ports [])
 queues-fresh ports =
     record {
       size = length-replicate ports [];
-      outputs = λ o c m. absurd (List·Memᴰ·not-nil (rw (empty ports o) at m));
+      outputs = λ o c m. absurd (List·Memᴰ·not-nil (rw (empty-at ports o) at m));
     }
 
 -- one cell joins its output's queue

@@ -1,6 +1,7 @@
 -- Laws of lists of lists, with `getD ls k []` for the list at k, which is empty past the end. Members of the flat list,
 -- keep and update are in Bags.
---     map-append, flatten-map                  map goes through flatten
+--     empty-at                                 no list of many empty ones has a member
+--     flatten-map                              map goes through flatten
 --     count-flatten-none, -one, -at            counts of the flat list, by the list at k
 --     pairwise-flatten, pairwise-flatten-at
 use Prim.Native.Nat.{ℕ, zero, suc, _≤_, _<_}
@@ -9,25 +10,29 @@ use native.Mathlib.Omega.{arith}
 use mathlib.Core.Bool.{Bool, true}
 use mathlib.Core.Path.{_≡_, refl, sym, _∙_, ap}
 use mathlib.Core.Logic.{_≢_}
-use mathlib.Core.List.{List, [], _∷_, _++_, map, flatten, List·Memᴰ}
-use lib.ListN.{length, getD}
+use mathlib.Core.List.{List, [], _∷_, _++_, map, map-append, flatten, List·Memᴰ}
+use lib.ListN.{length, getD, replicate}
 use Rattle.laws.specs.Lists.{none?, count, pairwise}
 use Rattle.laws.proofs.Count.{count-nil, count-append, count-zero}
 use Rattle.laws.proofs.Pairwise.{pairwise-nil, pairwise-append, pairwise-append-l, pairwise-append-r}
 use Rattle.model.proofs.Bags.{mem-flatten}
 
 ------------------------------------------------------------------------
--- map and keep
+-- many empty lists
+
+pub empty-at : {A : Type 0} (n k : ℕ) → getD (replicate {A = List A} n []) k [] ≡ []
+empty-at zero k = refl
+empty-at (suc n) zero = refl
+empty-at (suc n) (suc k) = empty-at n k
+
+------------------------------------------------------------------------
+-- map
 
 module _ {A B : Type 0} (f : A → B) where
-  pub map-append : (l m : List A) → map f (l ++ m) ≡ map f l ++ map f m
-  map-append [] m = refl
-  map-append (x ∷ l) m = ap (λ r. f x ∷ r) (map-append l m)
-
   pub flatten-map : (ls : List (List A)) → flatten (map (map f) ls) ≡ map f (flatten ls)
   unfolding flatten
   flatten-map [] = refl
-  flatten-map (l ∷ ls) = ap (λ r. map f l ++ r) (flatten-map ls) ∙ sym (map-append l (flatten ls))
+  flatten-map (l ∷ ls) = ap (λ r. map f l ++ r) (flatten-map ls) ∙ sym (map-append f l (flatten ls))
 
 module _ {A : Type 0} where
   ------------------------------------------------------------------------

@@ -18,7 +18,7 @@ append-split a b c d l e = (
   sym (drop-at a b (length a) refl) ∙ ap (drop (length a)) e ∙ drop-at c d (length a) (sym l),
 )
 
-length-number : (at : ℕ) (es : List Entry) → length (numberFrom at es) ≡ length es
+pub length-number : (at : ℕ) (es : List Entry) → length (numberFrom at es) ≡ length es
 length-number at es = sym (length-map (numberFrom at es) entryOf) ∙ ap length (numberFrom-entries at es)
 
 number-injective : (at : ℕ) (es fs : List Entry) → numberFrom at es ≡ numberFrom at fs → es ≡ fs

@@ -4,14 +4,14 @@
 --     moved-slack        each phase gives each cell one
 --     arrived-slack, between-slack, settled-slack, run-slack    the stages of an accepted slot
 --     settled-best       so before departure the buffers hold the best cell of each output
-use Prim.Native.Nat.{ℕ, zero, suc, _+_, _≤_, _<_}
+use Prim.Native.Nat.{ℕ, suc, _+_, _≤_, _<_}
 use native.Mathlib.Omega.{arith}
 use mathlib.Core.Bool.{Bool, true, false}
 use mathlib.Core.Path.{_≡_, refl}
 use mathlib.Core.List.{List, [], _∷_, map, flatten, List·Memᴰ, List·Memᴰ·head, List·Memᴰ·tail, List·Memᴰ·not-nil}
 use mathlib.Core.Option.{none}
 use lib.Dec.{ltb, eqb}
-use lib.ListN.{length, getD, replicate}
+use lib.ListN.{length, getD}
 use Rattle.laws.specs.Lists.{all?, count, pairwise, update}
 use Rattle.cell.specs.declared.Arrival.{Arrival}
 use Rattle.cell.specs.declared.Cell.{Cell}
@@ -28,6 +28,7 @@ use Rattle.model.proofs.Enter.{count-enter}
 use Rattle.model.proofs.Numbering.{Housed, waiting-moved}
 use Rattle.model.proofs.PhaseSlack.{phase-slack}
 use Rattle.model.proofs.SameDeparture.{Best}
+use Rattle.model.proofs.Sections.{empty-at}
 use Rattle.model.proofs.SlackArrival.{FollowAll, enter-slack}
 use Rattle.model.proofs.SlackDeparture.{departure-slack, best-buffered}
 use Rattle.model.proofs.SlackSections.{behind-nil, threadAt, cushionAt, shields, SlackAt, slack-at, at-slack}
@@ -40,18 +41,13 @@ use Rattle.model.proofs.SoundSlot.{arrived-sound, between-sound, settle
 ------------------------------------------------------------------------
 -- a fresh switch
 
-empty-section : (n k : ℕ) → getD (replicate {A = List Entry} n []) k [] ≡ []
-empty-section zero k = refl
-empty-section (suc n) zero = refl
-empty-section (suc n) (suc k) = empty-section n k
-
 fresh-housed : (ports first : ℕ) → Housed (fresh ports first .sections)
 unfolding fresh
-fresh-housed ports first k e m = absurd (List·Memᴰ·not-nil (rw (empty-section ports k) at m))
+fresh-housed ports first k e m = absurd (List·Memᴰ·not-nil (rw (empty-at ports k) at m))
 
 fresh-at : (ports first : ℕ) → SlackAt 0 0 (fresh ports first .sections)
 unfolding fresh
-fresh-at ports first k pre e s b = absurd (behind-nil (rw (empty-section ports k) at s))
+fresh-at ports first k pre e s b = absurd (behind-nil (rw (empty-at ports k) at s))
 
 pub fresh-slack : (ports first : ℕ) → Slack 0 0 (waiting (fresh ports first .sections))
 fresh-slack ports first = at-slack (fresh ports first .sections) (fresh-housed ports first) 0 0 (fresh-at ports first)

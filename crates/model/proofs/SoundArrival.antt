@@ -7,7 +7,7 @@
 --     arrival-sound              of the whole table
 use Prim.Native.Nat.{ℕ, suc, _+_, _≤_, _<_}
 use native.Mathlib.Omega.{arith}
-use mathlib.Core.Bool.{Bool, true, false, cond, not, _&&_}
+use mathlib.Core.Bool.{Bool, true, false, cond, not, _&&_, and-false}
 use mathlib.Core.Path.{_≡_, refl, sym, _∙_, ap, subst}
 use mathlib.Core.Logic.{_⊎_, inl, inr, _≢_}
 use mathlib.Core.List.{List, [], _∷_, _++_, map, flatten, List·Memᴰ, List·Memᴰ·head, List·Memᴰ·tail}
@@ -170,11 +170,7 @@ new-crosspoint-l c e = refl
 
 new-crosspoint-r : (c : Cell) (e : Entry) → otherCrosspoint e (newEntry c) ≡ true
 unfolding otherCrosspoint newEntry isCrossed
-new-crosspoint-r c e = ap not (go (isCrossed (e .place)))
-  where
-    go : (b : Bool) → (b && false) ≡ false
-    go true = refl
-    go false = refl
+new-crosspoint-r c e = ap not (and-false (isCrossed (e .place)))
 
 abbrev listedEntry : Entry → Bool
 listedEntry e = isListed (e .place)

@@ -4,7 +4,7 @@
 --     run-cells, settled-cells, settled-count   the cells of an accepted slot
 --     arrived-, between-, settled-, run-sound   its stages
 --     after-sound, slot-sound   of a call
-use Prim.Native.Nat.{ℕ, zero, suc, _+_, _≤_}
+use Prim.Native.Nat.{ℕ, _+_, _≤_}
 use native.Mathlib.Omega.{arith}
 use mathlib.Core.Bool.{Bool, true, false, not}
 use mathlib.Core.Path.{_≡_, refl, sym, _∙_, ap, subst}
@@ -12,7 +12,7 @@ use mathlib.Core.Logic.{_≢_}
 use mathlib.Core.List.{List, [], _++_, map, flatten}
 use mathlib.Core.Option.{Option, none, some}
 use lib.Dec.{eqb}
-use lib.ListN.{length, getD, replicate, length-replicate}
+use lib.ListN.{length, replicate, length-replicate}
 use borrow.Author.Tests.{leb-true, le-leb, eqb-false}
 use Rattle.laws.specs.Lists.{keep, all?, count}
 use Rattle.laws.proofs.Count.{count-append}
@@ -31,6 +31,7 @@ use Rattle.model.specs.Slackness.{Orderly}
 use Rattle.model.specs.Sound.{soundSections, sound}
 use Rattle.model.proofs.CheckOrder.{slot-broken}
 use Rattle.model.proofs.Numbering.{cells-waiting, length-moved, moved-cells, without-cells, length-without}
+use Rattle.model.proofs.Sections.{empty-at}
 use Rattle.model.proofs.SoundArrival.{length-arrive, arrive-count, arrival-inputs, arrival-sound}
 use Rattle.model.proofs.SoundDeparture.{without-sound}
 use Rattle.model.proofs.SoundLaws.{section-e, section-nil, sections-i, SoundTable, sound-e, sound-i}
@@ -39,11 +40,6 @@ use Rattle.model.proofs.SoundPhase.{phase-sound}
 
 ------------------------------------------------------------------------
 -- a fresh switch
-
-empty-at : {A : Type 0} (n k : ℕ) → getD (replicate {A = List A} n []) k [] ≡ []
-empty-at zero k = refl
-empty-at (suc n) zero = refl
-empty-at (suc n) (suc k) = empty-at n k
 
 pub sound-fresh : (n first : ℕ) → portsInRange n ≡ true → fits32 first ≡ true → sound (fresh n first) ≡ true
 unfolding fresh

@@ -18,7 +18,7 @@ use Rattle.places.specs.View.{waitingAt, crosspointAt, InTable, Agrees, Square}
 use Rattle.places.specs.Scan.{Readable}
 use Rattle.places.specs.Choices.{nowhere}
 use Rattle.moving.specs.Moves.{written, put, sending, pulling}
-use Rattle.places.proofs.Window.{inTable-e, inTable-i}
+use Rattle.places.proofs.Window.{inTable-e, inTable-i, inTable-below}
 use Rattle.moving.proofs.Written.{hit, hit-miss, length-written, written-hit, written-miss}
 
 -- the output of an entry, and whether a column has it at a crosspoint
@@ -181,9 +181,6 @@ module _ (f : ℕ → ℕ) (v n : ℕ) (places : List ℕ) (k : ℕ) where
   crossed-miss t = ap (λ x. isCrossed (placeOf x)) (written-miss f v n places k 0 t)
 
 module _ {table : List ℕ} (r : Readable table) where
-  pub entry-small : {k : ℕ} → InTable table k → k < 1024
-  entry-small {k} i = omega (arith, i .input, r .ports)
-
   pub output-small : {k : ℕ} → InTable table k → outputAt table k < 16
   output-small {k} i = omega (arith, r .outputs k i, r .ports)
 
@@ -200,7 +197,7 @@ module _ {table : List ℕ} (r : Readable table) where
         where
           go : (hit f n k ≡ true) ⊎ (hit f n k ≡ false) → crosspointAt cross (k / cellLimit) (outputAt table k) ≡ k
           go (inl t) =
-              let s : k < length places = (let b = entry-small i in omega arith) in
+              let s : k < length places = (let b = inTable-below r i in omega arith) in
               absurd (clash h (crossed-hit f 3 n places k s t ∙ buffered-byte))
           go (inr t) = agrees-filled r places cross a k i (sym (crossed-miss f 3 n places k t) ∙ h)
 
@@ -228,7 +225,7 @@ module _ {table : List ℕ} (r : Readable table) where
     o = outputAt table k
 
     inside : k < length places
-    inside = let b = entry-small entry in omega arith
+    inside = let b = inTable-below r entry in omega arith
 
     row : i < 16
     row = let b = r .ports in let c = entry .input in omega arith
@@ -248,7 +245,7 @@ module _ {table : List ℕ} (r : Readable table) where
                 put-other cross square i o k (j / cellLimit) (outputAt table j) row
                 (λ p q.
                 let same : crosspointAt cross i o ≡ j = (rw (p, q) at old) in
-                let small : j < 1024 = entry-small e in
+                let small : j < 1024 = inTable-below r e in
                 omega arith)
                 ∙ old
 

@@ -10,8 +10,8 @@ use Rattle.layout.specs.Entry.{portsIn}
 use Rattle.places.specs.View.{waitingAt, inTable, InTable}
 use Rattle.places.specs.Scan.{Readable}
 use Rattle.places.specs.Choices.{nowhere}
-use Rattle.places.proofs.Window.{inTable-e, waitingAt-cell, waitingAt-input, waitingAt-place}
-use Rattle.moving.proofs.Agreeing.{outputAt, crossedAt, entry-small}
+use Rattle.places.proofs.Window.{inTable-e, inTable-below, waitingAt-cell, waitingAt-input, waitingAt-place}
+use Rattle.moving.proofs.Agreeing.{outputAt, crossedAt}
 
 module _ {table : List ℕ} (r : Readable table) (places : List ℕ) where
   -- what is known of a waiting cell
@@ -34,7 +34,7 @@ module _ {table : List ℕ} (r : Readable table) (places : List ℕ) where
       record {
         self = w .0;
         entry = w .1;
-        small = entry-small r (w .1);
+        small = inTable-below r (w .1);
         input = i;
         output = o;
         from = omega (arith, w .1 .input);

@@ -36,13 +36,13 @@ use Rattle.moving.specs.Moves.{written, markOf, sendOf, takeOf, crossedI
 use Rattle.moving.specs.Moves.{straightTo, Straightened, Sent, Pulled}
 use Rattle.moving.specs.Moved.{Steady, Settled, Moved}
 use Rattle.moving.proofs.Known.{Known, known}
-use Rattle.places.proofs.Window.{inTable-i, waitingAt-at, waitingAt-cell, waitingAt-input, waitingAt-place}
+use Rattle.places.proofs.Window.{inTable-i, inTable-below, waitingAt-at, waitingAt-cell, waitingAt-input, waitingAt-place}
 use Rattle.moving.proofs.Written.{hit, Hit, hit-i, hit-e, hit-miss, written-hit, written-miss, written-is}
 use Rattle.moving.proofs.Rules.{mark-some, mark-none, send-none, send-scheduled, take-none, take-best}
 use Rattle.moving.proofs.Output.{Within, best-same}
 use Rattle.moving.proofs.Pulling.{CrossedEntry, crossed-e, crossed-i, pullable, pulled-agrees}
 use Rattle.moving.proofs.Relocated.{inTable-relocated}
-use Rattle.moving.proofs.Agreeing.{outputAt, crossedAt, agrees-real, agrees-straight, Sendable, entry-small, output-small}
+use Rattle.moving.proofs.Agreeing.{outputAt, crossedAt, agrees-real, agrees-straight, Sendable, output-small}
 use Rattle.moving.proofs.Agreeing.{Stands, crossed-hit, crossed-miss, buffered-byte, crossed-byte, agrees-sending}
 use Rattle.moving.proofs.Rounds.{length-straightened, length-sent, square-sent, length-pulled, square-pulled}
 use Rattle.moving.proofs.Ports.{numberBy, ByPort, has, lacks, by-is, by-none, by-cases, by-one}
@@ -368,7 +368,7 @@ module _ {table places : List ℕ} {cross : List (List ℕ)} (st : Steady table 
           where
             case : Hit G portLimit k → List·Memᴰ (waitingAt table places k) cells
             case (j, l, q) =
-                let w = send-cell j l (omega (arith, entry-small r i)) in
+                let w = send-cell j l (omega (arith, inTable-below r i)) in
                 Memᴰ·append-right (crosspoints all)
                 (Memᴰ·cast
                 (ap (waitingAt table places) (sym q ∙ w .3) ∙ sym (known r places (sent-all all (w .1)) .self))
@@ -377,7 +377,7 @@ module _ {table places : List ℕ} {cross : List (List ℕ)} (st : Steady table 
             Memᴰ·append-left (phase all .sent)
             (crosspoints-i all (inTable-i table places r k i) (ap isCrossed (waitingAt-place table places k) ∙ b))
         go (inr h) (inr b) =
-            absurd (clash now (crossed-miss G 2 portLimit places₁ k h ∙ straight-still k (entry-small r i) b))
+            absurd (clash now (crossed-miss G 2 portLimit places₁ k h ∙ straight-still k (inTable-below r i) b))
 
     abbrev H : ℕ → ℕ
     H = takeOf outputs (crossedIn table places₂)

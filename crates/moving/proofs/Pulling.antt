@@ -25,12 +25,12 @@ use Rattle.places.specs.View.{waitingAt, inTable, crosspointAt, InTable, Agrees
 use Rattle.places.specs.Scan.{Readable, Holds}
 use Rattle.places.specs.Choices.{nowhere}
 use Rattle.moving.specs.Moves.{written, takeOf, crossedIn, Pulled}
-use Rattle.places.proofs.Window.{inTable-e, inTable-i, agrees-holds, waitingAt-at, waitingAt-cell, waitingAt-input}
+use Rattle.places.proofs.Window.{inTable-e, inTable-i, inTable-below, agrees-holds, waitingAt-at, waitingAt-cell, waitingAt-input}
 use Rattle.moving.proofs.Written.{hit, hit-miss}
 use Rattle.moving.proofs.Rules.{take-none, take-best}
 use Rattle.moving.proofs.Output.{Choice, takes, nothing, best-cases, best-same, Within}
 use Rattle.moving.proofs.Agreeing.{outputAt, crossedAt, agrees-filled, agrees-pulling, Pullable, crossed-hit}
-use Rattle.moving.proofs.Agreeing.{crossed-miss, buffered-byte, entry-small}
+use Rattle.moving.proofs.Agreeing.{crossed-miss, buffered-byte}
 
 ------------------------------------------------------------------------
 -- the cells at the crosspoints, by their numbers
@@ -140,7 +140,7 @@ module _ {table : List ℕ} (r : Readable table) (straight : List Bool) (places 
 
         go : (hit f n (e .at) ≡ true) ⊎ (hit f n (e .at) ≡ false) → Elsewhere table places e
         go (inl t) =
-            let inside : e .at < length places = (let b = entry-small r (c .entry) in omega arith) in
+            let inside : e .at < length places = (let b = inTable-below r (c .entry) in omega arith) in
             absurd (clash (c .crossed) (crossed-hit f 3 n places (e .at) inside t ∙ buffered-byte))
         go (inr t) = elsewhere r places c (sym (crossed-miss f 3 n places (e .at) t) ∙ c .crossed)
 
@@ -153,7 +153,7 @@ module _ {table : List ℕ} (r : Readable table) (straight : List Bool) (places 
         miss : hit f n (e .at) ≡ false
         miss =
             hit-miss f n (e .at) (λ j l h.
-            let small : f j < 1024 = (let b = entry-small r (c .entry) in omega arith) in
+            let small : f j < 1024 = (let b = inTable-below r (c .entry) in omega arith) in
             let to : outputAt table (f j) ≡ j = pullable n j l small .2 in
             let same : j ≡ n = sym to ∙ ap (outputAt table) h ∙ crossed-output r places c ∙ o in
             omega arith)

@@ -2,18 +2,17 @@
 use Prim.Native.Nat.{ℕ, _+_, _*_, _/_, _<_, _≤_}
 use native.Mathlib.Omega.{arith}
 use mathlib.Core.Path.{_≡_, refl, sym, _∙_, ap₂}
-use mathlib.Core.List.{List, [], _∷_, _++_, map, flatten, List·Memᴰ, List·Memᴰ·head, List·Memᴰ·tail}
+use mathlib.Core.List.{List, [], _∷_, _++_, map, map-append, flatten, List·Memᴰ, List·Memᴰ·head, List·Memᴰ·tail}
 use lib.ListN.{getD}
 use Rattle.laws.specs.Lists.{numbersFrom, upTo}
+use Rattle.laws.proofs.Numbers.{mem-numbersFrom}
 use Rattle.cell.specs.Limits.{cellLimit}
 use Rattle.model.specs.Phase.{Waiting, Phase, placeAfter}
 use Rattle.model.specs.Slackness.{relocate, relocated}
-use Rattle.model.proofs.Sections.{map-append}
 use Rattle.layout.specs.Entry.{entryAt, portsIn, countIn}
 use Rattle.layout.specs.Table.{placeOf}
 use Rattle.places.specs.View.{waitingAt, window, inTable, InTable}
 use Rattle.places.specs.Scan.{Readable}
-use Rattle.places.proofs.Window.{numbersFrom-e}
 
 module _ {A B C : Type 0} (f : B → C) (g : A → C) (h : A → B) where
   map-through : (l : List A) → ((x : A) → List·Memᴰ x l → g x ≡ f (h x)) → map g l ≡ map f (map h l)
@@ -46,7 +45,7 @@ module _ {table : List ℕ} (r : Readable table) where
       flatten-through (relocate p) (section places′) (section places) (upTo (portsIn table)) (λ i m.
       map-through (relocate p) (waitingAt table places′) (waitingAt table places)
       (numbersFrom (cellLimit * i) (countIn table i)) (λ k j.
-      one k (entry i k (numbersFrom-e 0 (portsIn table) m) (numbersFrom-e (cellLimit * i) (countIn table i) j))))
+      one k (entry i k (mem-numbersFrom 0 (portsIn table) m) (mem-numbersFrom (cellLimit * i) (countIn table i) j))))
     where
       section : List ℕ → ℕ → List Waiting
       section l i = window table l i (countIn table i)

@@ -3,8 +3,8 @@
 --     send-, take-       what an input sends, and what an output takes
 use Prim.Native.Nat.{ℕ, _+_, _*_, _<_, _≤_}
 use native.Mathlib.Omega.{arith}
-use mathlib.Core.Bool.{Bool, true, false, cond, _||_}
-use mathlib.Core.Path.{_≡_, refl, sym, _∙_}
+use mathlib.Core.Bool.{Bool, true, false}
+use mathlib.Core.Path.{_≡_, sym}
 use mathlib.Core.Logic.{_≢_}
 use mathlib.Core.List.{List}
 use borrow.Author.Tests.{le-leb, lt-leb, lt-ltb, le-ltb, eq-eqb, ne-eqb}
@@ -16,45 +16,41 @@ use Rattle.model.specs.Phase.{Waiting}
 use Rattle.places.specs.Choices.{nowhere, bestOf}
 use Rattle.moving.specs.Moves.{matchAt, straightTo, markOf, sendOf, takeOf, Matches}
 
--- i is the input that the output holds, and m how many of its candidates were refused
-module _ (scheduled numbers held refused : List ℕ) (output i m : ℕ) (holds : i ≡ getD held output 0) where
-  straight-by : straightTo scheduled numbers held refused output
-      ≡ cond (leb portLimit i || eqb (matchAt numbers refused i) (getD scheduled i 0)) nowhere (matchAt numbers refused i)
+module _ (scheduled numbers held refused : List ℕ) (output : ℕ) where
+  -- the input that the output holds, and where its match stands in the columns
+  abbrev input : ℕ
+  input = getD held output 0
+
+  abbrev position : ℕ
+  position = cellLimit * input + getD refused input 0
+
+  pub match-position : Matches numbers held refused → output < portLimit → input < portLimit
+      → position < portLimit * cellLimit
+  match-position known o l = omega (arith, known .position output o l)
+
+  pub straight-free : portLimit ≤ input → nowhere ≡ straightTo scheduled numbers held refused output
   unfolding straightTo
-  straight-by = rw holds refl
-
-  pub straight-free : portLimit ≤ i → nowhere ≡ straightTo scheduled numbers held refused output
   straight-free h =
-      sym (straight-by
-      ∙ cond-pass _ _ _ (or-l (leb portLimit i) (eqb (matchAt numbers refused i) (getD scheduled i 0)) (le-leb portLimit i h)))
+      sym
+      (cond-pass _ _ _
+      (or-l (leb portLimit input) (eqb (matchAt numbers refused input) (getD scheduled input 0)) (le-leb portLimit input h)))
 
-  module _ (passed : m ≡ getD refused i 0) where
-    -- the match stands in the columns
-    pub match-position : Matches numbers held refused → output < portLimit → i < portLimit
-        → cellLimit * i + m < portLimit * cellLimit
-    match-position known o l =
-        let p : getD refused i 0 < cellLimit = (rw holds (known .position output o (rw holds at l))) in
-        omega arith
+  pub straight-scheduled : getD numbers position 0 ≡ getD scheduled input 0
+      → nowhere ≡ straightTo scheduled numbers held refused output
+  unfolding straightTo matchAt
+  straight-scheduled h =
+      sym
+      (cond-pass _ _ _
+      (or-r (leb portLimit input) (eqb (getD numbers position 0) (getD scheduled input 0)) (eq-eqb _ _ h)))
 
-    match-by : getD numbers (cellLimit * i + m) 0 ≡ matchAt numbers refused i
-    unfolding matchAt
-    match-by = rw passed refl
-
-    pub straight-scheduled : getD numbers (cellLimit * i + m) 0 ≡ getD scheduled i 0
-        → nowhere ≡ straightTo scheduled numbers held refused output
-    straight-scheduled h =
-        sym (straight-by
-        ∙ cond-pass _ _ _
-        (or-r (leb portLimit i) (eqb (matchAt numbers refused i) (getD scheduled i 0)) (eq-eqb _ _ (sym match-by ∙ h))))
-
-    pub straight-match : i < portLimit → getD numbers (cellLimit * i + m) 0 ≢ getD scheduled i 0
-        → getD numbers (cellLimit * i + m) 0 ≡ straightTo scheduled numbers held refused output
-    straight-match l h =
-        match-by
-        ∙ sym (straight-by
-        ∙ cond-fail _ _ _
-        (or-false (leb portLimit i) (eqb (matchAt numbers refused i) (getD scheduled i 0))
-        (lt-leb portLimit i l) (ne-eqb _ _ (λ e. h (match-by ∙ e)))))
+  pub straight-match : input < portLimit → getD numbers position 0 ≢ getD scheduled input 0
+      → getD numbers position 0 ≡ straightTo scheduled numbers held refused output
+  unfolding straightTo matchAt
+  straight-match l h =
+      sym
+      (cond-fail _ _ _
+      (or-false (leb portLimit input) (eqb (getD numbers position 0) (getD scheduled input 0)) (lt-leb portLimit input l)
+      (ne-eqb _ _ h)))
 
 module _ (k output : ℕ) where
   pub mark-some : k < nowhere → markOf k output ≡ output

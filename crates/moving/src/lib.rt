@@ -127,11 +127,12 @@ fn straight_number(
     ensures { λ r. ⌜ r
         ≡ straightTo (now (scheduled .entry)) (now (numbers .entry)) (now (held .entry)) (now (refused .entry)) output ⌝ }
 {
-    let input = wide(held[output]);
-    if input >= 16 {
+    let proposer = held[output];
+    if proposer >= 16 {
         return NOWHERE;
     }
-    let number = numbers[64 * input + wide(refused[input])];
+    let input = proposer as usize;
+    let number = numbers[64 * input + refused[input] as usize];
     if number == scheduled[input] {
         return NOWHERE;
     }
@@ -183,7 +184,7 @@ fn send(table: &[u8], places: &mut [u8], cross: &mut [[u16; 16]; 16], number: u1
     if k >= 1024 {
         return;
     }
-    let output = wide(table::entry::output_of(table, k));
+    let output = table::entry::output_of(table, k) as usize;
     places[k] = 2;
     cross[k / 64][output] = number;
 }
@@ -218,10 +219,4 @@ fn pull(places: &mut [u8], cross: &mut [[u16; 16]; 16], number: u16, output: usi
     }
     places[k] = 3;
     cross[k / 64][output] = NOWHERE;
-}
-
-fn wide(n: u8) -> usize
-    ensures { λ r. ⌜ r ≡ n ⌝ }
-{
-    n as usize
 }

@@ -18,10 +18,6 @@ use Rattle.layout.specs.Table.{encode}
 use Rattle.layout.specs.Records.{recordStart, recordAt}
 use Rattle.layout.proofs.Table.{length-entryBytes, length-sectionBytes, encode-sections}
 
--- the bytes from so many on, in two steps
-drop-add : (n m : ℕ) (bs : List ℕ) → drop (n + m) bs ≡ drop m (drop n bs)
-drop-add n m bs = sym (drop-drop m n bs)
-
 short-tail : (es : List Entry) (sections : List (List Entry)) → Short (es ∷ sections) → Short sections
 short-tail es sections short k = short (suc k)
 
@@ -32,7 +28,7 @@ sectionsBytes-drop zero m sections short = ap (λ n. sectionsBytes n sections) (
 sectionsBytes-drop (suc i) m [] short =
     let next : sectionSize * suc i ≡ sectionSize + sectionSize * i = omega arith in
     ap₂ (λ n k. drop n (sectionsBytes k [])) next (suc-add i m)
-    ∙ drop-add sectionSize (sectionSize * i) (sectionBytes [] ++ sectionsBytes (i + m) [])
+    ∙ sym (drop-drop (sectionSize * i) sectionSize (sectionBytes [] ++ sectionsBytes (i + m) []))
     ∙ ap (drop (sectionSize * i))
     (drop-at (sectionBytes []) (sectionsBytes (i + m) []) sectionSize (length-sectionBytes [] (omega arith)))
     ∙ sectionsBytes-drop i m [] short
@@ -40,7 +36,7 @@ sectionsBytes-drop (suc i) m [] short =
 sectionsBytes-drop (suc i) m (es ∷ sections) short =
     let next : sectionSize * suc i ≡ sectionSize + sectionSize * i = omega arith in
     ap₂ (λ n k. drop n (sectionsBytes k (es ∷ sections))) next (suc-add i m)
-    ∙ drop-add sectionSize (sectionSize * i) (sectionBytes es ++ sectionsBytes (i + m) sections)
+    ∙ sym (drop-drop (sectionSize * i) sectionSize (sectionBytes es ++ sectionsBytes (i + m) sections))
     ∙ ap (drop (sectionSize * i))
     (drop-at (sectionBytes es) (sectionsBytes (i + m) sections) sectionSize (length-sectionBytes es (short 0)))
     ∙ sectionsBytes-drop i m sections (short-tail es sections short)
@@ -49,7 +45,7 @@ sectionsBytes-drop (suc i) m (es ∷ sections) short =
 pub encode-from : (s : Switch) (i m : ℕ) → Short (s .sections) → i + m ≡ portLimit
     → drop (headerSize + sectionSize * i) (encode s) ≡ sectionsBytes m (drop i (s .sections))
 encode-from s i m short sum =
-    drop-add headerSize (sectionSize * i) (encode s)
+    sym (drop-drop (sectionSize * i) headerSize (encode s))
     ∙ ap (drop (sectionSize * i)) (encode-sections s ∙ ap (λ n. sectionsBytes n (s .sections)) (sym sum))
     ∙ sectionsBytes-drop i m (s .sections) short
 
@@ -84,7 +80,7 @@ entriesBytes-drop (suc j) [] bs h = absurd (omega arith)
 entriesBytes-drop (suc j) (e ∷ es) bs h =
     let next : entrySize * suc j ≡ entrySize + entrySize * j = omega arith in
     ap₂ drop next (append-assoc (entryBytes e) (entriesBytes es) bs)
-    ∙ drop-add entrySize (entrySize * j) (entryBytes e ++ (entriesBytes es ++ bs))
+    ∙ sym (drop-drop (entrySize * j) entrySize (entryBytes e ++ (entriesBytes es ++ bs)))
     ∙ ap (drop (entrySize * j)) (drop-at (entryBytes e) (entriesBytes es ++ bs) entrySize (length-entryBytes e))
     ∙ entriesBytes-drop j es bs (omega arith)
 
@@ -105,7 +101,7 @@ module _ (s : Switch) (i : ℕ) (short : Short (s .sections)) (port : i < portLi
   encode-entries j h =
       let at : recordStart (cellLimit * i + j) ≡ headerSize + sectionSize * i + entrySize * j = omega arith in
       ap (λ n. drop n (encode s)) at
-      ∙ drop-add (headerSize + sectionSize * i) (entrySize * j) (encode s)
+      ∙ sym (drop-drop (entrySize * j) (headerSize + sectionSize * i) (encode s))
       ∙ ap (drop (entrySize * j))
       (encode-section s i short port ∙ append-assoc (entriesBytes section) (zeros section) next)
       ∙ entriesBytes-drop j section (zeros section ++ next) h

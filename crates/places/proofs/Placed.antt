@@ -2,7 +2,7 @@
 --     inTable-waiting      the waiting cells of the sections are those of the view
 --     decode-..            what the table of a state says of it
 --     sectionsPlaced-same  where the column has the table's own places, they are the sections of its state
-use Prim.Native.Nat.{ℕ, zero, suc, _+_, _*_, _-_, _/_, _%_, _≤_, _<_}
+use Prim.Native.Nat.{ℕ, zero, suc, _+_, _*_, _-_, _/_, _≤_, _<_}
 use native.Mathlib.Omega.{arith}
 use mathlib.Core.Path.{_≡_, refl, sym, _∙_, ap, ap₂, fun-ext}
 use mathlib.Core.List.{List, [], _∷_, _++_, map, flatten, List·Memᴰ, Memᴰ·map}
@@ -11,21 +11,21 @@ use borrow.Author.Tests.{ltb-true}
 use lib.ListN.{length, getD}
 use lib.Seq.{getD-drop}
 use Rattle.laws.specs.Lists.{numbersFrom, upTo}
+use Rattle.laws.proofs.Numbers.{numbersFrom-mem, numbersFrom-at}
 use Rattle.cell.specs.Limits.{cellLimit, portLimit}
-use Rattle.model.specs.State.{Place, listed, crossed, buffered, Entry, Switch}
+use Rattle.model.specs.State.{Entry, Switch}
 use Rattle.model.specs.Phase.{numberFrom, numberSections, numbered, waiting}
 use Rattle.model.proofs.SoundLaws.{SoundEntry, sections-e}
-use Rattle.layout.specs.Number.{bytesOf, numberOf, numberAt, word}
+use Rattle.layout.specs.Number.{bytesOf, numberAt, word}
 use Rattle.layout.specs.Table.{placeByte, placeOf, entryBytes, countsBytes, sectionsBytes, encode, stateOf, decode}
 use Rattle.layout.specs.Entry.{entryAt, portsIn, clockIn, countIn}
 use Rattle.layout.specs.Records.{recordAt, placeByteAt, between, entriesBetween, sectionAt}
-use Rattle.layout.proofs.Table.{decode-length, encode-counts, stateOf-encode, encode-decode}
-use Rattle.layout.proofs.Table.{decode-sound, sound-ports, sound-sections}
+use Rattle.layout.proofs.Table.{placeOf-placeByte, decode-length, encode-counts, encode-decode, stateOf-encode}
+use Rattle.layout.proofs.Table.{decode-sound, decode-state, entryBytes-place, sound-ports, sound-sections}
 use Rattle.layout.proofs.Records.{entryAt-place, stateOf-sections}
 use Rattle.places.specs.View.{waitingAt, window, inTable, InTable}
 use Rattle.places.specs.Scan.{Readable}
 use Rattle.places.proofs.Bytes.{recordAt-encode}
-use Rattle.places.proofs.Window.{numbersFrom-i}
 use Rattle.places.specs.Sections.{entryPlaced, sectionPlaced, sectionsPlaced}
 
 ------------------------------------------------------------------------
@@ -36,12 +36,6 @@ module _ {A : Type 0} (f : ℕ → A) where
   unfolding numbersFrom
   length-numbers k zero = refl
   length-numbers k (suc n) = ap suc (length-numbers (k + 1) n)
-
-  pub getD-numbers : (k n i : ℕ) (d : A) → i < n → getD (map f (numbersFrom k n)) i d ≡ f (k + i)
-  unfolding numbersFrom
-  getD-numbers k zero i d h = absurd (omega arith)
-  getD-numbers k (suc n) zero d h = ap f (omega arith)
-  getD-numbers k (suc n) (suc i) d h = getD-numbers (k + 1) n i d (omega arith) ∙ ap f (omega arith)
 
 pub map-numbers : {A : Type 0} (f g : ℕ → A) (k n : ℕ) → ((i : ℕ) → k ≤ i → i < k + n → f i ≡ g i)
     → map f (numbersFrom k n) ≡ map g (numbersFrom k n)
@@ -101,16 +95,6 @@ encode-count s i h few =
     ∙ ap (λ bs. getD bs i 0) (encode-counts s)
     ∙ countsBytes-at portLimit (s .sections) (sectionsBytes portLimit (s .sections)) i h few
 
--- the place among the bytes of an entry
-entryBytes-place : (x : Entry) → numberAt 1 2 (entryBytes x) ≡ placeByte (x .place)
-unfolding entryBytes bytesOf numberAt numberOf placeByte
-entryBytes-place x = go (x .place)
-  where
-    go : (p : Place) → placeByte p % 256 + 0 ≡ placeByte p
-    go listed = refl
-    go crossed = refl
-    go buffered = refl
-
 placeByteAt-entry : (table : List ℕ) (k : ℕ) (x : Entry) → recordAt table k ≡ entryBytes x
     → placeByteAt table k ≡ placeByte (x .place)
 unfolding placeByteAt
@@ -118,16 +102,13 @@ placeByteAt-entry table k x h = ap (numberAt 1 2) h ∙ entryBytes-place x
 
 -- what the table of a state says of it
 module _ (table : List ℕ) (s : Switch) (e : decode table ≡ some s) where
-  state-same : stateOf table ≡ s
-  state-same = ap stateOf (sym (encode-decode table s e)) ∙ stateOf-encode s (decode-sound table s e)
-
   pub decode-ports : portsIn table ≡ s .ports
   unfolding portsIn stateOf
-  decode-ports = ap (λ t. t .ports) state-same
+  decode-ports = ap (λ t. t .ports) (decode-state table s e)
 
   pub decode-clock : clockIn table ≡ s .clock
   unfolding clockIn stateOf
-  decode-clock = ap (λ t. t .clock) state-same
+  decode-clock = ap (λ t. t .clock) (decode-state table s e)
 
   pub decode-ports-few : portsIn table ≤ portLimit
   decode-ports-few = omega (arith, decode-ports, sound-ports s (decode-sound table s e))
@@ -146,7 +127,7 @@ module _ (table : List ℕ) (s : Switch) (e : decode table ≡ some s) where
   unfolding portsIn
   decode-sections =
       let ports : word table 4 ≤ portLimit = decode-ports-few in
-      sym (ap (λ t. t .sections) state-same)
+      sym (ap (λ t. t .sections) (decode-state table s e))
       ∙ stateOf-sections table (λ i h. decode-count-few i (omega arith))
 
   -- a number within a section is in the table
@@ -168,7 +149,7 @@ module _ (table : List ℕ) (s : Switch) (e : decode table ≡ some s) where
     own-section =
         let at : 0 + k / cellLimit ≡ k / cellLimit = omega arith in
         ap (λ l. getD l (k / cellLimit) []) decode-sections
-        ∙ getD-numbers (sectionAt table) 0 (portsIn table) (k / cellLimit) [] (t .input)
+        ∙ numbersFrom-at (sectionAt table) 0 (portsIn table) (k / cellLimit) [] (t .input)
         ∙ ap (sectionAt table) at
 
     -- it is sound
@@ -180,7 +161,7 @@ module _ (table : List ℕ) (s : Switch) (e : decode table ≡ some s) where
         let low : first ≤ k = omega arith in
         let high : k < first + count = omega (arith, t .position) in
         let mem : List·Memᴰ (entryAt table k) (getD (s .sections) (k / cellLimit) []) =
-        rw own-section (Memᴰ·map (entryAt table) (numbersFrom-i first count low high)) in
+        rw own-section (Memᴰ·map (entryAt table) (numbersFrom-mem first count low high)) in
         sections-e (s .ports) (s .clock) (s .sections) (sound-sections s (decode-sound table s e)) (k / cellLimit)
         .entries (entryAt table k) mem
 
@@ -197,7 +178,7 @@ module _ (table : List ℕ) (s : Switch) (e : decode table ≡ some s) where
         ∙ recordAt-encode s i section-short own-port j (entryAt table k) within
         ∙ ap entryBytes
         (ap (λ es. getD es j (entryAt table k)) own-section
-        ∙ getD-numbers (entryAt table) (cellLimit * i) count j (entryAt table k) (omega (arith, t .position))
+        ∙ numbersFrom-at (entryAt table) (cellLimit * i) count j (entryAt table k) (omega (arith, t .position))
         ∙ ap (entryAt table) (sym whole))
 
     -- and the byte of its place is that of its place

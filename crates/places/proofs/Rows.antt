@@ -1,65 +1,42 @@
 -- The column of places and the rows of crosspoints, entry by entry.
---     crossed-byte       a place is a crosspoint if its byte is 2
 --     crossed-once       no crosspoint has two entries
 --     copied-, row-, rows-   one entry more, one input more
 --     loaded             all inputs
 use Prim.Native.Nat.{ℕ, _+_, _*_, _/_, _≤_, _<_}
 use native.Mathlib.Omega.{arith}
-use mathlib.Core.Bool.{Bool, true, false, true≢false}
+use mathlib.Core.Bool.{true, false}
 use mathlib.Core.Path.{_≡_, refl, sym, _∙_, ap, ap₂, subst}
 use mathlib.Core.Logic.{_⊎_, inl, inr, _≢_}
 use mathlib.Core.List.{List, [], map, List·Memᴰ}
 use mathlib.Core.Option.{Option, none, some}
-use borrow.Author.Tests.{eqb-true}
-use lib.Dec.{eqb}
 use lib.ListN.{length, getD, set, replicate, length-set, getD-replicate}
 use lib.Seq.{getD-set-same, getD-set-other}
 use Rattle.laws.specs.Lists.{upTo}
 use Rattle.laws.proofs.Tests.{clash}
+use Rattle.laws.proofs.Numbers.{numbersFrom-at}
 use Rattle.laws.proofs.Pairwise.{pairwise-e}
 use Rattle.cell.specs.Limits.{cellLimit}
 use Rattle.cell.proofs.Order.{Compared, below, equal, above, compare}
-use Rattle.model.specs.State.{Place, listed, crossed, buffered, Switch, isCrossed}
-use Rattle.model.specs.Phase.{Waiting, waiting, sameCrosspoint}
+use Rattle.model.specs.State.{crossed, Switch, isCrossed}
+use Rattle.model.specs.Phase.{Waiting, waiting}
 use Rattle.model.specs.Slackness.{apart, OneCrosspoint}
+use Rattle.model.proofs.PhaseLimits.{apart-e}
 use Rattle.model.proofs.WaitingOrder.{crosspoint-i}
 use Rattle.model.proofs.SoundOrderly.{sound-one-crosspoint}
-use Rattle.layout.specs.Table.{placeOf, placeByte, stateOf, decode, IsTable}
+use Rattle.layout.specs.Table.{placeOf, stateOf, decode, IsTable}
 use Rattle.layout.specs.Entry.{entryAt, portsIn, countIn}
 use Rattle.layout.specs.Records.{placeByteAt}
-use Rattle.layout.proofs.Table.{decode-sound, sound-sections, stateOf-encode, encode-decode}
+use Rattle.layout.proofs.Table.{placeByte-range, decode-sound, sound-sections, stateOf-encode, encode-decode}
 use Rattle.layout.proofs.Records.{entryAt-place, entryAt-input}
 use Rattle.places.specs.View.{waitingAt, inTable, InTable, crosspointAt, Agrees}
 use Rattle.places.specs.Choices.{nowhere}
 use Rattle.places.specs.Scan.{Readable}
 use Rattle.places.specs.Loading.{Copied, RowOf, Rows, Loaded}
 use Rattle.places.proofs.Window
-use Rattle.places.proofs.Placed.{getD-numbers, inTable-number, inTable-same, decode-readable, decode-place}
-
-------------------------------------------------------------------------
--- crossed
-
-pub crossed-byte : (b : ℕ) → b ≡ 2 → isCrossed (placeOf b) ≡ true
-unfolding placeOf isCrossed
-crossed-byte b e = rw e
-
-pub byte-crossed : (b : ℕ) → isCrossed (placeOf b) ≡ true → b ≡ 2
-unfolding placeOf isCrossed
-byte-crossed b h = go (eqb b 1) (eqb b 2) refl h
-  where
-    go : (x y : Bool) → eqb b 2 ≡ y
-        → isCrossed (elim x [ true ↦ listed | false ↦ elim y [ true ↦ crossed | false ↦ buffered ] ]) ≡ true → b ≡ 2
-    go true y e h = absurd (true≢false (sym h))
-    go false true e h = eqb-true b 2 e
-    go false false e h = absurd (true≢false (sym h))
+use Rattle.places.proofs.Placed.{inTable-number, inTable-same, decode-readable, decode-place}
 
 ------------------------------------------------------------------------
 -- no crosspoint has two entries
-
-apart-e : (e f : Waiting) → apart e f ≡ true → isCrossed (e .place) ≡ true → isCrossed (f .place) ≡ true
-    → sameCrosspoint e f ≡ true → ⊥
-unfolding apart
-apart-e e f h a b c = clash h (rw (a, b, c))
 
 module _ (table : List ℕ) (s : Switch) (e : decode table ≡ some s) where
   -- the places of the table itself
@@ -72,7 +49,7 @@ module _ (table : List ℕ) (s : Switch) (e : decode table ≡ some s) where
   column-at : (k : ℕ) → InTable table k → getD column k 0 ≡ placeByteAt table k
   unfolding column upTo
   column-at k t =
-      getD-numbers (placeByteAt table) 0 1024 k 0 (Window.inTable-below table [] (decode-readable table s e) k t)
+      numbersFrom-at (placeByteAt table) 0 1024 k 0 (Window.inTable-below (decode-readable table s e) t)
       ∙ ap (placeByteAt table) (omega arith)
 
   column-cell : (k : ℕ) → InTable table k → List·Memᴰ (cellOf k) (waiting (s .sections))
@@ -123,7 +100,7 @@ module _ (table : List ℕ) (s : Switch) (e : decode table ≡ some s) where
       go j l u (below h) = getD-set-other places k j b 0 (omega arith) ∙ c .same j h u
       go j l u (equal h) =
           let here : k < length places =
-          omega (arith, c .size, Window.inTable-below table places (decode-readable table s e) k t) in
+          omega (arith, c .size, Window.inTable-below (decode-readable table s e) t) in
           ap (λ n. getD (set places k b) n 0) h
           ∙ getD-set-same places k b 0 here
           ∙ byte
@@ -252,12 +229,6 @@ rows-put table input cross row port r c =
 
 ------------------------------------------------------------------------
 -- all inputs
-
-placeByte-range : (p : Place) → (1 ≤ placeByte p) × (placeByte p ≤ 3)
-unfolding placeByte
-placeByte-range listed = omega arith
-placeByte-range crossed = omega arith
-placeByte-range buffered = omega arith
 
 module _ (table : List ℕ) (good : IsTable table) (places : List ℕ) (cross : List (List ℕ))
     (c : Copied table places (cellLimit * portsIn table)) (r : Rows table (portsIn table) cross) where

@@ -1,29 +1,28 @@
 -- The waiting cells as a table has them: section by section, each a window.
---     numbersFrom-, run-      runs of numbers, and of a list for each number
+--     numbersFrom-, run-      a run of numbers rises, and a list for each number
 --     waitingAt-              the fields of the cell with a number
 --     window-suc, window-     the first cells of an input
 --     inTable-i, inTable-e    the waiting cells are those whose number is in the table
 --     ofInput-window          those of an input are its window
 use Prim.Native.Nat.{ℕ, zero, suc, _+_, _*_, _-_, _/_, _<_, _≤_}
 use native.Mathlib.Omega.{arith}
-use native.Mathlib.Nat.{add-zero, zero-add, suc-add}
 use mathlib.Core.Bool.{Bool, true, false}
 use mathlib.Core.Path.{_≡_, refl, sym, _∙_, ap, ap₂, subst}
 use mathlib.Core.Logic.{_⊎_, inl, inr, _≢_}
-use mathlib.Core.List.{List, [], _∷_, _++_, map, flatten, append-nil, List·Memᴰ, List·Memᴰ·head, List·Memᴰ·tail}
-use mathlib.Core.List.{List·Memᴰ·not-nil, List·Memᴰ·cases-cons, List·Memᴰ·append-cases}
+use mathlib.Core.List.{List, [], _∷_, _++_, map, map-append, flatten, append-nil, List·Memᴰ}
+use mathlib.Core.List.{List·Memᴰ·not-nil, List·Memᴰ·append-cases}
 use mathlib.Core.List.{Memᴰ·append-left, Memᴰ·append-right, Memᴰ·map, Memᴰ·of-map}
 use borrow.Author.Tests.{eq-eqb, ne-eqb}
 use lib.Dec.{eqb}
 use lib.ListN.{length, getD, length-map}
 use Rattle.laws.specs.Lists.{keep, pairwise, numbersFrom, upTo}
 use Rattle.laws.proofs.Lists.{keep-append, keep-all, keep-none, all?-i, none?-i}
+use Rattle.laws.proofs.Numbers.{length-numbersFrom, numbersFrom-mem, mem-numbersFrom, numbersFrom-more, numbersFrom-add}
 use Rattle.laws.proofs.Pairwise.{pairwise-nil, pairwise-cons, pairwise-map}
 use Rattle.cell.specs.Limits.{cellLimit}
 use Rattle.cell.proofs.Order.{Compared, below, equal, above, compare}
 use Rattle.model.specs.Phase.{Waiting, ahead}
 use Rattle.model.proofs.WaitingOrder.{ahead-i}
-use Rattle.model.proofs.Sections.{map-append}
 use Rattle.model.proofs.PhaseFacts.{crosspoints, crosspoints-i, crosspoints-all, crosspoints-crossed}
 use Rattle.layout.proofs.Records.{entryAt-input}
 use Rattle.layout.specs.Entry.{entryAt, portsIn, countIn}
@@ -35,50 +34,9 @@ use Rattle.places.specs.Scan.{Readable, Holds}
 ------------------------------------------------------------------------
 -- runs of numbers
 
-pub numbersFrom-e : (k n : ℕ) {a : ℕ} → List·Memᴰ a (numbersFrom k n) → (k ≤ a) × (a < k + n)
-unfolding numbersFrom
-numbersFrom-e k zero m = absurd (List·Memᴰ·not-nil m)
-numbersFrom-e k (suc n) {a} m = go (numbersFrom-e (k + 1) n) (List·Memᴰ·cases-cons m)
-  where
-    go : (List·Memᴰ a (numbersFrom (k + 1) n) → (k + 1 ≤ a) × (a < k + 1 + n))
-        → (a ≡ k) ⊎ List·Memᴰ a (numbersFrom (k + 1) n) → (k ≤ a) × (a < k + suc n)
-    go rec (inl e) = omega arith
-    go rec (inr i) = omega (arith, rec i)
-
-pub numbersFrom-i : (k n : ℕ) {a : ℕ} → k ≤ a → a < k + n → List·Memᴰ a (numbersFrom k n)
-unfolding numbersFrom
-numbersFrom-i k zero h l = absurd (omega arith)
-numbersFrom-i k (suc n) {a} h l = go (compare a k) (numbersFrom-i (k + 1) n)
-  where
-    go : Compared a k → (k + 1 ≤ a → a < k + 1 + n → List·Memᴰ a (numbersFrom (k + 1) n))
-        → List·Memᴰ a (k ∷ numbersFrom (k + 1) n)
-    go (below b) rec = absurd (omega arith)
-    go (equal b) rec = List·Memᴰ·head b
-    go (above b) rec = List·Memᴰ·tail (rec (omega arith) (omega arith))
-
 numbersFrom-cons : (k n : ℕ) → numbersFrom k (suc n) ≡ k ∷ numbersFrom (k + 1) n
 unfolding numbersFrom
 numbersFrom-cons k n = refl
-
-pub numbersFrom-suc : (k n : ℕ) → numbersFrom k (suc n) ≡ numbersFrom k n ++ ((k + n) ∷ [])
-unfolding numbersFrom
-numbersFrom-suc k zero = ap (λ a. a ∷ []) (sym (add-zero k))
-numbersFrom-suc k (suc n) =
-    let e : k + 1 + n ≡ k + suc n = omega arith in
-    ap (λ l. k ∷ l) (numbersFrom-suc (k + 1) n ∙ ap (λ a. numbersFrom (k + 1) n ++ (a ∷ [])) e)
-
-pub numbersFrom-add : (k n m : ℕ) → numbersFrom k (n + m) ≡ numbersFrom k n ++ numbersFrom (k + n) m
-unfolding numbersFrom
-numbersFrom-add k zero m = ap₂ numbersFrom (sym (add-zero k)) (zero-add m)
-numbersFrom-add k (suc n) m =
-    let e : k + 1 + n ≡ k + suc n = omega arith in
-    rw suc-add
-    (ap (λ l. k ∷ l) (numbersFrom-add (k + 1) n m ∙ ap (λ a. numbersFrom (k + 1) n ++ numbersFrom a m) e))
-
-pub length-numbersFrom : (k n : ℕ) → length (numbersFrom k n) ≡ n
-unfolding numbersFrom
-length-numbersFrom k zero = refl
-length-numbersFrom k (suc n) = ap suc (length-numbersFrom (k + 1) n)
 
 -- a run rises
 pub numbersFrom-pairwise : (r : ℕ → ℕ → Bool) (k n : ℕ) → ((a b : ℕ) → k ≤ a → a < b → b < k + n → r a b ≡ true)
@@ -87,7 +45,7 @@ unfolding numbersFrom
 numbersFrom-pairwise r k zero h = pairwise-nil r
 numbersFrom-pairwise r k (suc n) h =
     pairwise-cons r k (numbersFrom (k + 1) n)
-    (λ b m. let w = numbersFrom-e (k + 1) n m in h k b (omega arith) (omega (arith, w .0)) (omega (arith, w .1)))
+    (λ b m. let w = mem-numbersFrom (k + 1) n m in h k b (omega arith) (omega (arith, w .0)) (omega (arith, w .1)))
     (numbersFrom-pairwise r (k + 1) n (λ a b l m u. h a b (omega arith) m (omega arith)))
 
 -- a list for each number of a run, one after the other
@@ -153,6 +111,10 @@ module _ {A : Type 0} (w : ℕ → List A) where
 ------------------------------------------------------------------------
 -- the cell with a number
 
+-- a number in the table is below 1,024
+pub inTable-below : {table : List ℕ} (r : Readable table) {k : ℕ} → InTable table k → k < 1024
+inTable-below r t = omega (arith, t .input, r .ports)
+
 module _ (table places : List ℕ) where
   pub waitingAt-at : (k : ℕ) → waitingAt table places k .at ≡ k
   unfolding waitingAt
@@ -182,13 +144,13 @@ module _ (table places : List ℕ) where
       ≡ window table places input n ++ (waitingAt table places (cellLimit * input + n) ∷ [])
   unfolding window
   window-suc input n =
-      ap (map (waitingAt table places)) (numbersFrom-suc (cellLimit * input) n)
+      ap (map (waitingAt table places)) (numbersFrom-more (cellLimit * input) n)
       ∙ map-append (waitingAt table places) (numbersFrom (cellLimit * input) n) ((cellLimit * input + n) ∷ [])
 
   pub window-i : (input n k : ℕ) → cellLimit * input ≤ k → k < cellLimit * input + n
       → List·Memᴰ (waitingAt table places k) (window table places input n)
   unfolding window
-  window-i input n k a b = Memᴰ·map (waitingAt table places) (numbersFrom-i (cellLimit * input) n a b)
+  window-i input n k a b = Memᴰ·map (waitingAt table places) (numbersFrom-mem (cellLimit * input) n a b)
 
   -- a cell in a window
   pub record InWindow (input n : ℕ) (e : Waiting) : Type 0 where
@@ -204,7 +166,7 @@ module _ (table places : List ℕ) where
           → InWindow input n e
       go (k, i, q) =
           let at : k ≡ e .at = sym (waitingAt-at k) ∙ ap (λ w. w .at) q in
-          let b = numbersFrom-e (cellLimit * input) n i in
+          let b = mem-numbersFrom (cellLimit * input) n i in
           record {
             self = sym q ∙ ap (waitingAt table places) at;
             from = omega (arith, b .0);
@@ -305,10 +267,6 @@ module _ (table places : List ℕ) where
             let t = inTable-e m in
             let i : e .cell .input ≡ e .at / cellLimit = ap (λ w. w .cell .input) (t .0) ∙ waitingAt-input (e .at) in
             omega (arith, t .1 .input)
-
-    -- a number in the table is below 1,024
-    pub inTable-below : (k : ℕ) → InTable table k → k < 1024
-    inTable-below k t = omega (arith, t .input, r .ports)
 
     -- the input of a waiting cell is that of its number
     pub inTable-input : {e : Waiting} → List·Memᴰ e (inTable table places) → e .cell .input ≡ e .at / cellLimit

@@ -4,8 +4,8 @@ use mathlib.Core.List.{List, map}
 use lib.ListN.{getD}
 use Rattle.laws.specs.Lists.{numbersFrom, upTo}
 use Rattle.cell.specs.Limits.{cellLimit}
-use Rattle.model.specs.State.{Entry, Switch}
-use Rattle.layout.specs.Entry.{entryAt, portsIn, clockIn, countIn}
+use Rattle.model.specs.State.{Entry}
+use Rattle.layout.specs.Entry.{entryAt, portsIn, countIn}
 use Rattle.layout.specs.Table.{placeOf}
 
 unfoldable pub entryPlaced : List ℕ → List ℕ → ℕ → Entry
@@ -17,8 +17,3 @@ sectionPlaced table places input =
 
 unfoldable pub sectionsPlaced : List ℕ → List ℕ → List (List Entry)
 sectionsPlaced table places = map (sectionPlaced table places) (upTo (portsIn table))
-
--- the switch that the table and the column stand for
-unfoldable pub switchPlaced : List ℕ → List ℕ → Switch
-switchPlaced table places =
-    record { ports = portsIn table; clock = clockIn table; sections = sectionsPlaced table places }

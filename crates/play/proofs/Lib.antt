@@ -1,2 +1,3 @@
 pub mod Pieces
 pub mod SameText
+pub mod Written

@@ -39,49 +39,16 @@ use Rattle.reader.proofs.Answers.{headerIn-more, headerIn-known, nextIn-more, n
 use Rattle.reader.proofs.Pieces.{onwardNext, next-onwards, behindHeader, header-append}
 use Rattle.reader.proofs.Whole.{nil-text, next-nil, next-shorter}
 use Rattle.play.specs.Player.{Machine, departuresText, refusalText, lineOf}
-use Rattle.play.specs.Player.{playFrom, play, crossbar, playCrossbar}
+use Rattle.play.specs.Player.{playFrom, crossbar, playCrossbar}
 use Rattle.play.specs.Turn.{Standing, opening, playing, over, Turn, ending, slotTurn, nextTurn, headerTurn, turn}
 use Rattle.play.specs.Turn.{followed, turns}
+use Rattle.play.proofs.Written.{play-finished, play-faulty, play-refused, play-done, play-turned-back, play-opened}
 
 -- what is still to be written when t is all the text that is left
 unfoldable pub rest : Standing → List ℕ → List ℕ
 rest opening t = playCrossbar t
 rest (playing l s) t = playFrom crossbar (length t) (s .clock) s (from l t)
 rest over t = []
-
--- the player, by what stands before it
-
-module _ {S : Type 0} (m : Machine S) (most clock : ℕ) (s : S) (c : Cursor) where
-  play-end : next clock c ≡ finished → playFrom m (suc most) clock s c ≡ line End clock
-  unfolding playFrom
-  play-end h = rw (h, playFrom)
-
-  play-fault : {l : ℕ} → next clock c ≡ faulty l → playFrom m (suc most) clock s c ≡ refusalText BadLine l
-  unfolding playFrom
-  play-fault h = rw (h, playFrom)
-
-  module _ {records : List Arrival} {d : Cursor} (h : next clock c ≡ slotAhead records d) where
-    play-refused : {r : Refusal} {place : ℕ} → m .slot s records ≡ refused r place
-        → playFrom m (suc most) clock s c ≡ refusalText r (lineOf (c .line) place)
-    unfolding playFrom
-    play-refused k = rw (h, k, playFrom)
-
-    play-slot : {x : List (Option Cell) × S} → m .slot s records ≡ done x
-        → playFrom m (suc most) clock s c
-        ≡ line Slot clock ++ (departuresText (x .0) ++ playFrom m most (clock + 1) (x .1) d)
-    unfolding playFrom
-    play-slot k = rw (h, k, playFrom)
-
-module _ {S : Type 0} (m : Machine S) (t : List ℕ) where
-  play-no-header : {r : Refusal} {l : ℕ} → header t ≡ refusedAt r l → play m t ≡ refusalText r l
-  unfolding play
-  play-no-header h = rw (h, play)
-
-  play-header : {ports first : ℕ} {c : Cursor} → header t ≡ opened ports first c
-      → play m t
-      ≡ line Ports ports ++ (line First first ++ playFrom m (length (c .text)) first (m .fresh ports first) c)
-  unfolding play
-  play-header h = rw (h, play)
 
 -- how many blocks may be played does not matter, if there are as many as bytes
 
@@ -92,7 +59,7 @@ module _ {S : Type 0} (m : Machine S) where
   play-any-fault zero clock s c {l} h e =
       let f : c .line ≡ l = cc (next-nil clock c (nil-text (c .text) h)) in
       ap (refusalText BadLine) f
-  play-any-fault (suc most) clock s c h e = play-fault m most clock s c e
+  play-any-fault (suc most) clock s c h e = play-faulty m most clock s c e
 
   play-nil : (most few clock : ℕ) (s : S) (c : Cursor) → length (c .text) ≤ 0
       → playFrom m most clock s c ≡ playFrom m few clock s c
@@ -112,9 +79,9 @@ module _ {S : Type 0} (m : Machine S) where
           → playFrom m (suc most) clock s c ≡ playFrom m (suc few) clock s c
       ran e (refused r place) f same = play-refused m most clock s c e f ∙ sym (play-refused m few clock s c e f)
       ran e (done x) f same =
-          play-slot m most clock s c e f
+          play-done m most clock s c e f
           ∙ ap (λ w. line Slot clock ++ (departuresText (x .0) ++ w)) (same (x .1))
-          ∙ sym (play-slot m few clock s c e f)
+          ∙ sym (play-done m few clock s c e f)
 
       go : (n : Next) → next clock c ≡ n
           → ((s : S) (d : Cursor) → length (d .text) ≤ most → length (d .text) ≤ few
@@ -123,8 +90,8 @@ module _ {S : Type 0} (m : Machine S) where
       go (slotAhead records d) e same =
           let l : length (d .text) < length (c .text) = next-shorter clock c e in
           ran e (m .slot s records) refl (λ s. same s d (omega arith) (omega arith))
-      go finished e same = play-end m most clock s c e ∙ sym (play-end m few clock s c e)
-      go (faulty l) e same = play-fault m most clock s c e ∙ sym (play-fault m few clock s c e)
+      go finished e same = play-finished m most clock s c e ∙ sym (play-finished m few clock s c e)
+      go (faulty l) e same = play-faulty m most clock s c e ∙ sym (play-faulty m few clock s c e)
 
 -- the clock of the switch is the player's
 
@@ -155,7 +122,7 @@ module _ (l : ℕ) (s : Switch) (t : List ℕ) where
       let (f, g) = rw e at (next-exact (s .clock) (from l t)) in
       let m : length t ≡ suc (length t - 1) = omega (arith, ap length f, length-line End (s .clock)) in
       ap (λ k. playFrom crossbar k (s .clock) s (from l t)) m
-      ∙ play-end crossbar (length t - 1) (s .clock) s (from l t) e
+      ∙ play-finished crossbar (length t - 1) (s .clock) s (from l t) e
 
   module _ {records : List Arrival} {d : Cursor} (e : next (s .clock) (from l t) ≡ slotAhead records d) where
     longer : length t ≡ suc (length t - 1)
@@ -177,7 +144,7 @@ module _ (l : ℕ) (s : Switch) (t : List ℕ) where
         let f : crossbar .slot s records ≡ done (c .departures, c .switch) = rw (h, crossbar) in
         let g : length (d .text) ≤ length t - 1 = omega (arith, next-shorter (s .clock) (from l t) e) in
         ap (λ k. playFrom crossbar k (s .clock) s (from l t)) longer
-        ∙ play-slot crossbar (length t - 1) (s .clock) s (from l t) e f
+        ∙ play-done crossbar (length t - 1) (s .clock) s (from l t) e f
         ∙ ap (λ w. line Slot (s .clock) ++ (departuresText (c .departures) ++ w))
         (play-fuel crossbar (length t - 1) (length (d .text)) (s .clock + 1) (c .switch) d g (omega arith)
         ∙ ap (λ n. playFrom crossbar (length (d .text)) n (c .switch) d) (sym (slot-clock s records h)))
@@ -225,10 +192,10 @@ module _ (t u : List ℕ) (e : Enough t u) where
   unfolding headerTurn behindHeader rest playCrossbar crossbar fresh
   header-part (refusedAt r l) h =
       let f : header (t ++ u) ≡ refusedAt r l = header-there ∙ rw h in
-      part-end opening t u (play-no-header crossbar (t ++ u) f)
+      part-end opening t u (play-turned-back crossbar (t ++ u) f)
   header-part (opened ports first c) h =
       let f : header (t ++ u) ≡ opened ports first (from (c .line) (c .text ++ u)) = header-there ∙ rw h in
-      play-header crossbar (t ++ u) f ∙ sym (append-assoc (line Ports ports) (line First first) _)
+      play-opened crossbar (t ++ u) f ∙ sym (append-assoc (line Ports ports) (line First first) _)
 
   -- a block, or the end
 

@@ -1,21 +1,17 @@
 -- The player's text is the text that a player over the PIFO switch would print. By induction over the blocks of a text,
 -- with what demand 3 keeps between slot calls; that the records fit 32 bits, as demand 3 asks, is the grammar's.
---     play-finished, play-faulty, play-refused, play-done   what a player writes, by what stands next and the answer
---     play-turned-back, play-opened                         what it writes of a whole text, by the header
---     header-first                                          a header's first slot fits 32 bits
---     same-from                                             from a cursor on, with two switches so kept
---     same-text                                             for every text
+--     header-first   a header's first slot fits 32 bits
+--     same-from      from a cursor on, with two switches so kept
+--     same-text      for every text
 -- Assumes nothing.
 use Prim.Native.Nat.{ℕ, zero, suc, _+_}
 use mathlib.Core.Bool.{Bool, true, false}
 use mathlib.Core.List.{List, _++_}
-use mathlib.Core.Option.{Option, some}
+use mathlib.Core.Option.{some}
 use mathlib.Core.Path.{_≡_, refl, sym, ap, _∙_}
 use lib.ListN.{length}
 use Rattle.cell.specs.declared.Arrival.{Arrival}
-use Rattle.cell.specs.declared.Cell.{Cell}
 use Rattle.cell.specs.declared.Refusal.{Refusal}
-use Rattle.cell.specs.declared.Refusal.the-variants.{BadLine}
 use Rattle.cell.specs.Limits.{fits32, portsInRange}
 use Rattle.model.specs.Checks.{Outcome, done, refused}
 use Rattle.model.specs.Crossbar.{Course, slot, switchAfter}
@@ -23,49 +19,16 @@ use Rattle.model.specs.Emulation.{lent, AnswersAlike}
 use Rattle.model.specs.Pifo.{Pifo, freshPifo, Sent, slotPifo, pifoAfter}
 use Rattle.model.specs.State.{Switch, fresh}
 use Rattle.model.proofs.Demand3.{Kept, step, kept-fresh}
-use Rattle.trace.specs.declared.Key.the-variants.{Ports, First, Slot, End}
+use Rattle.trace.specs.declared.Key.the-variants.{Ports, First, Slot}
 use Rattle.trace.specs.Line.{line}
 use Rattle.trace.specs.Reader.{Cursor, Read, got, badAt, number, Next, slotAhead, finished, faulty, next}
 use Rattle.trace.specs.Reader.{Header, opened, refusedAt, header}
 use Rattle.trace.proofs.Blocks.{at, number-exact, blockFits-e, Stands, next-exact}
 use Rattle.trace.proofs.RoundTrip.{header-bad-ports, header-bad-size, header-bad-first, header-opened}
 use Rattle.trace.proofs.RoundTrip.{Opens, header-exact}
-use Rattle.play.specs.Player.{Machine, departuresText, refusalText, lineOf, playFrom, play}
+use Rattle.play.specs.Player.{departuresText, refusalText, lineOf, playFrom, play}
 use Rattle.play.specs.Player.{crossbar, pifo, playCrossbar, playPifo}
-
-------------------------------------------------------------------------
--- a player over any switch
-
-module _ {S : Type 0} (m : Machine S) where
-  module _ (most clock : ℕ) (s : S) (c : Cursor) where
-    pub play-finished : next clock c ≡ finished → playFrom m (suc most) clock s c ≡ line End clock
-    unfolding playFrom
-    play-finished h = rw (h, playFrom)
-
-    pub play-faulty : {l : ℕ} → next clock c ≡ faulty l → playFrom m (suc most) clock s c ≡ refusalText BadLine l
-    unfolding playFrom
-    play-faulty h = rw (h, playFrom)
-
-    module _ {records : List Arrival} {d : Cursor} (h : next clock c ≡ slotAhead records d) where
-      pub play-refused : {r : Refusal} {place : ℕ} → m .slot s records ≡ refused r place
-          → playFrom m (suc most) clock s c ≡ refusalText r (lineOf (c .line) place)
-      unfolding playFrom
-      play-refused k = rw (h, k, playFrom)
-
-      pub play-done : {x : List (Option Cell) × S} → m .slot s records ≡ done x
-          → playFrom m (suc most) clock s c
-          ≡ line Slot clock ++ (departuresText (x .0) ++ playFrom m most (clock + 1) (x .1) d)
-      unfolding playFrom
-      play-done k = rw (h, k, playFrom)
-
-  pub play-turned-back : (t : List ℕ) {r : Refusal} {l : ℕ} → header t ≡ refusedAt r l → play m t ≡ refusalText r l
-  unfolding play
-  play-turned-back t h = rw (h, play)
-
-  pub play-opened : (t : List ℕ) {n first : ℕ} {c : Cursor} → header t ≡ opened n first c
-      → play m t ≡ line Ports n ++ (line First first ++ playFrom m (length (c .text)) first (m .fresh n first) c)
-  unfolding play
-  play-opened t h = rw (h, play)
+use Rattle.play.proofs.Written.{play-finished, play-faulty, play-refused, play-done, play-turned-back, play-opened}
 
 ------------------------------------------------------------------------
 -- the two switches as a player sees them

@@ -18,11 +18,6 @@ module _ (from n : ℕ) (window : List ℕ) (h : from + n < length window) where
   front : length (take n (drop from window)) ≡ n
   front = length-take-le n (drop from window) (omega (arith, length-drop from window))
 
-  pub length-moved : length (moved from n window) ≡ length window
-  unfolding moved
-  length-moved =
-      length-append (take n (drop from window)) (drop n window) ∙ ap₂ _+_ front (length-drop n window) ∙ omega arith
-
   -- what is still to be moved stands as it was
   pub moved-at : getD (moved from n window) (from + n) 0 ≡ getD window (from + n) 0
   unfolding moved

@@ -11,6 +11,7 @@ use lib.ListN.{length, take, drop, length-map, take-append-drop}
 use lib.Seq.{drop-drop, take-at}
 use Rattle.laws.specs.Lists.{all?, upTo}
 use Rattle.laws.proofs.Lists.{all?-i}
+use Rattle.laws.proofs.Numbers.{length-numbersFrom}
 use Rattle.laws.proofs.Tests.{and-i, and-l, and-r}
 use Rattle.cell.specs.Limits.{cellLimit, portLimit, fits32, portsInRange}
 use Rattle.model.specs.State.{Switch}
@@ -26,7 +27,7 @@ use Rattle.layout.proofs.Number.{bytes?, word-here, word-fits, below-fits32, by
 use Rattle.layout.proofs.Table.{stateOf-encode, decode-some-iff, decode-sound, encode-decode, length-encode, decode-state, isTable-some, isTable-none, is-table}
 use Rattle.layout.proofs.Table.{encode-counts, encode-sections, length-countsBytes, sound-sections}
 use Rattle.layout.proofs.Host.{checkCall-table, checkCall-broken}
-use Rattle.layout.proofs.Records.{length-numbersFrom, between-mem, between-each, stateOf-sections, stateOf-few}
+use Rattle.layout.proofs.Records.{between-mem, between-each, stateOf-sections, stateOf-few}
 use Rattle.table.proofs.Parts.{Section, roomOf-le, isSection-i, isSection-e, counts-i, sections-i, sounds-i}
 use Rattle.table.proofs.Parts.{rows-e}
 

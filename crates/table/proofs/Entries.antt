@@ -1,21 +1,25 @@
--- An entry is written as four numbers of 32 bits. The first two bytes of its record tell its flow, and the first four
--- its flow and place.
-use Prim.Native.Nat.{ℕ, suc, _+_, _*_, _/_, _%_, _≤_, _<_}
+-- An entry is written as four numbers of 32 bits and copied as two of 64 bits. The first two bytes of its record tell its
+-- flow, and the first four its flow and place.
+use Prim.Native.Nat.{ℕ, suc, _+_, _*_, _/_, _%_, _^_, _≤_, _<_}
 use native.Mathlib.Omega.{arith}
 use mathlib.Core.Path.{_≡_, sym, _∙_, ap, ap₂}
+use mathlib.Core.Bool.{true}
 use mathlib.Core.List.{List, _∷_, _++_, append-assoc}
 use borrow.Author.Tests.{eqb-true, eq-eqb}
 use lib.Dec.{eqb}
-use lib.ListN.{length, getD}
+use lib.ListN.{length, getD, take, drop, length-drop}
+use lib.Seq.{length-take-le}
 use Rattle.laws.proofs.Tests.{same}
 use Rattle.cell.specs.declared.Cell.{Cell}
 use Rattle.cell.specs.Flow.{sameFlow}
 use Rattle.cell.proofs.Flow.{flow-i, flow-e}
 use Rattle.layout.specs.Number.{bytesOf, numberAt, word}
-use Rattle.layout.specs.Table.{entryBytes}
 use Rattle.layout.specs.Entry.{entryAt}
 use Rattle.layout.specs.Records.{recordStart, recordAt, placeByteAt}
-use Rattle.layout.proofs.Halves.{numberAt-halves, numberAt-byte}
+use Rattle.layout.specs.Table.{entrySize, tableSize, entryBytes}
+use Rattle.layout.proofs.Halves.{read-halves, put-halves, numberAt-halves, numberAt-byte}
+use Rattle.layout.proofs.Number.{bytes?, bytes?-take, bytes?-drop, bytesOf-numberOf, numberAt-below}
+use Rattle.layout.proofs.Put.{put}
 use Rattle.layout.proofs.Records.{entryAt-output, entryAt-flow, placeByteAt-byte}
 use Rattle.table.specs.Entries.{entryWith, flowWord}
 use Rattle.table.proofs.Fields.{place-i, exact-zero}
@@ -49,6 +53,24 @@ entry-words c p ho hf low high =
     ∙ ap (λ b. bytesOf 1 (c .output) ++ (bytesOf 1 (c .flow) ++ (bytesOf 1 b ++ bytesOf 1 0)))
     (sym (place-i p low high)))
     ∙ simp append-assoc
+
+-- a record copied by two numbers of 64 bits
+pub record-copied : (k n from to low high : ℕ) (old mid new : List ℕ) → bytes? old ≡ true → length old ≡ tableSize
+    → k < 1024 → n < 1024 → from ≡ recordStart k → to ≡ recordStart n
+    → low ≡ numberAt 8 from old → high ≡ numberAt 8 (from + 8) old
+    → mid ≡ put to 8 (bytesOf 8 low) old → new ≡ put (to + 8) 8 (bytesOf 8 high) mid
+    → new ≡ put (recordStart n) entrySize (recordAt old k) old
+unfolding recordAt numberAt
+record-copied k n from to low high old mid new b size few less f t l h first second =
+    let small : low < 256 ^ 8 = rw l (numberAt-below 8 from old b (omega arith)) in
+    let both : low + 256 ^ 8 * high ≡ numberAt 16 from old = read-halves 8 from low high old (omega arith) l h in
+    let count : length (take 16 (drop from old)) ≡ 16 =
+    length-take-le 16 (drop from old) (simp length-drop (omega arith)) in
+    let same : bytesOf 16 (numberAt 16 from old) ≡ take 16 (drop from old) =
+    bytesOf-numberOf 16 (take 16 (drop from old)) (bytes?-take 16 (drop from old) (bytes?-drop from old b)) count in
+    put-halves 8 to low high (numberAt 16 from old) old mid new (omega arith) first second small (sym both)
+    ∙ ap (λ bs. put to 16 bs old) same
+    ∙ ap₂ (λ x y. put x 16 (take 16 (drop y old)) old) t f
 
 -- two cells of one input are of one flow exactly if the numbers of their flows are equal
 pub flow-word : (c d : Cell) → c .input ≡ d .input → c .output < 256 → d .output < 256

@@ -23,6 +23,7 @@ use Rattle.layout.specs.Records.{recordStart, recordAt, placeByteAt, between, e
 use Rattle.table.specs.Check.{isEntry, isUnused, inRange}
 use Rattle.layout.proofs.Number.{bytes?, bytes?-i, bytes?-take, bytes?-drop, bytesOf-at, bytesOf-last}
 use Rattle.layout.proofs.Number.{sameBytes-refl, sameBytes-exact, word-fits}
+use Rattle.layout.proofs.Table.{placeByte-range, entryBytes-place}
 use Rattle.layout.proofs.Records.{entryAt-input, entryAt-rank, entryAt-tag, recordAt-number, recordAt-byte}
 use Rattle.layout.proofs.Records.{all?-entriesBetween}
 use Rattle.table.proofs.Parts.{length-recordAt}
@@ -61,12 +62,6 @@ placeOf-crossed b = go (eqb b 1) refl (eqb b 2) refl
     go false e true f = refl
     go false e false f = refl
 
-place-e : (p : Rattle.model.specs.State.Place) → (1 ≤ placeByte p) × (placeByte p ≤ 3)
-unfolding placeByte
-place-e listed = (lit≤ tt, lit≤ tt)
-place-e crossed = (lit≤ tt, lit≤ tt)
-place-e buffered = (lit≤ tt, lit≤ tt)
-
 ------------------------------------------------------------------------
 -- the bytes of an entry
 
@@ -87,10 +82,6 @@ entryBytes-i input r h size place zero =
     (number-again 1 3 0 r _ h (omega arith) (sym zero)
     (number-again 4 4 _ r _ h (omega arith) refl
     (number-again 4 8 _ r _ h (omega arith) refl (bytesOf-last 4 12 r h size))))))
-
-entryBytes-place : (e : Entry) → numberAt 1 2 (entryBytes e) ≡ placeByte (e .place)
-unfolding entryBytes numberAt numberOf bytesOf
-entryBytes-place e = let b = place-e (e .place) in omega arith
 
 entryBytes-zero : (e : Entry) → _≡_ {A = ℕ} (numberAt 1 3 (entryBytes e)) 0
 unfolding entryBytes numberAt numberOf bytesOf
@@ -165,7 +156,7 @@ module _ (ports clock : ℕ) (bs : List ℕ) (h : bytes? bs ≡ true) (size : le
         let flow : ltb (e .cell .flow) flowLimit ≡ true = search (and-l, and-r) in
         let slot : ltb (e .cell .slot) clock ≡ true = search (and-l, and-r) depth 7 in
         let place = exact-place bs h size k within exact in
-        let bounds = place-e (e .place) in
+        let bounds = placeByte-range (e .place) in
         record {
           output = ltb-true _ _ output;
           flow = ltb-true _ _ flow;

@@ -57,7 +57,7 @@ fn is_section(bytes: &[u8], ports: u32, clock: u32, input: usize) -> bool
     requires { ⌜ (length (now bytes) ≡ tableSize) × (ports ≤ 16) × (input < 16) ⌝ }
     ensures { λ r. ⌜ r ≡ isSection ports clock (now (bytes .entry)) input ⌝ }
 {
-    let count = bytes[16 + input] as usize;
+    let count = entry::count_of(bytes, input);
     if room(ports, input) < count {
         return false;
     }

@@ -8,7 +8,7 @@ ghost use Prim.Native.Nat.{_+_, _*_, _<_, _≤_};
 ghost use lib.ListN.{length, take, drop};
 ghost use Rattle.layout.specs.Table.{tableSize, placeOf, entryBytes};
 ghost use Rattle.layout.specs.Entry.{entryAt, portsIn, countIn};
-ghost use Rattle.layout.specs.Records.{placeByteAt, recordStart};
+ghost use Rattle.layout.specs.Records.{placeByteAt, recordStart, recordAt};
 ghost use Rattle.table.specs.Entries.{entryWith, flowWord};
 
 // The number of ports.
@@ -121,4 +121,17 @@ pub fn write_entry(bytes: &mut [u8], k: usize, c: Cell, place: u8)
     crate::word::write_u32(bytes, at + 4, c.rank);
     crate::word::write_u32(bytes, at + 8, c.tag);
     crate::word::write_u32(bytes, at + 12, c.slot);
+}
+
+// Copies a record over another.
+pub fn copy_record(bytes: &mut [u8], from: usize, to: usize)
+    requires { ⌜ (length (now bytes) ≡ tableSize) × (from < 1024) × (to < 1024) ⌝ }
+    ensures { λ _. ⌜ now (bytes .exit) ≡ take (recordStart to) (now (bytes .entry)) ++ (recordAt (now (bytes .entry)) from ++ drop (recordStart to + 16) (now (bytes .entry))) ⌝ }
+{
+    let old = start_of(from);
+    let new = start_of(to);
+    let low = crate::word::read_u64(bytes, old);
+    let high = crate::word::read_u64(bytes, old + 8);
+    crate::word::write_u64(bytes, new, low);
+    crate::word::write_u64(bytes, new + 8, high);
 }

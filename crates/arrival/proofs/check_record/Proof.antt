@@ -4,7 +4,8 @@ use native.Mathlib.Omega.{arith}
 use borrow.Author.Needs.{needs}
 use Rattle.model.proofs.CheckOrder.{fault-port, fault-flow, fault-turn, fault-rank, fault-full}
 use Rattle.arrival.specs.Fault.{faultAt}
-use Rattle.arrival.proofs.Faults.{port-input, port-output, flow-below, fault-none}
+use Rattle.model.proofs.Admitted.{port-input, port-output}
+use Rattle.arrival.proofs.Faults.{flow-below, fault-none}
 use Rattle.arrival.proofs.Stored.{ports-below}
 use Rattle.arrival.proofs.check_record.Statement.{statement}
 use Rattle.arrival.proofs.check_record.Tie as tie

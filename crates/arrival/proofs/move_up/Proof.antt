@@ -24,8 +24,11 @@ loop-holds c = (omega arith, omega arith, refl, movedUp-none _ entrySize _)
 sub-k : tie.Need-sub-k Inv-loop μ-loop
 sub-k c = omega arith
 
-copy-up-requires : tie.Need-copy-up-requires Inv-loop μ-loop
-copy-up-requires c κs = (omega arith, omega arith)
+add-copy-record : tie.Need-add-copy-record Inv-loop μ-loop
+add-copy-record c = omega arith
+
+copy-record-requires : tie.Need-copy-record-requires Inv-loop μ-loop
+copy-record-requires c κs = (omega arith, omega arith, omega arith)
 
 loop-less : tie.Need-loop-less Inv-loop μ-loop
 loop-less c = omega arith
@@ -40,8 +43,8 @@ loop-again c =
     let next = ap (λ n. movedUp (recordStart n) (recordStart (start .args .end)) entrySize (start .args .table .now)) back in (
       omega arith,
       omega arith,
-      omega (arith, copy .copy-up .kept .0),
-      copy .copy-up .ensures
+      omega (arith, copy .copy-record .kept .0),
+      copy .copy-record .ensures
           ∙ movedUp-more (recordStart (at .loop .k - 1)) (recordStart (at .loop .k - 1 + 1)) (recordStart (start .args .end))
           entrySize (start .args .table .now) (at .loop .table) (omega arith) (omega arith) (omega arith)
           (at .loop .inv .3 ∙ next),
@@ -66,7 +69,8 @@ move-up-spec =
     μ-loop
     loop-holds
     sub-k
-    copy-up-requires
+    add-copy-record
+    copy-record-requires
     loop-less
     loop-again
     same-length

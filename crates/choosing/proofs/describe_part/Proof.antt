@@ -2,8 +2,7 @@
 use borrow.Author.Needs.{needs}
 use Prim.Native.Nat.{_-_, _≤_}
 use native.Mathlib.Omega.{arith}
-use mathlib.Core.Path.{_≡_, _∙_, ap}
-use Rattle.layout.specs.Entry.{entryAt}
+use mathlib.Core.Path.{_≡_}
 use Rattle.places.specs.Scan.{outputAt, rankAt, slotAt}
 use Rattle.choosing.specs.Walk.{Filled}
 use Rattle.choosing.proofs.Columns.{filled-none, filled-more, filled-to}
@@ -23,29 +22,29 @@ abbrev μ-loop : tie.MeasureT-loop
 loop-holds : tie.Need-loop-holds Inv-loop μ-loop
 loop-holds c = (omega arith, omega arith, filled-none _ _ _, filled-none _ _ _, filled-none _ _ _)
 
-mul-wide : tie.Need-mul-wide Inv-loop μ-loop
-mul-wide c = search needs
+mul-k : tie.Need-mul-k Inv-loop μ-loop
+mul-k c = search needs
 
-shared-slice-read-wide : tie.Need-shared-slice-read-wide Inv-loop μ-loop
-shared-slice-read-wide c = search needs
+shared-slice-read-k : tie.Need-shared-slice-read-k Inv-loop μ-loop
+shared-slice-read-k c = search needs
 
-wide-requires : tie.Need-wide-requires Inv-loop μ-loop
-wide-requires c κs = search needs
+cast-k : tie.Need-cast-k Inv-loop μ-loop
+cast-k c = omega (arith, c .shared-slice-known3 .given (c .before .before .loop .m))
 
 output-of-requires : tie.Need-output-of-requires Inv-loop μ-loop
 output-of-requires c κs =
-    let start = c .before .before .before .before .before .before .before .before .before in
-    let loop = c .before .before .before .loop in
-    (start .pre .0, omega (arith, c .wide .ensures, start .pre .1 .1 .0 (loop .m) (omega arith) (omega arith)))
+    let start = c .before .before .before .before .before .before .before .before in
+    let loop = c .before .before .loop in
+    (start .pre .0, omega (arith, start .pre .1 .1 .0 (loop .m) (omega arith) (omega arith)))
 
 slice-write-outputs : tie.Need-slice-write-outputs Inv-loop μ-loop
 slice-write-outputs c = search needs
 
 rank-of-requires : tie.Need-rank-of-requires Inv-loop μ-loop
 rank-of-requires c κs =
-    let start = c .before .before .before .before .before .before .before .before .before .before in
-    let loop = c .before .before .before .before .loop in
-    (start .pre .0, omega (arith, c .before .wide .ensures, start .pre .1 .1 .0 (loop .m) (omega arith) (omega arith)))
+    let start = c .before .before .before .before .before .before .before .before .before in
+    let loop = c .before .before .before .loop in
+    (start .pre .0, omega (arith, start .pre .1 .1 .0 (loop .m) (omega arith) (omega arith)))
 
 mul-ranks : tie.Need-mul-ranks Inv-loop μ-loop
 mul-ranks c = search needs
@@ -55,9 +54,9 @@ slice-write-ranks c = search needs
 
 slot-of-requires : tie.Need-slot-of-requires Inv-loop μ-loop
 slot-of-requires c κs =
-    let start = c .before .before .before .before .before .before .before .before .before .before .before in
-    let loop = c .before .before .before .before .before .loop in
-    (start .pre .0, omega (arith, c .before .before .wide .ensures, start .pre .1 .1 .0 (loop .m) (omega arith) (omega arith)))
+    let start = c .before .before .before .before .before .before .before .before .before .before in
+    let loop = c .before .before .before .before .loop in
+    (start .pre .0, omega (arith, start .pre .1 .1 .0 (loop .m) (omega arith) (omega arith)))
 
 mul-slots : tie.Need-mul-slots Inv-loop μ-loop
 mul-slots c = search needs
@@ -74,18 +73,12 @@ loop-less c = search needs
 loop-again : tie.Need-loop-again Inv-loop μ-loop
 unfolding outputAt rankAt slotAt
 loop-again c =
-    let loop = c .before .before .before .before .before .before .loop in
-    let start = c .before .before .before .before .before .before .before .before .before .before .before .before in
-    let table = start .args .table .now in
-    let k = c .before .before .before .wide .ensures in (
+    let loop = c .before .before .before .before .before .loop in (
       omega arith,
       omega arith,
-      filled-more _ _ _ _ _ _ (loop .inv .0) (omega arith)
-          (c .before .before .output-of .ensures ∙ ap (λ k. entryAt table k .cell .output) k) (loop .inv .2),
-      filled-more _ _ _ _ _ _ (loop .inv .0) (omega arith)
-          (c .before .rank-of .ensures ∙ ap (λ k. entryAt table k .cell .rank) k) (loop .inv .3),
-      filled-more _ _ _ _ _ _ (loop .inv .0) (omega arith)
-          (c .slot-of .ensures ∙ ap (λ k. entryAt table k .cell .slot) k) (loop .inv .4),
+      filled-more _ _ _ _ _ _ (loop .inv .0) (omega arith) (c .before .before .output-of .ensures) (loop .inv .2),
+      filled-more _ _ _ _ _ _ (loop .inv .0) (omega arith) (c .before .rank-of .ensures) (loop .inv .3),
+      filled-more _ _ _ _ _ _ (loop .inv .0) (omega arith) (c .slot-of .ensures) (loop .inv .4),
     )
 
 same-length : tie.Need-same-length Inv-loop μ-loop
@@ -111,9 +104,9 @@ describe-part-spec =
     Inv-loop
     μ-loop
     loop-holds
-    mul-wide
-    shared-slice-read-wide
-    wide-requires
+    mul-k
+    shared-slice-read-k
+    cast-k
     output-of-requires
     slice-write-outputs
     rank-of-requires

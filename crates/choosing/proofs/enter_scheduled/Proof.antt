@@ -2,8 +2,7 @@
 use borrow.Author.Needs.{needs}
 use Prim.Native.Nat.{_-_, _≤_, _<_}
 use native.Mathlib.Omega.{arith}
-use mathlib.Core.Path.{_≡_, sym, _∙_, ap}
-use mathlib.Core.List.{[], _∷_}
+use mathlib.Core.Path.{_≡_, sym, _∙_}
 use borrow.Author.Tests.{not-true, not-false}
 use Rattle.choosing.proofs.Columns.{written-none}
 use Rattle.choosing.proofs.Choice.{EnteredTo, entered-same, entered-one, entered-to, enter-first, enter-urgent}
@@ -33,39 +32,37 @@ loop-holds c =
 add-input : tie.Need-add-input Inv-loop μ-loop
 add-input c = search needs
 
-mul-wide : tie.Need-mul-wide Inv-loop μ-loop
-mul-wide c = search needs
+mul-number : tie.Need-mul-number Inv-loop μ-loop
+mul-number c = search needs
 
-element-copy-out-wide : tie.Need-element-copy-out-wide Inv-loop μ-loop
-element-copy-out-wide c = search needs
-
-wide-requires : tie.Need-wide-requires Inv-loop μ-loop
-wide-requires c κs = search needs
+element-copy-out-number : tie.Need-element-copy-out-number Inv-loop μ-loop
+element-copy-out-number c = search needs
 
 loop-less : tie.Need-loop-less Inv-loop μ-loop
 loop-less c = search needs
 
 loop-again : tie.Need-loop-again Inv-loop μ-loop
 loop-again c =
-    let loop = c .before .before .before .before .loop in
-    let start = c .before .before .before .before .before .before .before .before in
-    let small : loop .input < 16 = omega arith in
-    let number = c .before .wide .ensures in
-    let scheduled = number ∙ start .pre .1 .1 .1 .0 .at (loop .input) small in
+    let at = c .before .before .before in
+    let start = at .before .before .before .before in
+    let small : at .loop .input < 16 = omega arith in
+    let scheduled = start .pre .1 .1 .1 .0 .at (at .loop .input) small in
     let beyond = c .if1 .taken in
     let same = enter-urgent _ _ (start .pre .0) (start .pre .1 .1 .0) _ _ scheduled (λ l. absurd (omega arith)) in
-    (omega arith, entered-same _ _ (start .pre .0) _ small same (loop .inv .1))
+    (omega arith, entered-same _ _ (start .pre .0) _ small same (at .loop .inv .1))
 
 mul-stands-first : tie.Need-mul-stands-first Inv-loop μ-loop
 mul-stands-first c = search needs
 
+cast-stands-first : tie.Need-cast-stands-first Inv-loop μ-loop
+cast-stands-first c = search needs
+
 stands-first-requires : tie.Need-stands-first-requires Inv-loop μ-loop
 stands-first-requires c κs =
-    let loop = c .before .before .before .before .loop in
-    let start = c .before .before .before .before .before .before .before .before in
-    let small : loop .input < 16 = omega arith in
-    let number = c .before .wide .ensures in
-    let scheduled = number ∙ start .pre .1 .1 .1 .0 .at (loop .input) small in
+    let at = c .before .before .before in
+    let start = at .before .before .before .before in
+    let small : at .loop .input < 16 = omega arith in
+    let scheduled = start .pre .1 .1 .1 .0 .at (at .loop .input) small in
     let inside = scheduled-inside _ _ (start .pre .0) _ _ scheduled (c .if1 .left) in
     (inside .0, omega (arith, start .pre .1 .0))
 
@@ -74,30 +71,22 @@ loop-less-2 c = search needs
 
 loop-again-2 : tie.Need-loop-again-2 Inv-loop μ-loop
 loop-again-2 c =
-    let loop = c .before .before .before .before .before .before .loop in
-    let start = c .before .before .before .before .before .before .before .before .before .before in
-    let small : loop .input < 16 = omega arith in
-    let number = c .before .before .before .wide .ensures in
-    let scheduled = number ∙ start .pre .1 .1 .1 .0 .at (loop .input) small in
+    let at = c .before .before .before .before .before in
+    let start = at .before .before .before .before in
+    let small : at .loop .input < 16 = omega arith in
+    let scheduled = start .pre .1 .1 .1 .0 .at (at .loop .input) small in
     let behind = sym (c .before .stands-first .ensures) ∙ not-true _ (c .if2 .taken) in
     let same = enter-urgent _ _ (start .pre .0) (start .pre .1 .1 .0) _ _ scheduled (λ l. behind) in
-    (omega arith, entered-same _ _ (start .pre .0) _ small same (loop .inv .1))
+    (omega arith, entered-same _ _ (start .pre .0) _ small same (at .loop .inv .1))
 
 mul-numbers : tie.Need-mul-numbers Inv-loop μ-loop
 mul-numbers c = search needs
 
-element-copy-out-numbers : tie.Need-element-copy-out-numbers Inv-loop μ-loop
-element-copy-out-numbers c = search needs
-
 mul-numbers-2 : tie.Need-mul-numbers-2 Inv-loop μ-loop
 mul-numbers-2 c = search needs
 
-mul-numbers-3 : tie.Need-mul-numbers-3 Inv-loop μ-loop
-mul-numbers-3 c = search needs
-
 slice-write-numbers : tie.Need-slice-write-numbers Inv-loop μ-loop
-slice-write-numbers c =
-    omega (arith, c .before .before .before .before .before .before .before .loop .inv .1 .long)
+slice-write-numbers c = omega (arith, c .before .before .before .before .before .loop .inv .1 .long)
 
 element-write-counts : tie.Need-element-write-counts Inv-loop μ-loop
 element-write-counts c = search needs
@@ -107,14 +96,13 @@ loop-less-3 c = search needs
 
 loop-again-3 : tie.Need-loop-again-3 Inv-loop μ-loop
 loop-again-3 c =
-    let loop = c .before .before .before .before .before .before .before .loop in
-    let start = c .before .before .before .before .before .before .before .before .before .before .before in
-    let small : loop .input < 16 = omega arith in
-    let number = c .before .before .before .before .wide .ensures in
-    let scheduled = number ∙ start .pre .1 .1 .1 .0 .at (loop .input) small in
-    let first = sym (c .before .before .stands-first .ensures) ∙ not-false _ (c .before .if2 .left) in
-    let one = enter-first _ _ (start .pre .0) (start .pre .1 .1 .0) _ _ scheduled (c .before .before .before .if1 .left) first in
-    (omega arith, entered-one _ _ (start .pre .0) _ _ small (one ∙ ap (λ k. k ∷ []) number) (loop .inv .1))
+    let at = c .before .before .before .before .before in
+    let start = at .before .before .before .before in
+    let small : at .loop .input < 16 = omega arith in
+    let scheduled = start .pre .1 .1 .1 .0 .at (at .loop .input) small in
+    let first = sym (c .before .stands-first .ensures) ∙ not-false _ (c .if2 .left) in
+    let one = enter-first _ _ (start .pre .0) (start .pre .1 .1 .0) _ _ scheduled (c .before .before .if1 .left) first in
+    (omega arith, entered-one _ _ (start .pre .0) _ _ small one (at .loop .inv .1))
 
 same-length : tie.Need-same-length Inv-loop μ-loop
 same-length c =
@@ -136,19 +124,17 @@ enter-scheduled-spec =
     μ-loop
     loop-holds
     add-input
-    mul-wide
-    element-copy-out-wide
-    wide-requires
+    mul-number
+    element-copy-out-number
     loop-less
     loop-again
     mul-stands-first
+    cast-stands-first
     stands-first-requires
     loop-less-2
     loop-again-2
     mul-numbers
-    element-copy-out-numbers
     mul-numbers-2
-    mul-numbers-3
     slice-write-numbers
     element-write-counts
     loop-less-3

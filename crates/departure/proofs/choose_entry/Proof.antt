@@ -12,7 +12,7 @@ use Rattle.departure.proofs.choose_entry.Statement.{statement}
 use Rattle.departure.proofs.choose_entry.Tie as tie
 
 small : (t : tie.Start) → t .args .k < 1024
-small t = Window.inTable-below (t .args .table .now) (t .args .places .now) (ready-readable (t .pre .0)) (t .args .k) (t .pre .1 .0)
+small t = Window.inTable-below (ready-readable (t .pre .0)) (t .pre .1 .0)
 
 port : (t : tie.After-output-of) → t .output-of .result < 16
 port t =

@@ -1,10 +1,9 @@
--- The free record is the record itself, or two numbers of 64 bits are copied.
+-- The free record is the record itself, or the record is copied to it.
 use mathlib.Core.Path.{_∙_, ap}
 use borrow.Author.Needs.{needs}
 use Rattle.layout.specs.Records.{recordStart, recordAt}
-use Rattle.layout.proofs.Number.{bytes?-i}
 use Rattle.table.proofs.Put.{put}
-use Rattle.departure.proofs.Copied.{copied-self, copied-words}
+use Rattle.departure.proofs.Copied.{copied-self}
 use Rattle.departure.proofs.copy_down.Statement.{statement}
 use Rattle.departure.proofs.copy_down.Tie as tie
 
@@ -14,61 +13,14 @@ returns c =
     copied-self (a .k) (a .table .now)
     ∙ ap (λ n. put (recordStart n) 16 (recordAt (a .table .now) (a .k)) (a .table .now)) (c .if1 .taken)
 
-start-of-requires : tie.Need-start-of-requires
-start-of-requires c κs = search needs
-
-start-of-requires-2 : tie.Need-start-of-requires-2
-start-of-requires-2 c κs = search needs
-
-read-u64-requires : tie.Need-read-u64-requires
-read-u64-requires c κs = search needs
-
-add-read-u64 : tie.Need-add-read-u64
-add-read-u64 c = search needs
-
-read-u64-requires-2 : tie.Need-read-u64-requires-2
-read-u64-requires-2 c κs = search needs
-
-write-u64-requires : tie.Need-write-u64-requires
-write-u64-requires c κs = search needs
-
-add-write-u64 : tie.Need-add-write-u64
-add-write-u64 c = search needs
-
-write-u64-requires-2 : tie.Need-write-u64-requires-2
-write-u64-requires-2 c κs = search needs
+copy-record-requires : tie.Need-copy-record-requires
+copy-record-requires c κs = search needs
 
 same-length : tie.Need-same-length
 same-length c = search needs
 
 returns-2 : tie.Need-returns-2
-returns-2 c =
-    let second = c .before .before in
-    let first = second .before .before .before .before in
-    let high = first .before .before in
-    let low = high .before .before in
-    let to = low .before .before in
-    let from = to .before in
-    let known = from .before .before in
-    let start = known .before in
-    copied-words (start .args .k) (start .args .free) (from .start-of .result) (to .start-of2 .result)
-    (low .read-u64 .result) (high .read-u642 .result) (start .args .table .now) (first .write-u64 .last .0)
-    (second .write-u642 .last .0) (bytes?-i _ (λ i. known .slice-known .given i .fits)) (start .pre .0) (start .pre .1)
-    (start .pre .2) (from .start-of .ensures) (to .start-of2 .ensures) (low .read-u64 .ensures)
-    (high .read-u642 .ensures) (first .write-u64 .ensures) (second .write-u642 .ensures)
+returns-2 c = c .before .before .copy-record .ensures
 
 pub copy-down-spec : {M : Type 1} → statement M
-copy-down-spec =
-    tie.close
-    (tie.spec
-    returns
-    start-of-requires
-    start-of-requires-2
-    read-u64-requires
-    add-read-u64
-    read-u64-requires-2
-    write-u64-requires
-    add-write-u64
-    write-u64-requires-2
-    same-length
-    returns-2)
+copy-down-spec = tie.close (tie.spec returns copy-record-requires same-length returns-2)

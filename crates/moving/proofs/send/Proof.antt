@@ -1,7 +1,7 @@
 -- The place and the crosspoint are written; for no cell nothing is.
 use Prim.Native.Nat.{_/_, _≤_}
 use native.Mathlib.Omega.{arith}
-use mathlib.Core.Path.{_≡_, refl, sym, _∙_, ap}
+use mathlib.Core.Path.{refl, sym, ap}
 use Rattle.layout.specs.Entry.{entryAt}
 use lib.Seq.{set-out}
 use Rattle.moving.specs.Moves.{put}
@@ -23,8 +23,8 @@ returns c =
 output-of-requires : tie.Need-output-of-requires
 output-of-requires c κs = search needs
 
-wide-requires : tie.Need-wide-requires
-wide-requires c κs = search needs
+cast-output : tie.Need-cast-output
+cast-output c = search needs
 
 slice-write-places : tie.Need-slice-write-places
 slice-write-places c = search needs
@@ -38,15 +38,10 @@ mul-cross-2 c = search needs
 index-1-cross : tie.Need-index-1-cross
 index-1-cross c = search needs
 
--- the output that was read
-output : (c : tie.After-wide)
-    → c .wide .result
-    ≡ entryAt (c .before .before .before .before .before .args .table .now) (c .before .before .before .before .before .args .number)
-    .cell .output
-output c = c .wide .ensures ∙ c .before .output-of .ensures
-
 index-2-cross : tie.Need-index-2-cross
-index-2-cross c = let s = c .before .before .before .before .before in rw (output c) (s .pre .1 (c .before .before .if1 .left))
+index-2-cross c =
+    let start = c .before .before .before .before in
+    rw (c .output-of .ensures) (start .pre .1 (c .before .if1 .left))
 
 same-length : tie.Need-same-length
 same-length c = search needs
@@ -54,8 +49,8 @@ same-length c = search needs
 returns-2 : tie.Need-returns-2
 unfolding put
 returns-2 c =
-    let a = c .before .before .before .before .before .args in
-    (refl, ap (λ o. put (a .cross .now) (a .number / 64) o (a .number)) (output c))
+    let a = c .before .before .before .before .args in
+    (refl, ap (λ o. put (a .cross .now) (a .number / 64) o (a .number)) (c .output-of .ensures))
 
 pub send-spec : {M : Type 1} → statement M
 send-spec =
@@ -63,7 +58,7 @@ send-spec =
     (tie.spec
     returns
     output-of-requires
-    wide-requires
+    cast-output
     slice-write-places
     mul-cross
     mul-cross-2

@@ -4,15 +4,15 @@ use native.Mathlib.Omega.{arith}
 use mathlib.Core.Bool.{true, false}
 use mathlib.Core.Path.{_≡_, sym, _∙_, ap}
 use borrow.Author.Needs.{needs}
-use mathlib.Core.List.{[]}
-use Rattle.laws.proofs.Tests.{by-fail}
+use borrow.Author.Tests.{eq-eqb, ne-eqb}
 use Rattle.model.specs.State.{isCrossed}
 use Rattle.layout.specs.Entry.{entryAt}
 use Rattle.layout.specs.Table.{stateOf}
+use Rattle.table.proofs.Fields.{placeOf-crossed}
 use Rattle.places.specs.Scan.{Readable}
 use Rattle.places.proofs.Placed.{decode-readable}
 use Rattle.places.proofs.Window
-use Rattle.places.proofs.Rows.{crossed-byte, byte-crossed, copied-put, row-keep, row-put}
+use Rattle.places.proofs.Rows.{copied-put, row-keep, row-put}
 use Rattle.places.proofs.load_entry.Statement.{statement}
 use Rattle.places.proofs.load_entry.Tie as tie
 
@@ -20,7 +20,7 @@ readable : (t : tie.Start) → Readable (t .args .table .now)
 readable t = decode-readable (t .args .table .now) (stateOf (t .args .table .now)) (t .pre .0)
 
 small : (t : tie.Start) → t .args .k < 1024
-small t = Window.inTable-below (t .args .table .now) [] (readable t) (t .args .k) (t .pre .1 .0)
+small t = Window.inTable-below (readable t) (t .pre .1 .0)
 
 place-of-requires : tie.Need-place-of-requires
 place-of-requires c κs = (readable (c .before .before) .size, small (c .before .before))
@@ -60,7 +60,7 @@ returns c =
     let table = start .args .table .now in
     let e = (start .pre .0) in
     let crossed : isCrossed (entryAt table (start .args .k) .place) ≡ true =
-    ap isCrossed (sym (place .ensures .1)) ∙ crossed-byte (place .result) (c .before .if1 .taken) in (
+    ap isCrossed (sym (place .ensures .1)) ∙ placeOf-crossed (place .result) ∙ eq-eqb (place .result) 2 (c .before .if1 .taken) in (
       copied-put table (stateOf table) e (start .args .k) (start .args .places .now) (place .result)
           (start .pre .1 .0) (place .ensures .0) (start .pre .1 .1 .0),
       row-put table (stateOf table) e (start .args .k) (c .output-of .result) (start .args .row .now) (start .pre .1 .0)
@@ -77,7 +77,7 @@ returns-2 c =
     let table = start .args .table .now in
     let e = (start .pre .0) in
     let other : isCrossed (entryAt table (start .args .k) .place) ≡ false =
-    by-fail _ (λ h. c .if1 .left (byte-crossed (place .result) (ap isCrossed (place .ensures .1) ∙ h))) in (
+    ap isCrossed (sym (place .ensures .1)) ∙ placeOf-crossed (place .result) ∙ ne-eqb (place .result) 2 (c .if1 .left) in (
       copied-put table (stateOf table) e (start .args .k) (start .args .places .now) (place .result)
           (start .pre .1 .0) (place .ensures .0) (start .pre .1 .1 .0),
       row-keep table (stateOf table) e (start .args .k / 64) (start .args .k) (start .args .row .now) other (start .pre .1 .1 .1),

@@ -4,7 +4,7 @@ use mathlib.Core.Path.{_≡_, refl, sym, _∙_, ap, ap₂}
 use native.Mathlib.Omega.{arith}
 use lib.ListN.{length, getD, set, length-set}
 use Rattle.player.specs.Window.{moved}
-use Rattle.player.proofs.Window.{length-moved, moved-at, moved-next, moved-none}
+use Rattle.player.proofs.Window.{moved-at, moved-next, moved-none}
 use Rattle.player.proofs.close_up.Statement.{statement}
 use Rattle.player.proofs.close_up.Tie as tie
 

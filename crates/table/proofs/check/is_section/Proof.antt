@@ -4,62 +4,53 @@ use mathlib.Core.Bool.{true, false}
 use mathlib.Core.Path.{_≡_, sym, _∙_}
 use native.Mathlib.Omega.{arith}
 use borrow.Author.Needs.{needs}
-use lib.ListN.{getD}
 use Rattle.laws.specs.Lists.{all?}
 use Rattle.laws.proofs.Tests.{clash, by-fail, same, not-e, not-false-e}
-use Rattle.layout.specs.Entry.{countIn}
-use Rattle.layout.specs.Records.{entriesBetween, sectionAt}
+use Rattle.layout.specs.Records.{entriesBetween}
 use Rattle.table.specs.Check.{inRange, isSection}
 use Rattle.table.proofs.Fields.{entries-inRange}
 use Rattle.table.proofs.Parts.{Asked, roomOf-le, isSection-asked, asked-isSection}
 use Rattle.table.proofs.check.is_section.Statement.{statement}
 use Rattle.table.proofs.check.is_section.Tie as tie
 
-fails : (c : tie.Start)
-    → let a = c .args in
-    (Asked (a .ports) (a .clock) (a .bytes .now) (a .input) → ⊥)
+fails : (c : tie.After-count-of)
+    → let a = c .before .before .args in
+    (Asked (a .ports) (a .clock) (a .bytes .now) (a .input) (c .count-of .result) → ⊥)
     → false ≡ isSection (a .ports) (a .clock) (a .bytes .now) (a .input)
 fails c broken =
-    let a = c .args in
-    sym (by-fail _ (λ t. broken (isSection-asked (a .ports) (a .clock) (a .bytes .now) (a .input) t)))
+    let a = c .before .before .args in
+    sym
+    (by-fail _ (λ t.
+    broken (isSection-asked (a .ports) (a .clock) (a .bytes .now) (a .input) (c .count-of .ensures) t)))
 
 -- it has at most 64 entries
-few : (c : tie.Else1)
-    → let a = c .before .before .before .before .args in
-    getD (a .bytes .now) (16 + a .input) 0 ≤ 64
+few : (c : tie.Else1) → c .before .before .count-of .result ≤ 64
 few c =
-    let a = c .before .before .before .before .args in
-    roomOf-le (a .ports) (a .input) (getD (a .bytes .now) (16 + a .input) 0)
-    (omega (arith, c .if1 .left, c .before .room .ensures))
+    let count = c .before .before in
+    let a = count .before .before .args in
+    roomOf-le (a .ports) (a .input) (count .count-of .result) (omega (arith, c .if1 .left, c .before .room .ensures))
 
 -- and they are in range
 ranges : (c : tie.Else2)
-    → let a = c .before .before .before .before .before .before .args in
-    let first = 64 * a .input in
-    all? inRange (entriesBetween (a .bytes .now) first (first + getD (a .bytes .now) (16 + a .input) 0)) ≡ true
+    → let count = c .before .before .before .before in
+    let a = count .before .before .args in
+    all? inRange (entriesBetween (a .bytes .now) (64 * a .input) (64 * a .input + count .count-of .result)) ≡ true
 ranges c =
-    let start = c .before .before .before .before .before .before in
+    let count = c .before .before .before .before in
+    let start = count .before .before in
     let a = start .args in
-    let first = 64 * a .input in
     let asked = c .before .are-entries in
-    entries-inRange (a .ports) (a .clock) (a .bytes .now) first (first + getD (a .bytes .now) (16 + a .input) 0)
+    entries-inRange (a .ports) (a .clock) (a .bytes .now) (64 * a .input) (64 * a .input + count .count-of .result)
     (start .pre .1) (sym (asked .ensures) ∙ not-false-e (asked .result) (c .if2 .left))
 
-add-count : tie.Need-add-count
-add-count c = search needs
-
-shared-slice-read-count : tie.Need-shared-slice-read-count
-shared-slice-read-count c = search needs
-
-cast-count : tie.Need-cast-count
-cast-count c = omega (arith, c .shared-slice-known2 .given (16 + c .before .before .args .input))
+count-of-requires : tie.Need-count-of-requires
+count-of-requires c κs = search needs
 
 room-requires : tie.Need-room-requires
 room-requires c κs = search needs
 
 returns : tie.Need-returns
-unfolding sectionAt countIn
-returns c = fails (c .before .before .before .before) (λ q. omega (arith, q .count, c .before .room .ensures))
+returns c = fails (c .before .before) (λ q. omega (arith, q .count, c .before .room .ensures))
 
 mul-first : tie.Need-mul-first
 mul-first c = search needs
@@ -71,10 +62,9 @@ are-entries-requires : tie.Need-are-entries-requires
 are-entries-requires c κs = (c .before .before .before .before .pre .0, omega (arith, few c))
 
 returns-2 : tie.Need-returns-2
-unfolding sectionAt countIn
 returns-2 c =
     let asked = c .before .are-entries in
-    fails (c .before .before .before .before .before .before)
+    fails (c .before .before .before .before)
     (λ q. clash (q .entries) (sym (asked .ensures) ∙ not-e (asked .result) (c .if2 .taken)))
 
 add-are-unused : tie.Need-add-are-unused
@@ -86,10 +76,9 @@ are-unused-requires c κs =
     (else1 .before .before .before .before .pre .0, omega (arith, few else1))
 
 returns-3 : tie.Need-returns-3
-unfolding sectionAt countIn
 returns-3 c =
     let asked = c .before .are-unused in
-    fails (c .before .before .before .before .before .before .before .before)
+    fails (c .before .before .before .before .before .before)
     (λ q. clash (q .unused) (sym (asked .ensures) ∙ not-e (asked .result) (c .if3 .taken)))
 
 flows-together-requires : tie.Need-flows-together-requires
@@ -101,10 +90,9 @@ flows-together-requires c κs =
     ((start .pre .0, omega arith, omega arith), ((omega arith, omega arith), ranges else2))
 
 returns-4 : tie.Need-returns-4
-unfolding sectionAt countIn
 returns-4 c =
     let asked = c .before .flows-together in
-    fails (c .before .before .before .before .before .before .before .before .before .before)
+    fails (c .before .before .before .before .before .before .before .before)
     (λ q. clash (q .lists) (sym (asked .ensures) ∙ not-e (asked .result) (c .if4 .taken)))
 
 slots-differ-requires : tie.Need-slots-differ-requires
@@ -114,10 +102,9 @@ slots-differ-requires c κs =
     (else1 .before .before .before .before .pre .0, omega arith, omega arith)
 
 returns-5 : tie.Need-returns-5
-unfolding sectionAt countIn
 returns-5 c =
     let asked = c .before .slots-differ in
-    fails (c .before .before .before .before .before .before .before .before .before .before .before .before)
+    fails (c .before .before .before .before .before .before .before .before .before .before)
     (λ q. clash (q .slots) (sym (asked .ensures) ∙ not-e (asked .result) (c .if5 .taken)))
 
 crosspoints-differ-requires : tie.Need-crosspoints-differ-requires
@@ -129,7 +116,6 @@ crosspoints-differ-requires c κs =
     ((start .pre .0, omega arith, omega arith), ranges else2)
 
 returns-6 : tie.Need-returns-6
-unfolding sectionAt countIn
 returns-6 c =
     let else5 = c .before in
     let slots = else5 .before in
@@ -140,13 +126,13 @@ returns-6 c =
     let else2 = unused .before in
     let entries = else2 .before in
     let else1 = entries .before in
-    let start = else1 .before .before .before .before in
-    let a = start .args in
+    let count = else1 .before .before .count-of in
+    let a = else1 .before .before .before .before .args in
     let bs = a .bytes .now in
     let last = c .crosspoints-differ in
     same (last .result) (isSection (a .ports) (a .clock) bs (a .input))
     (λ t.
-    asked-isSection (a .ports) (a .clock) bs (a .input)
+    asked-isSection (a .ports) (a .clock) bs (a .input) (count .ensures)
     (record {
       count = omega (arith, else1 .before .room .ensures, else1 .if1 .left);
       entries = sym (entries .are-entries .ensures) ∙ not-false-e (entries .are-entries .result) (else2 .if2 .left);
@@ -155,15 +141,13 @@ returns-6 c =
       slots = sym (slots .slots-differ .ensures) ∙ not-false-e (slots .slots-differ .result) (else5 .if5 .left);
       crosspoints = sym (last .ensures) ∙ t;
     }))
-    (λ t. last .ensures ∙ isSection-asked (a .ports) (a .clock) bs (a .input) t .crosspoints)
+    (λ t. last .ensures ∙ isSection-asked (a .ports) (a .clock) bs (a .input) (count .ensures) t .crosspoints)
 
 pub is-section-spec : {M : Type 1} → statement M
 is-section-spec =
     tie.close
     (tie.spec
-    add-count
-    shared-slice-read-count
-    cast-count
+    count-of-requires
     room-requires
     returns
     mul-first

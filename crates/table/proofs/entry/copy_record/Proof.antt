@@ -1,15 +1,12 @@
 -- Two numbers of 64 bits are a record.
 use borrow.Author.Needs.{needs}
 use Rattle.layout.proofs.Number.{bytes?-i}
-use Rattle.arrival.proofs.Arriving.{copied-up}
-use Rattle.arrival.proofs.copy_up.Statement.{statement}
-use Rattle.arrival.proofs.copy_up.Tie as tie
+use Rattle.table.proofs.Entries.{record-copied}
+use Rattle.table.proofs.entry.copy_record.Statement.{statement}
+use Rattle.table.proofs.entry.copy_record.Tie as tie
 
 start-of-requires : tie.Need-start-of-requires
 start-of-requires c κs = search needs
-
-add-start-of : tie.Need-add-start-of
-add-start-of c = search needs
 
 start-of-requires-2 : tie.Need-start-of-requires-2
 start-of-requires-2 c κs = search needs
@@ -43,19 +40,19 @@ returns c =
     let low = high .before .before in
     let to = low .before .before in
     let from = to .before in
-    let start = from .before .before in
-    copied-up (start .args .k) (from .start-of .result) (to .start-of2 .result) (low .read-u64 .result)
-    (high .read-u642 .result) (start .args .table .now) (first .write-u64 .last .0) (second .write-u642 .last .0)
-    (bytes?-i _ (λ i. from .before .slice-known .given i .fits)) (start .pre .0) (start .pre .1) (from .start-of .ensures)
-    (to .start-of2 .ensures) (low .read-u64 .ensures) (high .read-u642 .ensures) (first .write-u64 .ensures)
-    (second .write-u642 .ensures)
+    let known = from .before in
+    let start = known .before in
+    record-copied (start .args .from) (start .args .to) (from .start-of .result) (to .start-of2 .result)
+    (low .read-u64 .result) (high .read-u642 .result) (start .args .bytes .now) (first .write-u64 .last .0)
+    (second .write-u642 .last .0) (bytes?-i _ (λ i. known .slice-known .given i .fits)) (start .pre .0) (start .pre .1)
+    (start .pre .2) (from .start-of .ensures) (to .start-of2 .ensures) (low .read-u64 .ensures)
+    (high .read-u642 .ensures) (first .write-u64 .ensures) (second .write-u642 .ensures)
 
-pub copy-up-spec : {M : Type 1} → statement M
-copy-up-spec =
+pub copy-record-spec : {M : Type 1} → statement M
+copy-record-spec =
     tie.close
     (tie.spec
     start-of-requires
-    add-start-of
     start-of-requires-2
     read-u64-requires
     add-read-u64
