@@ -1,7 +1,8 @@
 -- The best cell at the crosspoints of an output, crosspoint by crosspoint.
---     BestUpTo   the choice among the first inputs' crosspoints; best-zero, best-more
---     best-of    over all inputs it is the definition's choice
-use Prim.Native.Nat.{ℕ, _+_, _/_, _<_, _≤_}
+--     BestUpTo           the choice among the first inputs' crosspoints; best-zero, best-more
+--     best-of, of-best   over all inputs it is the definition's choice, and the definition's choice is it
+use Prim.Native.Nat.{ℕ, zero, suc, _+_, _/_, _<_, _≤_}
+use native.Mathlib.Numerals.{add-one}
 use native.Mathlib.Omega.{arith}
 use mathlib.Core.Bool.{Bool, true, false}
 use mathlib.Core.Path.{_≡_, refl, sym, _∙_, ap, ap₂, subst}
@@ -217,6 +218,18 @@ module _ (table : List ℕ) (cross : List (List ℕ)) (output : ℕ) where
             go : (g .at ≡ r) ⊎ (over (w .0 .cell) (g .cell) ≡ true) → g .at ≡ r
             go (inl e) = e
             go (inr t) = absurd (clash (beats-i (w .0) g (w .4 ∙ sym q) t) (mem-least-first beats cells m (w .1)))
+
+    -- the choice that is found input by input
+    found : (n : ℕ) → n ≤ 16 → (r : ℕ) × BestUpTo n r
+    found zero l = (nowhere, best-zero)
+    found (suc n) l =
+        let w = found n (omega arith) in
+        (betterOf table (w .0) (crosspointAt cross n output), rw (← add-one n) (best-more n (w .0) (omega arith) (w .1)))
+
+    pub of-best : portsIn table ≤ 16 → BestUpTo (portsIn table) (bestOf cells output)
+    of-best ports =
+        let w = found (portsIn table) ports in
+        subst (BestUpTo (portsIn table)) (best-of (w .0) ports (w .1)) (w .1)
 
 ------------------------------------------------------------------------
 -- the definition's choice, by its cell

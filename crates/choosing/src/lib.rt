@@ -1,5 +1,5 @@
 // Document 01, "One slot", rules 1 to 4: which cells a phase schedules, which are urgent, and which are matched. Rule 6
-// chooses by the same function as rule 3.
+// goes on from the best crosspoint cells that rule 3 finds.
 // Entry k of a table is a cell of input k / 64. The table and the places are only read.
 use places::NOWHERE;
 ghost use mathlib.Core.Bool.{true, false, not};
@@ -15,7 +15,7 @@ ghost use Rattle.layout.specs.Table.{tableSize};
 ghost use Rattle.layout.specs.Entry.{entryAt, portsIn, countIn};
 ghost use Rattle.places.specs.View.{inTable, waitingAt, Agrees};
 ghost use Rattle.places.specs.Choices.{bestOf, candidatesOf};
-ghost use Rattle.places.specs.Scan.{Readable, Holds, Scheduled, Written, Described, Chosen};
+ghost use Rattle.places.specs.Scan.{Readable, Holds, Bests, Scheduled, Written, Described, Chosen};
 ghost use Rattle.places.specs.Scan.{someUrgent, outputAt, rankAt, slotAt};
 ghost use Rattle.choosing.specs.Walk.{Walkable, Reached, Means, Scanned, Any, Filled, Sound};
 ghost use Rattle.choosing.specs.Walk.{flowIndex, urgentOf};
@@ -39,12 +39,14 @@ struct Found {
 
 // Rules 1 to 4: whether a cell is urgent; the scheduled cell of each input, 1,024 where there is none; and the numbers
 // of the cells that are matched, those of an input in list order, as many as its count, from 64 times the input on.
-// Nothing is matched where no cell is urgent.
+// Nothing is matched where no cell is urgent. The best crosspoint cell of each output, which rule 3 asks for, is left in
+// `best` for rule 6.
 pub fn choose(
     table: &[u8],
     places: &[u8],
     cross: &[[u16; 16]; 16],
     ports: usize,
+    best: &mut [u16; 16],
     scheduled: &mut [u16; 16],
     counts: &mut [u8; 16],
     numbers: &mut [u16],
@@ -57,16 +59,17 @@ pub fn choose(
     requires { ⌜ ports ≡ portsIn (now table) ⌝ }
     requires { ⌜ (length (now scheduled) ≡ 16) × (length (now counts) ≡ 16) × (length (now numbers) ≡ 1024) ⌝ }
     requires { ⌜ (length (now outputs) ≡ 1024) × (length (now ranks) ≡ 1024) × (length (now slots) ≡ 1024) ⌝ }
+    requires { ⌜ length (now best) ≡ 16 ⌝ }
     ensures { λ r. ⌜ Chosen (now (table .entry)) (now (places .entry)) (now (scheduled .exit)) (now (counts .exit)) (now (numbers .exit)) (now (outputs .exit)) (now (ranks .exit)) (now (slots .exit)) r ⌝ }
     ensures { λ r. ⌜ (length (now (scheduled .exit)) ≡ 16) × (length (now (counts .exit)) ≡ 16) ⌝ }
+    ensures { λ r. ⌜ Bests (now (table .entry)) (now (cross .entry)) (now (best .exit)) ⌝ }
 {
-    let mut best = [NOWHERE; 16];
-    best_of_each(table, cross, ports, &mut best);
+    best_of_each(table, cross, ports, best);
     scan_each(
         table,
         places,
         cross,
-        &best,
+        best,
         ports,
         scheduled,
         counts,
@@ -82,7 +85,7 @@ pub fn choose(
 
 // The number of the cell of highest output priority at the crosspoints of an output, 1,024 where there is none. The
 // crosspoints may hold any cells of the table.
-pub fn best_crossed(table: &[u8], cross: &[[u16; 16]; 16], ports: usize, output: usize) -> u16
+fn best_crossed(table: &[u8], cross: &[[u16; 16]; 16], ports: usize, output: usize) -> u16
     requires { ⌜ Readable (now table) ⌝ }
     requires { ⌜ (ports ≡ portsIn (now table)) × (output < 16) ⌝ }
     ensures { λ r. ⌜ ((cells : List Waiting) → Holds (now (table .entry)) (now (cross .entry)) cells → r ≡ bestOf cells output) ⌝ }
@@ -101,7 +104,7 @@ pub fn best_crossed(table: &[u8], cross: &[[u16; 16]; 16], ports: usize, output:
 fn best_of_each(table: &[u8], cross: &[[u16; 16]; 16], ports: usize, best: &mut [u16; 16])
     requires { ⌜ Readable (now table) ⌝ }
     requires { ⌜ (ports ≡ portsIn (now table)) × (length (now best) ≡ 16) ⌝ }
-    ensures { λ _. ⌜ ((cells : List Waiting) → Holds (now (table .entry)) (now (cross .entry)) cells → (output : ℕ) → output < 16 → getD (now (best .exit)) output 0 ≡ bestOf cells output) ⌝ }
+    ensures { λ _. ⌜ Bests (now (table .entry)) (now (cross .entry)) (now (best .exit)) ⌝ }
 {
     let mut output = 0;
     while output < 16 {

@@ -33,6 +33,7 @@ pub fn phase(
     ensures { λ r. ⌜ r ≡ phase (inTable (now (table .entry)) (now (places .entry))) .proposals ⌝ }
 {
     let ports = ports_of(table);
+    let mut best = [NOWHERE; 16];
     let mut scheduled = [NOWHERE; 16];
     let mut counts = [0u8; 16];
     let urgent = choose(
@@ -40,6 +41,7 @@ pub fn phase(
         places,
         cross,
         ports,
+        &mut best,
         &mut scheduled,
         &mut counts,
         numbers,
@@ -55,6 +57,7 @@ pub fn phase(
         places,
         cross,
         ports,
+        &mut best,
         &scheduled,
         numbers,
         &held,

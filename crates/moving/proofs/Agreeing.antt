@@ -335,6 +335,27 @@ module _ {table : List ℕ} (r : Readable table) where
     length-now : (v n : ℕ) → length (written f v n places) ≡ 1024
     length-now v n = length-written f v n places ∙ size
 
+    module _ {n : ℕ} (s : Sendable places cross f (suc n)) (small : f n < 1024) where
+      -- those sent before are of other inputs
+      sent-other : (j : ℕ) → j < n → f j / cellLimit ≢ f n / cellLimit
+      sent-other j p e = far (either (ltb (f j) 1024))
+        where
+          far : (ltb (f j) 1024 ≡ true) ⊎ (ltb (f j) 1024 ≡ false) → ⊥
+          far (inl b) =
+              let c = s j (omega arith) (ltb-true _ _ b) .1 in
+              let d = s n (omega arith) small .1 in
+              omega arith
+          far (inr b) =
+              let c : 1024 ≤ f j = ltb-false _ _ b in
+              let d = s n (omega arith) small .1 in
+              omega arith
+
+      -- so the crosspoint of the next is still empty
+      pub sent-empty : 1024 ≤ crosspointAt (sending table f n cross) (f n / cellLimit) (outputAt table (f n))
+      sent-empty =
+          let w = s n (omega arith) small in
+          rw (sending-row table f cross square n (f n / cellLimit) (outputAt table (f n)) sent-other, w .1) (w .3)
+
     pub agrees-sending : (n : ℕ) → n ≤ 16 → Sendable places cross f n
         → Agrees table (written f 2 n places) (sending table f n cross)
     unfolding written sending
@@ -348,31 +369,19 @@ module _ {table : List ℕ} (r : Readable table) where
         go (inl t) rec =
             agrees-send (written f 2 n places) (sending table f n cross) (length-now 2 n)
             (square-sending table f cross square n) rec
-            (w .0) (crossed-miss f 2 n places (f n) miss ∙ w .2)
-            (rw (sending-row table f cross square n (f n / cellLimit) (outputAt table (f n)) other, w .1) (w .3))
+            (w .0) (crossed-miss f 2 n places (f n) miss ∙ w .2) (sent-empty s small)
           where
+            small : f n < 1024
+            small = ltb-true _ _ t
+
             w : InTable table (f n)
                 × (f n / cellLimit ≡ n)
                 × (crossedAt places (f n) ≡ false)
                 × (1024 ≤ crosspointAt cross n (outputAt table (f n)))
-            w = s n (omega arith) (ltb-true _ _ t)
-
-            -- those sent before are of other inputs
-            other : (j : ℕ) → j < n → f j / cellLimit ≢ f n / cellLimit
-            other j p e = far (either (ltb (f j) 1024))
-              where
-                far : (ltb (f j) 1024 ≡ true) ⊎ (ltb (f j) 1024 ≡ false) → ⊥
-                far (inl b) =
-                    let c = s j (omega arith) (ltb-true _ _ b) .1 in
-                    let d = w .1 in
-                    omega arith
-                far (inr b) =
-                    let c : 1024 ≤ f j = ltb-false _ _ b in
-                    let d = w .1 in
-                    omega arith
+            w = s n (omega arith) small
 
             miss : hit f n (f n) ≡ false
-            miss = hit-miss f n (f n) (λ j p e. other j p (ap (λ x. x / cellLimit) e))
+            miss = hit-miss f n (f n) (λ j p e. sent-other s small j p (ap (λ x. x / cellLimit) e))
         go (inr t) rec =
             let past : 1024 ≤ f n = ltb-false _ _ t in
             let end : length (written f 2 n places) ≤ f n = (let b = length-now 2 n in omega arith) in

@@ -1,7 +1,7 @@
 pub mod Agreeing
+pub mod Entering
 pub mod Known
 pub mod Moved
-pub mod Output
 pub mod Ports
 pub mod Pulling
 pub mod Relocated

@@ -6,7 +6,7 @@
 use Prim.Native.Nat.{ℕ, zero, suc, _/_, _<_, _≤_}
 use native.Mathlib.Omega.{arith}
 use mathlib.Core.Bool.{Bool, true, false, cond, _||_}
-use mathlib.Core.Path.{_≡_, refl, sym, _∙_, ap, subst}
+use mathlib.Core.Path.{_≡_, refl, sym, _∙_, ap, ap₂, subst}
 use mathlib.Core.Logic.{_⊎_, inl, inr}
 use mathlib.Core.List.{List, _++_, List·Memᴰ, Memᴰ·cast, List·Memᴰ·append-cases, Memᴰ·append-left, Memᴰ·append-right}
 use borrow.Author.Tests.{eqb-true, ltb-true, ltb-false}
@@ -19,7 +19,7 @@ use Rattle.cell.specs.Limits.{cellLimit, portLimit}
 use Rattle.model.specs.State.{crossed, buffered, isListed, isCrossed}
 use Rattle.model.specs.Phase.{Waiting, phase, beats, sameInput, sameOutput, pulled, among, placeAfter}
 use Rattle.model.specs.Slackness.{Orderly, relocated}
-use Rattle.model.proofs.WaitingOrder.{input-i, input-e, output-i, output-e, crosspoint-i, beats-total, among-e}
+use Rattle.model.proofs.WaitingOrder.{input-i, input-e, output-i, output-e, crosspoint-i, among-e}
 use Rattle.model.proofs.PhaseFacts.{crosspoints, crosspoints-i, crosspoints-all, crosspoints-crossed}
 use Rattle.model.proofs.PhaseFacts.{scheduled-empty}
 use Rattle.model.proofs.PhaseFacts.{sent-i, sent-scheduled, sent-free, pulled-free}
@@ -29,20 +29,21 @@ use Rattle.model.proofs.PhasePlaces.{straight-listed, sent-listed, listed-not-c
 use Rattle.layout.specs.Entry.{entryAt, portsIn}
 use Rattle.layout.specs.Table.{placeOf}
 use Rattle.places.specs.View.{waitingAt, inTable, crosspointAt, InTable, Agrees, Square}
-use Rattle.places.specs.Scan.{Readable}
+use Rattle.places.specs.Scan.{Readable, Holds, Bests}
 use Rattle.places.specs.Loading.{InPlace}
 use Rattle.places.specs.Choices.{nowhere, numberOf, toOutput, bestOf}
-use Rattle.moving.specs.Moves.{written, markOf, sendOf, takeOf, crossedIn, sentOf, pulledOf}
+use Rattle.moving.specs.Moves.{written, markOf, sendOf, takeOf, sentOf, pulledOf}
 use Rattle.moving.specs.Moves.{straightTo, Straightened, Sent, Pulled}
+use Rattle.choosing.proofs.Best.{best-of}
 use Rattle.moving.specs.Moved.{Steady, Settled, Moved}
 use Rattle.moving.proofs.Known.{Known, known}
 use Rattle.places.proofs.Window.{inTable-i, inTable-below, waitingAt-at, waitingAt-cell, waitingAt-input, waitingAt-place}
 use Rattle.moving.proofs.Written.{hit, Hit, hit-i, hit-e, hit-miss, written-hit, written-miss, written-is}
 use Rattle.moving.proofs.Rules.{mark-some, mark-none, send-none, send-scheduled, take-none, take-best}
-use Rattle.moving.proofs.Output.{Within, best-same}
-use Rattle.moving.proofs.Pulling.{CrossedEntry, crossed-e, crossed-i, pullable, pulled-agrees}
+use Rattle.moving.proofs.Entering.{BestOfEach, best-start, best-entering}
+use Rattle.moving.proofs.Pulling.{pullable, pulled-agrees}
 use Rattle.moving.proofs.Relocated.{inTable-relocated}
-use Rattle.moving.proofs.Agreeing.{outputAt, crossedAt, agrees-real, agrees-straight, Sendable, output-small}
+use Rattle.moving.proofs.Agreeing.{outputAt, crossedAt, agrees-filled, agrees-real, agrees-straight, Sendable, output-small}
 use Rattle.moving.proofs.Agreeing.{Stands, crossed-hit, crossed-miss, buffered-byte, crossed-byte, agrees-sending}
 use Rattle.moving.proofs.Rounds.{length-straightened, length-sent, square-sent, length-pulled, square-pulled}
 use Rattle.moving.proofs.Ports.{numberBy, ByPort, has, lacks, by-is, by-none, by-cases, by-one}
@@ -312,7 +313,8 @@ module _ {table places : List ℕ} {cross : List (List ℕ)} (st : Steady table 
   ------------------------------------------------------------------------
   -- rule 6
 
-  module _ {places₂ : List ℕ} {cross₂ : List (List ℕ)} (t : Sent table G portLimit places₁ places₂ cross cross₂) where
+  module _ {places₂ : List ℕ} {cross₂ : List (List ℕ)} {best best₂ : List ℕ} (b : Bests table cross best)
+      (t : Sent table G portLimit places₁ places₂ cross cross₂ best best₂) where
     pub sent-length : length places₂ ≡ 1024
     sent-length = length-sent t ∙ straight-length
 
@@ -323,6 +325,12 @@ module _ {table places : List ℕ} {cross : List (List ℕ)} (st : Steady table 
     send-agrees =
         rw (t .to-crosspoints, t .filled)
         (agrees-sending r G cross (st .square) places₁ straight-length straight-agrees portLimit (omega arith) sendable)
+
+    sent-best : BestOfEach table cross₂ best₂
+    sent-best =
+        rw (t .filled, t .bests)
+        (best-entering r G cross (st .square) places₁ straight-length straight-agrees best (b .size)
+        (best-start r places cross best (st .agrees) b) portLimit (omega arith) sendable)
 
     -- the cells at the crosspoints, those just filled included
     cells : List Waiting
@@ -379,34 +387,31 @@ module _ {table places : List ℕ} {cross : List (List ℕ)} (st : Steady table 
         go (inr h) (inr b) =
             absurd (clash now (crossed-miss G 2 portLimit places₁ k h ∙ straight-still k (inTable-below r i) b))
 
+    -- so the crosspoints hold them
+    cells-held : Holds table cross₂ cells
+    cells-held =
+        record {
+          cell = λ e m.
+              let k : Known r places e = known r places (cells-all m) in
+              ap (λ x. x .cell) (k .self) ∙ waitingAt-cell table places (e .at);
+          inside = λ e m. known r places (cells-all m) .entry;
+          filled = λ e m.
+              let k : Known r places e = known r places (cells-all m) in
+              ap₂ (crosspointAt cross₂) (k .input) (k .output)
+              ∙ agrees-filled r places₂ cross₂ send-agrees (e .at) (k .entry) (cells-crossed m);
+          real = λ i x p q h.
+              let c : ℕ = crosspointAt cross₂ i x in
+              let w : Stands table places₂ i x c = agrees-real r places₂ cross₂ send-agrees i x p q h in (
+                waitingAt table places c,
+                crossed-cells (w .0) (w .1),
+                waitingAt-at table places c,
+                waitingAt-input table places c ∙ w .2,
+                ap (λ d. d .output) (waitingAt-cell table places c) ∙ w .3,
+              );
+        }
+
     abbrev H : ℕ → ℕ
-    H = takeOf outputs (crossedIn table places₂)
-
-    into : (x : ℕ) → Within (crossedIn table places₂) cells x
-    into x e m h =
-        let c : CrossedEntry table places₂ e = crossed-e r places₂ m in (
-          waitingAt table places (e .at),
-          crossed-cells (c .entry) (c .crossed),
-          waitingAt-at table places (e .at),
-          waitingAt-cell table places (e .at) ∙ sym (ap (λ x. x .cell) (c .self) ∙ waitingAt-cell table places₂ (e .at)),
-        )
-
-    back : (x : ℕ) → Within cells (crossedIn table places₂) x
-    back x e m h =
-        let k : Known r places e = known r places (cells-all m) in (
-          waitingAt table places₂ (e .at),
-          crossed-i r places₂ (k .entry) (cells-crossed m),
-          waitingAt-at table places₂ (e .at),
-          waitingAt-cell table places₂ (e .at) ∙ sym (ap (λ x. x .cell) (k .self) ∙ waitingAt-cell table places (e .at)),
-        )
-
-    total : (e f : Waiting) → List·Memᴰ e cells → List·Memᴰ f cells → e .cell .output ≡ f .cell .output
-        → (e .at ≡ f .at) ⊎ ((beats e f ≡ true) ⊎ (beats f e ≡ true))
-    total e f m n h = go (beats-total o (cells-all m) (cells-all n) h)
-      where
-        go : (e ≡ f) ⊎ ((beats e f ≡ true) ⊎ (beats f e ≡ true)) → (e .at ≡ f .at) ⊎ ((beats e f ≡ true) ⊎ (beats f e ≡ true))
-        go (inl q) = inl (ap (λ x. x .at) q)
-        go (inr b) = inr b
+    H = takeOf outputs best₂
 
     -- the cells that an output without a straight cell takes from
     pulled-best : (x : ℕ) → (StraightBy outputOf x → ⊥) → pulledOf (phase all) x ≡ bestOf cells x
@@ -435,13 +440,13 @@ module _ {table places : List ℕ} {cross : List (List ℕ)} (st : Steady table 
       where
         go : (getD outputs x false ≡ true) ⊎ (getD outputs x false ≡ false) → H x ≡ pulledOf (phase all) x
         go (inl h) =
-            take-none outputs (crossedIn table places₂) x h
+            take-none outputs best₂ x h
             ∙ sym (pulledOf-by (phase all) x ∙ by-none outputOf (phase all .pulled) x (λ f m q.
             let w : StraightBy outputOf x = output-marked x l h in
             clash (output-i f (w .0) (q ∙ sym (w .2))) (pulled-free all m (w .1))))
         go (inr h) =
-            take-best outputs (crossedIn table places₂) x h
-            ∙ best-same (crossedIn table places₂) cells x (into x) (back x) total
+            take-best outputs best₂ x h
+            ∙ best-of table cross₂ x cells-held l (getD best₂ x 0) ports (sent-best x l)
             ∙ sym (pulled-best x (output-unmarked x l h))
 
     ------------------------------------------------------------------------
@@ -459,7 +464,7 @@ module _ {table places : List ℕ} {cross : List (List ℕ)} (st : Steady table 
       moved-square = square-pulled u sent-square
 
       moved-agrees : Agrees table places₃ cross₃
-      moved-agrees = pulled-agrees r outputs places₂ cross₂ sent-length sent-square send-agrees u ports
+      moved-agrees = pulled-agrees r outputs places₂ cross₂ sent-length sent-square send-agrees best₂ sent-best u ports
 
       module _ {e : Waiting} (m : List·Memᴰ e all) where
         k : Known r places e
@@ -534,7 +539,7 @@ module _ {table places : List ℕ} {cross : List (List ℕ)} (st : Steady table 
               ap (λ q. getD q k 0) (u .to-buffers)
               ∙ written-miss H 3 (portsIn table) places₂ k 0
               (miss H (portsIn table) k
-              (λ x b i. pullable r outputs places₂ cross₂ sent-length sent-square send-agrees (portsIn table) x b i .0) out l)
+              (λ x b i. pullable r outputs places₂ cross₂ sent-length sent-square send-agrees best₂ sent-best (portsIn table) ports x b i .0) out l)
               ∙ ap (λ q. getD q k 0) (t .to-crosspoints)
               ∙ written-miss G 2 portLimit places₁ k 0 (miss G portLimit k (λ x b i. sendable x b i .0) out l)
               ∙ ap (λ q. getD q k 0) (s .to-buffers)

@@ -9,9 +9,11 @@ use Rattle.cell.specs.Limits.{cellLimit, portLimit}
 use Rattle.layout.specs.Entry.{entryAt}
 use Rattle.places.specs.Choices.{nowhere}
 use Rattle.places.specs.View.{Square}
-use Rattle.moving.specs.Moves.{written, put, sending, pulling, markOf, Straightened, Sent, Pulled}
+use Rattle.moving.specs.Moves.{written, put, sending, entered, entering, pulling, markOf}
+use Rattle.moving.specs.Moves.{Straightened, Sent, Pulled}
 use Rattle.moving.proofs.Written.{length-written}
 use Rattle.moving.proofs.Agreeing.{square-sending, square-pulling}
+use Rattle.moving.proofs.Entering.{length-entering}
 
 -- a write more
 written-more : {A : Type 0} (f : ℕ → ℕ) (v : A) (n : ℕ) (l : List A) {l′ l″ : List A} {k : ℕ} → l′ ≡ written f v n l
@@ -55,26 +57,37 @@ module _ {f : ℕ → ℕ} {n : ℕ} {places places′ : List ℕ} {inputs outpu
 ------------------------------------------------------------------------
 -- sent cells
 
-pub sent-none : (table : List ℕ) (f : ℕ → ℕ) (places : List ℕ) (cross : List (List ℕ))
-    → Sent table f 0 places places cross cross
-unfolding written sending
-sent-none table f places cross = record { to-crosspoints = refl; filled = refl }
+pub sent-none : (table : List ℕ) (f : ℕ → ℕ) (places : List ℕ) (cross : List (List ℕ)) (best : List ℕ)
+    → Sent table f 0 places places cross cross best best
+unfolding written sending entering
+sent-none table f places cross best = record { to-crosspoints = refl; filled = refl; bests = refl }
 
 module _ {table : List ℕ} {f : ℕ → ℕ} {n : ℕ} {places places′ : List ℕ} {cross cross′ : List (List ℕ)}
-    (s : Sent table f n places places′ cross cross′) where
+    {best best′ : List ℕ} (s : Sent table f n places places′ cross cross′ best best′) where
   sending-more : {k : ℕ} {cross″ : List (List ℕ)} → k ≡ f n
       → cross″ ≡ put cross′ (k / cellLimit) (entryAt table k .cell .output) k → cross″ ≡ sending table f (n + 1) cross
   unfolding sending
   sending-more e q = rw (add-one n, ← s .filled, ← e) q
 
-  pub sent-more : {k : ℕ} {places″ : List ℕ} {cross″ : List (List ℕ)} → k ≡ f n → places″ ≡ set places′ k 2
-      → cross″ ≡ put cross′ (k / cellLimit) (entryAt table k .cell .output) k
-      → Sent table f (n + 1) places places″ cross cross″
-  sent-more e p q =
-      record { to-crosspoints = written-more f 2 n places (s .to-crosspoints) e p; filled = sending-more e q }
+  entering-more : {k : ℕ} {best″ : List ℕ} → k ≡ f n → best″ ≡ entered table best′ k → best″ ≡ entering table f (n + 1) best
+  unfolding entering
+  entering-more e q = rw (add-one n, ← s .bests, ← e) q
+
+  pub sent-more : {k : ℕ} {places″ : List ℕ} {cross″ : List (List ℕ)} {best″ : List ℕ} → k ≡ f n
+      → places″ ≡ set places′ k 2 → cross″ ≡ put cross′ (k / cellLimit) (entryAt table k .cell .output) k
+      → best″ ≡ entered table best′ k → Sent table f (n + 1) places places″ cross cross″ best best″
+  sent-more e p q t =
+      record {
+        to-crosspoints = written-more f 2 n places (s .to-crosspoints) e p;
+        filled = sending-more e q;
+        bests = entering-more e t;
+      }
 
   pub length-sent : length places′ ≡ length places
   length-sent = ap length (s .to-crosspoints) ∙ length-written f 2 n places
+
+  pub length-best : length best′ ≡ length best
+  length-best = ap length (s .bests) ∙ length-entering table f n best
 
   pub square-sent : Square cross → Square cross′
   square-sent h = rw (s .filled) (square-sending table f cross h n)

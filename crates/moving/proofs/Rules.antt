@@ -12,8 +12,7 @@ use lib.Dec.{ltb, leb, eqb}
 use lib.ListN.{getD}
 use Rattle.laws.proofs.Tests.{or-l, or-r, or-false, cond-pass, cond-fail}
 use Rattle.cell.specs.Limits.{cellLimit, portLimit}
-use Rattle.model.specs.Phase.{Waiting}
-use Rattle.places.specs.Choices.{nowhere, bestOf}
+use Rattle.places.specs.Choices.{nowhere}
 use Rattle.moving.specs.Moves.{matchAt, straightTo, markOf, sendOf, takeOf, Matches}
 
 module _ (scheduled numbers held refused : List ℕ) (output : ℕ) where
@@ -70,11 +69,11 @@ module _ (straight : List Bool) (scheduled : List ℕ) (input : ℕ) where
   unfolding sendOf
   send-scheduled h = cond-fail (getD straight input false) nowhere (getD scheduled input 0) h
 
-module _ (straight : List Bool) (cells : List Waiting) (output : ℕ) where
-  pub take-none : getD straight output false ≡ true → takeOf straight cells output ≡ nowhere
+module _ (straight : List Bool) (best : List ℕ) (output : ℕ) where
+  pub take-none : getD straight output false ≡ true → takeOf straight best output ≡ nowhere
   unfolding takeOf
-  take-none h = cond-pass (getD straight output false) nowhere (bestOf cells output) h
+  take-none h = cond-pass (getD straight output false) nowhere (getD best output 0) h
 
-  pub take-best : getD straight output false ≡ false → takeOf straight cells output ≡ bestOf cells output
+  pub take-best : getD straight output false ≡ false → takeOf straight best output ≡ getD best output 0
   unfolding takeOf
-  take-best h = cond-fail (getD straight output false) nowhere (bestOf cells output) h
+  take-best h = cond-fail (getD straight output false) nowhere (getD best output 0) h

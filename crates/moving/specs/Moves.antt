@@ -3,6 +3,8 @@
 --     written f v n l           the column l with v at f 0, f 1, .. f (n - 1); a number past its end changes nothing
 --     put cross i o k           the crosspoints with k at that of input i and output o
 --     sending table f n cross   the crosspoints after f 0, .. f (n - 1) were sent to theirs
+--     entered table best k      the best of each output, where k may be a better one
+--     entering table f n best   the same for f 0, .. f (n - 1)
 --     pulling f n cross         the crosspoints after output 0 took f 0, .. output n - 1 took f (n - 1)
 use Prim.Native.Nat.{ℕ, zero, suc, _+_, _*_, _/_, _<_}
 use mathlib.Core.Bool.{Bool, true, false, cond, _||_}
@@ -10,13 +12,11 @@ use mathlib.Core.List.{List, []}
 use mathlib.Core.Path.{_≡_}
 use lib.Dec.{ltb, leb, eqb}
 use lib.ListN.{length, getD, set, replicate}
-use Rattle.laws.specs.Lists.{keep, first?}
+use Rattle.laws.specs.Lists.{first?}
 use Rattle.cell.specs.Limits.{cellLimit, portLimit}
-use Rattle.model.specs.State.{isCrossed}
-use Rattle.model.specs.Phase.{Waiting, Phase}
+use Rattle.model.specs.Phase.{Phase}
 use Rattle.layout.specs.Entry.{entryAt}
-use Rattle.places.specs.Choices.{nowhere, numberOf, ofInput, toOutput, bestOf}
-use Rattle.places.specs.View.{inTable}
+use Rattle.places.specs.Choices.{nowhere, numberOf, ofInput, toOutput, betterOf}
 
 ------------------------------------------------------------------------
 -- columns and crosspoints
@@ -31,6 +31,15 @@ put cross input output k = set cross input (set (getD cross input []) output k)
 unfoldable pub sending : List ℕ → (ℕ → ℕ) → ℕ → List (List ℕ) → List (List ℕ)
 sending table f zero cross = cross
 sending table f (suc n) cross = put (sending table f n cross) (f n / cellLimit) (entryAt table (f n) .cell .output) (f n)
+
+unfoldable pub entered : List ℕ → List ℕ → ℕ → List ℕ
+entered table best k =
+    let output = entryAt table k .cell .output in
+    set best output (betterOf table (getD best output 0) k)
+
+unfoldable pub entering : List ℕ → (ℕ → ℕ) → ℕ → List ℕ → List ℕ
+entering table f zero best = best
+entering table f (suc n) best = entered table (entering table f n best) (f n)
 
 unfoldable pub pulling : (ℕ → ℕ) → ℕ → List (List ℕ) → List (List ℕ)
 pulling f zero cross = cross
@@ -73,13 +82,9 @@ markOf k output = cond (ltb k nowhere) output portLimit
 unfoldable pub sendOf : List Bool → List ℕ → ℕ → ℕ
 sendOf straight scheduled input = cond (getD straight input false) nowhere (getD scheduled input 0)
 
--- the cells at the crosspoints
-unfoldable pub crossedIn : List ℕ → List ℕ → List Waiting
-crossedIn table places = keep (λ e. isCrossed (e .place)) (inTable table places)
-
--- 6. what an output takes: the best of the cells at its crosspoints, unless a straight cell came to it
-unfoldable pub takeOf : List Bool → List Waiting → ℕ → ℕ
-takeOf straight cells output = cond (getD straight output false) nowhere (bestOf cells output)
+-- 6. what an output takes: its best, unless a straight cell came to it
+unfoldable pub takeOf : List Bool → List ℕ → ℕ → ℕ
+takeOf straight best output = cond (getD straight output false) nowhere (getD best output 0)
 
 -- the matches that the outputs hold stand in the column
 pub record Matches (numbers held refused : List ℕ) : Type 0 where
@@ -97,9 +102,11 @@ pub record Straightened (f : ℕ → ℕ) (n : ℕ) (places places′ : List ℕ
   pub to-outputs : outputs ≡ written (λ o. markOf (f o) o) true n (replicate portLimit false)
 
 -- every input has sent its cell to the crosspoint
-pub record Sent (table : List ℕ) (f : ℕ → ℕ) (n : ℕ) (places places′ : List ℕ) (cross cross′ : List (List ℕ)) : Type 0 where
+pub record Sent (table : List ℕ) (f : ℕ → ℕ) (n : ℕ) (places places′ : List ℕ) (cross cross′ : List (List ℕ))
+    (best best′ : List ℕ) : Type 0 where
   pub to-crosspoints : places′ ≡ written f 2 n places
   pub filled : cross′ ≡ sending table f n cross
+  pub bests : best′ ≡ entering table f n best
 
 -- every output has taken its cell from the crosspoints
 pub record Pulled (f : ℕ → ℕ) (n : ℕ) (places places′ : List ℕ) (cross cross′ : List (List ℕ)) : Type 0 where

@@ -1,22 +1,20 @@
 // Document 01, "One slot", rules 5 and 6: the cells move. A place is 1 in a list, 2 at a crosspoint, 3 in a buffer.
 // Each rule has a function that chooses the number of a cell, 1,024 for none, a function that moves that cell, and a
 // function that does both for every port.
-use choosing::best_crossed;
 use places::NOWHERE;
+use places::better;
 ghost use mathlib.Core.Path.{_≡_};
 ghost use mathlib.Core.Bool.{true};
-ghost use mathlib.Core.List.{List};
-ghost use Prim.Native.Nat.{ℕ, _/_, _<_};
+ghost use Prim.Native.Nat.{ℕ, _/_, _<_, _≤_};
 ghost use lib.ListN.{length, set};
 ghost use Rattle.cell.specs.Limits.{cellLimit};
-ghost use Rattle.model.specs.Phase.{Waiting};
 ghost use Rattle.layout.specs.Entry.{entryAt, portsIn};
 ghost use Rattle.layout.specs.Table.{tableSize};
 ghost use Rattle.places.specs.Choices.{nowhere};
-ghost use Rattle.places.specs.Scan.{Readable, Holds};
-ghost use Rattle.places.specs.View.{Agrees, Square};
+ghost use Rattle.places.specs.Scan.{Bests};
+ghost use Rattle.places.specs.View.{Square};
 ghost use Rattle.moving.specs.Moved.{Steady, Settled, Moved};
-ghost use Rattle.moving.specs.Moves.{put, straightTo, markOf, sendOf, takeOf, crossedIn};
+ghost use Rattle.moving.specs.Moves.{put, entered, straightTo, markOf, sendOf, takeOf};
 ghost use Rattle.moving.specs.Moves.{Matches, Straightened, Sent, Pulled};
 
 // The ports of the straight cells: the inputs that they left, and the outputs that they went to.
@@ -25,12 +23,14 @@ pub struct Straight {
     pub outputs: [bool; 16],
 }
 
-// Rules 5 and 6: the straight cells go, then the inputs send, then the outputs take.
+// Rules 5 and 6: the straight cells go, then the inputs send, then the outputs take. `best` is lent with the best
+// crosspoint cell of each output before anything moves; only the cells that are sent can be better.
 pub fn move_cells(
     table: &[u8],
     places: &mut [u8],
     cross: &mut [[u16; 16]; 16],
     ports: usize,
+    best: &mut [u16; 16],
     scheduled: &[u16; 16],
     numbers: &[u16],
     held: &[u8; 16],
@@ -38,13 +38,14 @@ pub fn move_cells(
 )
     requires { ⌜ Steady (now table) (now places) (now cross) × (ports ≡ portsIn (now table)) ⌝ }
     requires { ⌜ Settled (now table) (now places) (now scheduled) (now numbers) (now held) (now refused) ⌝ }
+    requires { ⌜ Bests (now table) (now cross) (now best) ⌝ }
     ensures { λ _. ⌜ Moved (now (table .entry)) (now (places .entry)) (now (places .exit)) (now (cross .exit)) ⌝ }
 {
     let straight = go_straight(places, scheduled, numbers, held, refused);
     let inputs = straight.inputs;
     let outputs = straight.outputs;
-    send_scheduled(table, places, cross, scheduled, &inputs);
-    pull_best(table, places, cross, ports, &outputs);
+    send_scheduled(table, places, cross, best, scheduled, &inputs);
+    pull_best(places, cross, ports, best, &outputs);
 }
 
 // Rule 5: every matched urgent cell goes straight to its output buffer.
@@ -72,44 +73,48 @@ pub fn go_straight(
     Straight { inputs, outputs }
 }
 
-// Rule 5: every input without a straight cell sends its scheduled cell to the crosspoint.
+// Rule 5: every input without a straight cell sends its scheduled cell to the crosspoint, where it may be the best of its
+// output.
 pub fn send_scheduled(
     table: &[u8],
     places: &mut [u8],
     cross: &mut [[u16; 16]; 16],
+    best: &mut [u16; 16],
     scheduled: &[u16; 16],
     straight: &[bool; 16],
 )
-    requires { ⌜ (length (now table) ≡ tableSize) × (length (now places) ≡ 1024) × Square (now cross) ⌝ }
+    requires { ⌜ (length (now table) ≡ tableSize) × (length (now places) ≡ 1024) × Square (now cross)
+        × (length (now best) ≡ 16) ⌝ }
     requires { ⌜ ((input : ℕ) → input < 16 → sendOf (now straight) (now scheduled) input < nowhere
         → entryAt (now table) (sendOf (now straight) (now scheduled) input) .cell .output < 16) ⌝ }
     ensures { λ _. ⌜ Sent (now (table .entry)) (sendOf (now (straight .entry)) (now (scheduled .entry))) 16
-        (now (places .entry)) (now (places .exit)) (now (cross .entry)) (now (cross .exit)) ⌝ }
+        (now (places .entry)) (now (places .exit)) (now (cross .entry)) (now (cross .exit))
+        (now (best .entry)) (now (best .exit)) ⌝ }
 {
     let mut input = 0;
     while input < 16 {
         let number = send_number(scheduled, straight, input);
         send(table, places, cross, number);
+        enter(table, best, number);
         input += 1;
     }
 }
 
 // Rule 6: every output without a straight cell takes the best cell at its crosspoints.
 pub fn pull_best(
-    table: &[u8],
     places: &mut [u8],
     cross: &mut [[u16; 16]; 16],
     ports: usize,
+    best: &[u16; 16],
     straight: &[bool; 16],
 )
-    requires { ⌜ Readable (now table) × (ports ≡ portsIn (now table)) × (length (now places) ≡ 1024) × Square (now cross) ⌝ }
-    requires { ⌜ Agrees (now table) (now places) (now cross) ⌝ }
-    ensures { λ _. ⌜ Pulled (takeOf (now (straight .entry)) (crossedIn (now (table .entry)) (now (places .entry)))) ports
+    requires { ⌜ (ports ≤ 16) × (length (now places) ≡ 1024) × Square (now cross) ⌝ }
+    ensures { λ _. ⌜ Pulled (takeOf (now (straight .entry)) (now (best .entry))) ports
         (now (places .entry)) (now (places .exit)) (now (cross .entry)) (now (cross .exit)) ⌝ }
 {
     let mut output = 0;
     while output < ports {
-        let number = pull_number(table, cross, ports, straight, output);
+        let number = pull_number(best, straight, output);
         pull(places, cross, number, output);
         output += 1;
     }
@@ -189,22 +194,29 @@ fn send(table: &[u8], places: &mut [u8], cross: &mut [[u16; 16]; 16], number: u1
     cross[k / 64][output] = number;
 }
 
+// A cell that went to its crosspoint is the best of its output, unless the one so far is better.
+fn enter(table: &[u8], best: &mut [u16; 16], number: u16)
+    requires { ⌜ (length (now table) ≡ tableSize) × (length (now best) ≡ 16) ⌝ }
+    requires { ⌜ (number < nowhere → entryAt (now table) number .cell .output < 16) ⌝ }
+    ensures { λ _. ⌜ now (best .exit) ≡ entered (now (table .entry)) (now (best .entry)) number ⌝ }
+{
+    let k = number as usize;
+    if k >= 1024 {
+        return;
+    }
+    let output = table::entry::output_of(table, k) as usize;
+    best[output] = better(table, best[output], number);
+}
+
 // The cell that an output takes: the best at its crosspoints, unless a straight cell came to it.
-fn pull_number(
-    table: &[u8],
-    cross: &[[u16; 16]; 16],
-    ports: usize,
-    straight: &[bool; 16],
-    output: usize,
-) -> u16
-    requires { ⌜ Readable (now table) × (ports ≡ portsIn (now table)) × (output < 16) ⌝ }
-    ensures { λ r. ⌜ ((cells : List Waiting) → Holds (now (table .entry)) (now (cross .entry)) cells
-        → r ≡ takeOf (now (straight .entry)) cells output) ⌝ }
+fn pull_number(best: &[u16; 16], straight: &[bool; 16], output: usize) -> u16
+    requires { ⌜ output < 16 ⌝ }
+    ensures { λ r. ⌜ r ≡ takeOf (now (straight .entry)) (now (best .entry)) output ⌝ }
 {
     if straight[output] {
         return NOWHERE;
     }
-    best_crossed(table, cross, ports, output)
+    best[output]
 }
 
 // A cell goes from its crosspoint to the buffer of its output.

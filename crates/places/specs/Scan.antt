@@ -9,7 +9,7 @@ use Rattle.cell.specs.Limits.{portLimit, flowLimit, cellLimit}
 use Rattle.model.specs.Phase.{Waiting, Phase, phase}
 use Rattle.layout.specs.Table.{tableSize}
 use Rattle.layout.specs.Entry.{entryAt, portsIn, countIn}
-use Rattle.places.specs.Choices.{scheduledOf, candidatesOf}
+use Rattle.places.specs.Choices.{scheduledOf, candidatesOf, bestOf}
 use Rattle.places.specs.View.{inTable, InTable, crosspointAt}
 
 -- the bytes of a table, as far as a phase reads them
@@ -28,6 +28,12 @@ pub record Holds (table : List ℕ) (cross : List (List ℕ)) (cells : List Wait
   pub real : (input output : ℕ) → input < 16 → output < 16 → crosspointAt cross input output < 1024
       → (e : Waiting) × List·Memᴰ e cells × (e .at ≡ crosspointAt cross input output)
       × (e .cell .input ≡ input) × (e .cell .output ≡ output)
+
+-- the best cell at the crosspoints of each output, whatever cells they hold
+pub record Bests (table : List ℕ) (cross : List (List ℕ)) (best : List ℕ) : Type 0 where
+  pub size : length best ≡ 16
+  pub at : (cells : List Waiting) → Holds table cross cells → (output : ℕ) → output < 16
+      → getD best output 0 ≡ bestOf cells output
 
 ------------------------------------------------------------------------
 -- the choices, input by input

@@ -50,7 +50,9 @@ loop-again c =
     )
 
 returns : tie.Need-returns Inv-loop μ-loop
-returns c = λ cells h o l. c .before .loop .inv .2 cells h o (omega (arith, c .loop-test .left))
+returns c =
+    let inv = c .before .loop .inv in
+    record { size = inv .1; at = λ cells h o l. inv .2 cells h o (omega (arith, c .loop-test .left)) }
 
 pub best-of-each-spec : {M : Type 1} → statement M
 best-of-each-spec =

@@ -13,7 +13,7 @@ scan-each-requires : tie.Need-scan-each-requires
 scan-each-requires c κs =
     let best = c .before .before .before .before in
     let start = best .before .before .before .before .before .before .before .before in (
-      walkable _ _ (start .pre .0) _ _ (start .pre .1 .0 .0) (start .pre .1 .0 .1) (best .best-of-each .ensures),
+      walkable _ _ (start .pre .0) _ _ (start .pre .1 .0 .0) (start .pre .1 .0 .1) (best .best-of-each .ensures .at),
       (start .pre .1 .1 .0, start .pre .1 .1 .1 .0),
     )
 
@@ -31,7 +31,7 @@ returns c =
     let urgents = scanned .scan-each .ensures .1 .0 in
     let some = c .before .any .ensures in (
       chosen-none _ _ readable _ _ _ (scanned .scan-each .ensures .0) urgents some (not-true _ (c .if1 .taken)),
-      scanned .scan-each .ensures .1 .1,
+      (scanned .scan-each .ensures .1 .1, scanned .before .before .before .before .before .best-of-each .ensures),
     )
 
 enter-scheduled-requires : tie.Need-enter-scheduled-requires
@@ -58,7 +58,7 @@ describe-requires c κs =
     let scanned = c .before .before .before .before .before .before .before .before .before .before .before .before .before .before .before .before .scan-each in
     let start = c .before .before .before .before .before .before .before .before .before .before .before .before .before .before .before .before .before .before .before .before .before .before .before .before .before .before .before .before .before in
     let readable = start .pre .0 in
-    let sizes = start .pre .1 .1 .1 .1 in (
+    let sizes = start .pre .1 .1 .1 .1 .0 in (
       readable .size,
       (
         candidates-sound _ _ readable (entered .ensures .0),
@@ -95,7 +95,7 @@ returns-2 c =
         rank-column = described .1 .0;
         slot-column = described .1 .1;
       },
-      (scanned .scan-each .ensures .1 .1 .0, entered .ensures .1),
+      ((scanned .scan-each .ensures .1 .1 .0, entered .ensures .1), scanned .before .before .before .before .before .best-of-each .ensures),
     )
 
 pub choose-spec : {M : Type 1} → statement M

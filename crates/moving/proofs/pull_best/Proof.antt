@@ -2,34 +2,31 @@
 use Prim.Native.Nat.{_-_, _≤_}
 use native.Mathlib.Omega.{arith}
 use mathlib.Core.Path.{_≡_, _∙_, subst}
-use Rattle.moving.specs.Moves.{takeOf, crossedIn, Pulled}
+use Rattle.moving.specs.Moves.{takeOf, Pulled}
 use Rattle.moving.proofs.Rounds.{pulled-none, pulled-more, length-pulled, square-pulled}
-use Rattle.moving.proofs.Pulling.{pulled-number}
 use Rattle.moving.proofs.pull_best.Statement.{statement}
 use Rattle.moving.proofs.pull_best.Tie as tie
 
 abbrev Inv-loop : tie.InvT-loop
-Inv-loop table places₀ cross₀ ports straight output₀ places cross output =
-    Pulled (takeOf straight (crossedIn table places₀)) output places₀ places cross₀ cross × (output ≤ ports)
+Inv-loop places₀ cross₀ ports best straight output₀ places cross output =
+    Pulled (takeOf straight best) output places₀ places cross₀ cross × (output ≤ ports)
 
 abbrev μ-loop : tie.MeasureT-loop
-μ-loop table places₀ cross₀ ports straight output₀ places cross output = ports - output
+μ-loop places₀ cross₀ ports best straight output₀ places cross output = ports - output
 
 loop-holds : tie.Need-loop-holds Inv-loop μ-loop
 loop-holds c =
-    let a = c .before .before .args in
-    (pulled-none (takeOf (a .straight .now) (crossedIn (a .table .now) (a .places .now))) (a .places .now) (a .cross .now), omega arith)
+    let a = c .before .args in
+    (pulled-none (takeOf (a .straight .now) (a .best .now)) (a .places .now) (a .cross .now), omega arith)
 
 pull-number-requires : tie.Need-pull-number-requires Inv-loop μ-loop
-pull-number-requires c κs =
-    let s = c .before .before .before .before .before in
-    (s .pre .0 .0, s .pre .0 .1, omega (arith, s .pre .0 .0 .ports))
+pull-number-requires c κs = omega arith
 
 pull-requires : tie.Need-pull-requires Inv-loop μ-loop
 pull-requires c κs =
-    let s = c .before .before .before .before .before .before .before .before in
-    let i = c .before .before .before .before .before .loop .inv .0 in
-    (length-pulled i ∙ s .pre .0 .2, square-pulled i (s .pre .0 .3), omega (arith, s .pre .0 .0 .ports, s .pre .0 .1))
+    let s = c .before .before .before .before .before .before in
+    let i = c .before .before .before .before .loop .inv .0 in
+    (length-pulled i ∙ s .pre .1, square-pulled i (s .pre .2), omega arith)
 
 add-output : tie.Need-add-output Inv-loop μ-loop
 add-output c = omega arith
@@ -39,27 +36,19 @@ loop-less c = omega arith
 
 loop-again : tie.Need-loop-again Inv-loop μ-loop
 loop-again c =
-    let s = c .before .before .before .before .before .before .before .before .before .before .before in
-    let a = s .args in
-    let l = c .before .before .before .before .before .before .before .before .loop in
-    let k = c .before .before .before .before .before .pull-number in
-    let e = c .before .before .pull .ensures in (
-      pulled-more (l .inv .0)
-          (pulled-number (s .pre .0 .0) (a .straight .now) (a .places .now) (a .cross .now) (s .pre .0 .2) (s .pre .0 .3) (s .pre .1)
-          (l .inv .0) (omega (arith, s .pre .0 .0 .ports, s .pre .0 .1)) (k .result) (k .ensures))
-          (e .0) (e .1),
-      omega arith,
-    )
+    let l = c .before .before .before .before .before .before .before .loop in
+    let e = c .before .before .pull .ensures in
+    (pulled-more (l .inv .0) (c .before .before .before .before .before .pull-number .ensures) (e .0) (e .1), omega arith)
 
 same-length : tie.Need-same-length Inv-loop μ-loop
 same-length c = length-pulled (c .before .loop .inv .0)
 
 returns : tie.Need-returns Inv-loop μ-loop
 returns c =
-    let a = c .before .before .before .before .args in
+    let a = c .before .before .before .args in
     let l = c .before .loop in
     let all : l .output ≡ a .ports = omega arith in
-    subst (λ n. Pulled (takeOf (a .straight .now) (crossedIn (a .table .now) (a .places .now))) n (a .places .now) (l .places) (a .cross .now) (l .cross)) all (l .inv .0)
+    subst (λ n. Pulled (takeOf (a .straight .now) (a .best .now)) n (a .places .now) (l .places) (a .cross .now) (l .cross)) all (l .inv .0)
 
 pub pull-best-spec : {M : Type 1} → statement M
 pull-best-spec =

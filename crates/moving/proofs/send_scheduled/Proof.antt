@@ -1,23 +1,23 @@
--- The loop's invariant: the inputs passed have sent.
+-- The loop's invariant: the inputs passed have sent, and what they sent is entered.
 use Prim.Native.Nat.{_-_, _≤_}
 use native.Mathlib.Omega.{arith}
 use mathlib.Core.Path.{_≡_, _∙_, subst}
 use Rattle.moving.specs.Moves.{sendOf, Sent}
-use Rattle.moving.proofs.Rounds.{sent-none, sent-more, length-sent, square-sent}
+use Rattle.moving.proofs.Rounds.{sent-none, sent-more, length-sent, length-best, square-sent}
 use Rattle.moving.proofs.send_scheduled.Statement.{statement}
 use Rattle.moving.proofs.send_scheduled.Tie as tie
 
 abbrev Inv-loop : tie.InvT-loop
-Inv-loop table places₀ cross₀ scheduled straight input₀ places cross input =
-    Sent table (sendOf straight scheduled) input places₀ places cross₀ cross × (input ≤ 16)
+Inv-loop table places₀ cross₀ best₀ scheduled straight input₀ places cross best input =
+    Sent table (sendOf straight scheduled) input places₀ places cross₀ cross best₀ best × (input ≤ 16)
 
 abbrev μ-loop : tie.MeasureT-loop
-μ-loop table places₀ cross₀ scheduled straight input₀ places cross input = 16 - input
+μ-loop table places₀ cross₀ best₀ scheduled straight input₀ places cross best input = 16 - input
 
 loop-holds : tie.Need-loop-holds Inv-loop μ-loop
 loop-holds c =
     let a = c .before .before .args in
-    (sent-none (a .table .now) (sendOf (a .straight .now) (a .scheduled .now)) (a .places .now) (a .cross .now), omega arith)
+    (sent-none (a .table .now) (sendOf (a .straight .now) (a .scheduled .now)) (a .places .now) (a .cross .now) (a .best .now), omega arith)
 
 send-number-requires : tie.Need-send-number-requires Inv-loop μ-loop
 send-number-requires c κs = omega arith
@@ -30,6 +30,14 @@ send-requires c κs =
       rw (c .before .before .send-number .ensures) (s .pre .1 (l .input) (omega arith)),
     )
 
+enter-requires : tie.Need-enter-requires Inv-loop μ-loop
+enter-requires c κs =
+    let s = c .before .before .before .before .before .before .before .before .before .before .before in
+    let l = c .before .before .before .before .before .before .before .before .loop in (
+      (s .pre .0 .0, length-best (l .inv .0) ∙ s .pre .0 .3),
+      rw (c .before .before .before .before .before .before .send-number .ensures) (s .pre .1 (l .input) (omega arith)),
+    )
+
 add-input : tie.Need-add-input Inv-loop μ-loop
 add-input c = omega arith
 
@@ -38,8 +46,9 @@ loop-less c = omega arith
 
 loop-again : tie.Need-loop-again Inv-loop μ-loop
 loop-again c =
-    let e = c .before .before .send .ensures in
-    (sent-more (c .before .before .before .before .before .before .before .loop .inv .0) (c .before .before .before .before .before .send-number .ensures) (e .0) (e .1), omega arith)
+    let l = c .before .before .before .before .before .before .before .before .before .loop in
+    let e = c .before .before .before .before .send .ensures in
+    (sent-more (l .inv .0) (c .before .before .before .before .before .before .before .send-number .ensures) (e .0) (e .1) (c .enter .ensures), omega arith)
 
 same-length : tie.Need-same-length Inv-loop μ-loop
 same-length c = length-sent (c .before .loop .inv .0)
@@ -49,7 +58,7 @@ returns c =
     let a = c .before .before .before .before .args in
     let l = c .before .loop in
     let all : l .input ≡ 16 = omega arith in
-    subst (λ n. Sent (a .table .now) (sendOf (a .straight .now) (a .scheduled .now)) n (a .places .now) (l .places) (a .cross .now) (l .cross)) all (l .inv .0)
+    subst (λ n. Sent (a .table .now) (sendOf (a .straight .now) (a .scheduled .now)) n (a .places .now) (l .places) (a .cross .now) (l .cross) (a .best .now) (l .best)) all (l .inv .0)
 
 pub send-scheduled-spec : {M : Type 1} → statement M
 send-scheduled-spec =
@@ -60,6 +69,7 @@ send-scheduled-spec =
     loop-holds
     send-number-requires
     send-requires
+    enter-requires
     add-input
     loop-less
     loop-again

@@ -11,36 +11,39 @@ ports-of-requires c κs = search needs
 
 choose-requires : tie.Need-choose-requires
 choose-requires c κs =
-    let s = c .before .before .before .before .before .before .before .before .before .before .before .before .before .before .before in (
+    let s = c .before .before .before .before .before .before .before .before .before .before .before .before .before .before .before .before in (
       s .pre .0 .readable,
       (
         (s .pre .0 .column, s .pre .0 .agrees),
         (
-          c .before .before .before .before .before .before .before .before .ports-of .ensures,
-          ((refl, refl, s .pre .1 .0), (s .pre .1 .1, s .pre .1 .2, s .pre .1 .3)),
+          c .before .before .before .before .before .before .before .before .before .ports-of .ensures,
+          ((refl, refl, s .pre .1 .0), ((s .pre .1 .1, s .pre .1 .2, s .pre .1 .3), refl)),
         ),
       ),
     )
 
 matching-of-requires : tie.Need-matching-of-requires
 matching-of-requires c κs =
-    let s = c .before .before .before .before .before .before .before .before .before .before .before .before .before .before .before .before .before .before .before .before .before .before .before .before .before .before .before .before in
+    let s = c .before .before .before .before .before .before .before .before .before .before .before .before .before .before .before .before .before .before .before .before .before .before .before .before .before .before .before .before .before in
     let r = s .pre .0 .readable in
     let h = c .before .before .before .before .before .before .before .before .before .before .before .before .choose in (
-      lent r (h .ensures .0) (h .ensures .1 .1) (h .kept .1 .1 .1 .1 .1 .1 .1 .0 ∙ s .pre .1 .1)
-          (h .kept .1 .1 .1 .1 .1 .1 .1 .1 .0 ∙ s .pre .1 .2) (h .kept .1 .1 .1 .1 .1 .1 .1 .1 .1 .0 ∙ s .pre .1 .3),
+      lent r (h .ensures .0) (h .ensures .1 .0 .1) (h .kept .1 .1 .1 .1 .1 .1 .1 .1 .0 ∙ s .pre .1 .1)
+          (h .kept .1 .1 .1 .1 .1 .1 .1 .1 .1 .0 ∙ s .pre .1 .2) (h .kept .1 .1 .1 .1 .1 .1 .1 .1 .1 .1 .0 ∙ s .pre .1 .3),
       unmatched r (h .ensures .0),
     )
 
 move-cells-requires : tie.Need-move-cells-requires
 move-cells-requires c κs =
-    let s = c .before .before .before .before .before .before .before .before .before .before .before .before .before .before .before .before .before .before .before .before .before .before .before .before .before .before .before .before .before .before .before .before .before .before .before .before .before in
-    let h = c .before .before .before .before .before .before .before .before .before .before .before .before .before .before .before .before .before .before .before .before .before .choose in
-    let m = c .before .before .before .before .before .before .before .before .matching-of in
+    let s = c .before .before .before .before .before .before .before .before .before .before .before .before .before .before .before .before .before .before .before .before .before .before .before .before .before .before .before .before .before .before .before .before .before .before .before .before .before .before .before in
+    let h = c .before .before .before .before .before .before .before .before .before .before .before .before .before .before .before .before .before .before .before .before .before .before .choose in
+    let m = c .before .before .before .before .before .before .before .before .before .matching-of in
     let ok = m .ok in
     let size : length (m .result .held) ≡ 16 = search needs in (
-      (s .pre .0, c .before .before .before .before .before .before .before .before .before .before .before .before .before .before .before .before .before .before .before .before .before .before .before .before .before .before .before .before .before .before .ports-of .ensures),
-      chosen-settled (s .pre .0 .readable) (h .ensures .0) (s .pre .0 .orderly) (m .ensures) size (h .kept .1 .1 .1 .1 .1 .1 .0 ∙ s .pre .1 .0),
+      (s .pre .0, c .before .before .before .before .before .before .before .before .before .before .before .before .before .before .before .before .before .before .before .before .before .before .before .before .before .before .before .before .before .before .before .before .ports-of .ensures),
+      (
+        chosen-settled (s .pre .0 .readable) (h .ensures .0) (s .pre .0 .orderly) (m .ensures) size (h .kept .1 .1 .1 .1 .1 .1 .1 .0 ∙ s .pre .1 .0),
+        h .ensures .1 .1,
+      ),
     )
 
 same-length : tie.Need-same-length
@@ -60,9 +63,9 @@ same-length-5 c = search needs
 
 returns : tie.Need-returns
 returns c =
-    let s = c .before .before .before .before .before .before .before .before .before .before .before .before .before .before .before .before .before .before .before .before .before .before .before .before .before .before .before .before .before .before .before .before .before .before .before .before .before .before .before .before in
-    let h = c .before .before .before .before .before .before .before .before .before .before .before .before .before .before .before .before .before .before .before .before .before .before .before .before .choose in
-    let m = c .before .before .before .before .before .before .before .before .before .before .before .matching-of in (
+    let s = c .before .before .before .before .before .before .before .before .before .before .before .before .before .before .before .before .before .before .before .before .before .before .before .before .before .before .before .before .before .before .before .before .before .before .before .before .before .before .before .before .before .before in
+    let h = c .before .before .before .before .before .before .before .before .before .before .before .before .before .before .before .before .before .before .before .before .before .before .before .before .before .choose in
+    let m = c .before .before .before .before .before .before .before .before .before .before .before .before .matching-of in (
       c .before .before .move-cells .ensures,
       chosen-proposals (s .pre .0 .readable) (h .ensures .0) (s .pre .0 .orderly) (m .ensures),
     )
