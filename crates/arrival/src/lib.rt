@@ -146,7 +146,7 @@ fn enter(table: &mut [u8], c: Cell)
     let count = table::entry::count_of(table, input);
     let at = new_place(table, c);
     move_up(table, at, 64 * input + count);
-    table::entry::write_entry(table, at, c, 1);
+    table::entry::write_entry(table, at, c, table::entry::LISTED);
     table[16 + input] = (count + 1) as u8;
 }
 

@@ -2,6 +2,7 @@
 // goes on from the best crosspoint cells that rule 3 finds.
 // Entry k of a table is a cell of input k / 64. The table and the places are only read.
 use places::NOWHERE;
+use table::entry::LISTED;
 ghost use mathlib.Core.Bool.{true, false, not};
 ghost use mathlib.Core.Path.{_≡_};
 ghost use mathlib.Core.List.{List};
@@ -19,9 +20,6 @@ ghost use Rattle.places.specs.Scan.{Readable, Holds, Bests, Scheduled, Written,
 ghost use Rattle.places.specs.Scan.{someUrgent, outputAt, rankAt, slotAt};
 ghost use Rattle.choosing.specs.Walk.{Walkable, Reached, Means, Scanned, Any, Filled, Sound};
 ghost use Rattle.choosing.specs.Walk.{flowIndex, urgentOf};
-
-// The byte of the place of a cell in a list.
-const LISTED: u8 = 1;
 
 // What a walk along the cells of an input makes of a cell: a head with an empty crosspoint, a blocked head over every
 // cell in the crosspoints of its output, or neither.

@@ -18,8 +18,8 @@ use Rattle.layout.specs.TallyBytes.{tallyOf, tallyBytes, tallySize}
 use Rattle.layout.proofs.Host.{slotCall-tally, tallyBytesAfter-broken}
 use Rattle.arrival.specs.declared.Fault.{Fault}
 use Rattle.fabric.specs.Slot.{refusalOf}
-use Rattle.entry.specs.Lent.{lentSlot}
-use Rattle.entry.proofs.FromBytes.{Answered}
+use Rattle.lent.specs.Lent.{lentSlot}
+use Rattle.lent.proofs.FromBytes.{Answered}
 use Rattle.crossbar.specs.Lent.{faultResult}
 
 -- a call with a tally of the right length comes to the slot on lent bytes

@@ -67,7 +67,7 @@ pub extern "C" fn slot(
     if tally.len() != TALLY_BYTES {
         return Refusal::BrokenTable.number() as u64;
     }
-    result_of(entry::bytes::slot(table, arrivals, answer, tally))
+    result_of(lent::bytes::slot(table, arrivals, answer, tally))
 }
 
 // 0, or the number of the refusal and 256 times the record's place.

@@ -66,7 +66,7 @@ fn choose_entry(table: &[u8], places: &[u8], best: &mut [u16; 16], k: usize)
     requires { ⌜ Chosen (now table) (now places) k (now best) ⌝ }
     ensures { λ _. ⌜ Chosen (now (table .entry)) (now (places .entry)) (k + 1) (now (best .exit)) ⌝ }
 {
-    if places[k] != 3 {
+    if places[k] != table::entry::BUFFERED {
         return;
     }
     let output = table::entry::output_of(table, k) as usize;

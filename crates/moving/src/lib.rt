@@ -1,8 +1,10 @@
-// Document 01, "One slot", rules 5 and 6: the cells move. A place is 1 in a list, 2 at a crosspoint, 3 in a buffer.
+// Document 01, "One slot", rules 5 and 6: the cells move.
 // Each rule has a function that chooses the number of a cell, 1,024 for none, a function that moves that cell, and a
 // function that does both for every port.
 use places::NOWHERE;
 use places::better;
+use table::entry::BUFFERED;
+use table::entry::CROSSED;
 ghost use mathlib.Core.Path.{_≡_};
 ghost use mathlib.Core.Bool.{true};
 ghost use Prim.Native.Nat.{ℕ, _/_, _<_, _≤_};
@@ -161,7 +163,7 @@ fn straight_to(
     if k >= 1024 {
         return;
     }
-    places[k] = 3;
+    places[k] = BUFFERED;
     inputs[k / 64] = true;
     outputs[output] = true;
 }
@@ -190,7 +192,7 @@ fn send(table: &[u8], places: &mut [u8], cross: &mut [[u16; 16]; 16], number: u1
         return;
     }
     let output = table::entry::output_of(table, k) as usize;
-    places[k] = 2;
+    places[k] = CROSSED;
     cross[k / 64][output] = number;
 }
 
@@ -229,6 +231,6 @@ fn pull(places: &mut [u8], cross: &mut [[u16; 16]; 16], number: u16, output: usi
     if k >= 1024 {
         return;
     }
-    places[k] = 3;
+    places[k] = BUFFERED;
     cross[k / 64][output] = NOWHERE;
 }

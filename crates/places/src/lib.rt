@@ -59,7 +59,7 @@ fn load_entry(table: &[u8], places: &mut [u8], row: &mut [u16; 16], k: usize)
 {
     let place = table::entry::place_of(table, k);
     places[k] = place;
-    if place == 2 {
+    if place == table::entry::CROSSED {
         row[table::entry::output_of(table, k) as usize] = k as u16;
     }
 }

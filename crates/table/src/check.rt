@@ -112,10 +112,10 @@ fn is_entry(bytes: &[u8], ports: u32, clock: u32, k: usize) -> bool
         return false;
     }
     let place = entry::place_of(bytes, k);
-    if place < 1 {
+    if place < entry::LISTED {
         return false;
     }
-    if 3 < place {
+    if entry::BUFFERED < place {
         return false;
     }
     if bytes[entry::start_of(k) + 3] != 0 {
@@ -167,10 +167,10 @@ fn flows_together(bytes: &[u8], from: usize, to: usize) -> bool
         let place = entry::place_of(bytes, k);
         let flow = flow_number(bytes, k);
         let was = seen[flow];
-        if stands_apart(bytes, is_again(place, 1, was), k, next) {
+        if stands_apart(bytes, is_again(place, entry::LISTED, was), k, next) {
             return false;
         }
-        let listed = place == 1;
+        let listed = place == entry::LISTED;
         seen[flow] = listed | was;
         next = if listed { k } else { next };
     }
@@ -261,10 +261,10 @@ fn crosspoints_differ(bytes: &[u8], from: usize, to: usize) -> bool
         let place = entry::place_of(bytes, k);
         let output = entry::output_of(bytes, k) as usize;
         let was = seen[output];
-        if is_again(place, 2, was) {
+        if is_again(place, entry::CROSSED, was) {
             return false;
         }
-        seen[output] = (place == 2) | was;
+        seen[output] = (place == entry::CROSSED) | was;
     }
     true
 }

@@ -11,6 +11,13 @@ ghost use Rattle.layout.specs.Entry.{entryAt, portsIn, countIn};
 ghost use Rattle.layout.specs.Records.{placeByteAt, recordStart, recordAt};
 ghost use Rattle.table.specs.Entries.{entryWith, flowWord};
 
+// The byte of a place: in the list, at the crosspoint, in the output's buffer.
+pub const LISTED: u8 = 1;
+
+pub const CROSSED: u8 = 2;
+
+pub const BUFFERED: u8 = 3;
+
 // The number of ports.
 pub fn ports_of(bytes: &[u8]) -> usize
     requires { ⌜ length (now bytes) ≡ tableSize ⌝ }
@@ -73,7 +80,7 @@ pub fn flow_word_of(bytes: &[u8], k: usize) -> u16
     output_of(bytes, k) as u16 + 256 * flow_of(bytes, k) as u16
 }
 
-// The byte of the place: 1 in a list, 2 at a crosspoint, 3 in an output buffer.
+// The byte of its place.
 pub fn place_of(bytes: &[u8], k: usize) -> u8
     requires { ⌜ (length (now bytes) ≡ tableSize) × (k < 1024) ⌝ }
     ensures { λ r. ⌜ (r ≡ placeByteAt (now (bytes .entry)) k) × (placeOf r ≡ entryAt (now (bytes .entry)) k .place) ⌝ }

@@ -24,8 +24,8 @@ use Rattle.layout.specs.Table.{IsTable, stateOf, encode}
 use Rattle.layout.proofs.Host.{tableAfter-refused}
 use Rattle.layout.proofs.Table.{decode-sound}
 use Rattle.fabric.specs.Slot.{refusalOf}
-use Rattle.entry.specs.Looked.{entrySlot}
-use Rattle.entry.proofs.Looking.{entry-slot}
+use Rattle.lent.specs.Looked.{recordsSlot}
+use Rattle.lent.proofs.Looking.{lent-slot}
 use Rattle.turns.specs.declared.Played.{Played}
 use Rattle.turns.specs.declared.Played.the-variants.{Ran, Stopped}
 use Rattle.play.specs.Player.{departuresText, refusalText, lineOf}
@@ -50,13 +50,13 @@ outcome-clear (refused s p) e =
     absurd (omega arith)
 
 module _ (table : List ℕ) (good : IsTable table) (room : ℕ) (space : answerSize ≤ room) (held rs : List Arrival) (same : held ≡ rs)
-    (clock l : ℕ) (buffer : List ℕ) (found : Fault) (e : found ≡ refusalOf (entrySlot table room held)) (table′ : List ℕ)
-    (t : table′ ≡ tableAfter table (entrySlot table room held)) where
+    (clock l : ℕ) (buffer : List ℕ) (found : Fault) (e : found ≡ refusalOf (recordsSlot table room held)) (table′ : List ℕ)
+    (t : table′ ≡ tableAfter table (recordsSlot table room held)) where
   abbrev outcome : Outcome Course
   outcome = slot (stateOf table) (some rs)
 
-  slot-same : entrySlot table room held ≡ outcome
-  slot-same = ap (entrySlot table room) same ∙ entry-slot table room good space rs
+  slot-same : recordsSlot table room held ≡ outcome
+  slot-same = ap (recordsSlot table room) same ∙ lent-slot table room good space rs
 
   pub slot-stopped : {r : Refusal} {place : ℕ} → found ≡ At r place → (buffer′ : List ℕ) (n k : ℕ) → k ≡ lineOf l place
       → Wrote (refusalText r k) buffer buffer′ n
@@ -72,7 +72,7 @@ module _ (table : List ℕ) (good : IsTable table) (room : ℕ) (space : answerS
       }
 
   pub slot-ran : all? arrivalFits rs ≡ true → found ≡ Clear → (answer answer′ buffer′ : List ℕ) (n : ℕ)
-      → answer′ ≡ answerAfter answer (entrySlot table room held)
+      → answer′ ≡ answerAfter answer (recordsSlot table room held)
       → Wrote (line Slot clock ++ departuresText (departuresIn 16 answer′)) buffer buffer′ n
       → SlotPlayed outcome clock l table buffer table′ buffer′ (Ran n)
   unfolding slotText playedOf answerAfter

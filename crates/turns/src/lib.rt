@@ -208,7 +208,7 @@ fn play_slot(
     let many = count as usize;
     let records = records_of(numbers, many);
     let mut answer = [0u8; 456];
-    match entry::sound_slot(table, records, many, &mut answer) {
+    match lent::sound_slot(table, records, many, &mut answer) {
         Fault::At(refusal, place) => {
             Played::Stopped(writer::put_refusal(out, 0, refusal, line_of(line, place)))
         }

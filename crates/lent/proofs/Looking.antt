@@ -1,0 +1,273 @@
+-- The records of a slot, looked at one by one.
+--     lent-table, lent-short, lent-clock, lent-slot     a slot on lent records: 2, 10, 3, then what its records say
+--     looked-before, looked-standing                        before any record; where a record may be looked at
+--     next-input                                            a record without a fault has an input in its turn
+--     looked-behind, looked-fault, looked-next              behind a fault; a record with a fault; a record without
+--     looked-all                                            all records have been looked at
+use Prim.Native.Nat.{ℕ, zero, suc, _+_, _*_, _≤_, _<_, min}
+use native.Mathlib.Omega.{arith}
+use mathlib.Core.Bool.{true, false}
+use mathlib.Core.Logic.{_≢_}
+use mathlib.Core.List.{List, [], _∷_, _++_, map}
+use mathlib.Core.Option.{Option, none, some}
+use mathlib.Core.Path.{_≡_, refl, sym, ap, ap₂, _∙_, subst}
+use borrow.Author.Tests.{ltb-false, leb-true, lt-ltb, le-ltb, le-leb, ne-eqb}
+use lib.Dec.{ltb, leb}
+use lib.ListN.{length, take, drop, length-map, drop-of-length-le}
+use Rattle.laws.proofs.Tests.{clash, and-i}
+use Rattle.cell.specs.declared.Arrival.{Arrival}
+use Rattle.cell.specs.declared.Cell.{Cell}
+use Rattle.cell.specs.declared.Refusal.{Refusal}
+use Rattle.cell.specs.declared.Refusal.the-variants.{BrokenTable, ClockEnd, ShortBuffer}
+use Rattle.cell.specs.Cell.{accepted, arrivalFits}
+use Rattle.cell.specs.Limits.{clockEnd, portLimit, fits32}
+use Rattle.model.specs.State.{Switch, cells}
+use Rattle.model.specs.Checks.{done, refused, fault, faultFrom, firstFault}
+use Rattle.model.specs.Crossbar.{run, slot}
+use Rattle.model.proofs.Admitted.{faultless}
+use Rattle.model.proofs.CheckOrder.{slot-clock-end, faults-first, faults-next}
+use Rattle.layout.specs.Answer.{answerSize}
+use Rattle.layout.specs.Arrivals.{arrivalSize, arrivalBytes, arrivalsOf}
+use Rattle.layout.specs.Entry.{portsIn, clockIn}
+use Rattle.layout.specs.Host.{slotOf}
+use Rattle.layout.specs.Table.{stateOf, decode, isTable, IsTable}
+use Rattle.layout.specs.TallyBytes.{tallySize}
+use Rattle.layout.specs.Number.{word}
+use Rattle.layout.proofs.Table.{isTable-some, sound-clock}
+use Rattle.arrival.specs.declared.Fault.{Fault}
+use Rattle.arrival.specs.declared.Fault.the-variants.{Clear, At}
+use Rattle.arrival.specs.Fault.{faultAt, turnAfter}
+use Rattle.arrival.proofs.Faults.{port-input, turn-after, clear-not}
+use Rattle.arrival.proofs.Stored.{table-sound, table-ports, table-clock, ports-below}
+use Rattle.fabric.specs.Slot.{refusalOf}
+use Rattle.lent.specs.declared.records.Checked.{Checked}
+use Rattle.lent.specs.Looked.{recordsSlot, cellsOf, Open, Before, Passed, LookedAt, Looked, StandingAt, Found}
+use Rattle.lent.proofs.Copies.{copied-next}
+
+------------------------------------------------------------------------
+-- a slot on lent records
+
+module _ (table : List ℕ) (room : ℕ) where
+  pub lent-table : isTable table ≡ false → (records : List Arrival) → recordsSlot table room records ≡ refused BrokenTable 0
+  unfolding recordsSlot slotOf
+  lent-table h records = go (decode table) refl
+    where
+      go : (o : Option Switch) → decode table ≡ o → slotOf (decode table) (some records) room tallySize ≡ refused BrokenTable 0
+      go none e = rw e
+      go (some s) e = absurd (clash (isTable-some table s e) h)
+
+  module _ (t : IsTable table) where
+    pub lent-short : room < answerSize → (records : List Arrival) → recordsSlot table room records ≡ refused ShortBuffer 0
+    unfolding recordsSlot slotOf
+    lent-short h records = rw (t, lt-ltb room answerSize h, slotOf)
+
+    pub lent-slot : answerSize ≤ room → (records : List Arrival) → recordsSlot table room records ≡ slot (stateOf table) (some records)
+    unfolding recordsSlot slotOf
+    lent-slot h records = rw (t, le-ltb room answerSize h, slotOf)
+
+    pub lent-clock : answerSize ≤ room → clockIn table ≡ clockEnd → (records : List Arrival)
+        → recordsSlot table room records ≡ refused ClockEnd 0
+    lent-clock h e records =
+        lent-slot h records ∙ slot-clock-end (stateOf table) records (table-clock table t ∙ e)
+
+  -- none of these
+  pub opened : IsTable table → answerSize ≤ room → (clock : ℕ) → clock ≡ word table 8 → (clock ≡ clockEnd → ⊥) → Open table room
+  unfolding clockIn fits32 stateOf
+  opened t h clock e early =
+      let fits : word table 8 ≤ clockEnd = leb-true _ _ (sound-clock (stateOf table) (table-sound table t)) in
+      let apart : word table 8 ≢ clockEnd = λ q. early (e ∙ q) in
+      record { sound = t; space = h; early = omega arith }
+
+  -- then by the first fault of its records
+  by-fault : (records : List Arrival) (o : Option (Refusal × ℕ)) → (stateOf table .clock ≡ clockEnd → ⊥)
+      → firstFault (stateOf table .ports) (cells (stateOf table)) (cellsOf table records) ≡ o
+      → slot (stateOf table) (some records)
+      ≡ elim o [ some f ↦ refused (f .0) (f .1) | none ↦ done (run (stateOf table) (cellsOf table records)) ]
+  unfolding slot cellsOf
+  by-fault records o early f = rw (ne-eqb (stateOf table .clock) clockEnd early, f, slot)
+
+  pub lent-fault : Open table room → (records : List Arrival) (o : Option (Refusal × ℕ))
+      → firstFault (portsIn table) (cells (stateOf table)) (cellsOf table records) ≡ o
+      → recordsSlot table room records
+      ≡ elim o [ some f ↦ refused (f .0) (f .1) | none ↦ done (run (stateOf table) (cellsOf table records)) ]
+  lent-fault h records o e =
+      lent-slot (h .sound) (h .space) records
+      ∙ by-fault records o
+      (λ q. let z : clockIn table ≡ clockEnd = sym (table-clock table (h .sound)) ∙ q in omega (arith, h .early))
+      (ap (λ p. firstFault p (cells (stateOf table)) (cellsOf table records)) (table-ports table (h .sound)) ∙ e)
+
+------------------------------------------------------------------------
+-- before any record
+
+module _ (table : List ℕ) (room : ℕ) (records : List Arrival) where
+  pub looked-before : (f : Fault) (bytes : List ℕ) → Before table room f → LookedAt table room records 0 f 0 bytes
+  unfolding turnAfter firstFault arrivalsOf
+  looked-before Clear bytes h =
+      record {
+        clear = h;
+        few = omega arith;
+        low = omega arith;
+        before = none;
+        after = refl;
+        rest = refl;
+        copied = refl;
+      }
+  looked-before (At r place) bytes h = h records
+
+  pub looked-standing : (n : ℕ) (f : Fault) (turn : ℕ) (bytes : List ℕ) → LookedAt table room records n f turn bytes
+      → StandingAt table n f turn
+  looked-standing n Clear turn bytes l = (l .clear .sound, (l .few, l .low))
+  looked-standing n (At r place) turn bytes l = tt
+
+pub standing-clear : (table : List ℕ) (n : ℕ) (f : Fault) (turn : ℕ) → f ≡ Clear → StandingAt table n f turn
+    → IsTable table × ((n ≤ turn) × (turn ≤ portLimit))
+standing-clear table n Clear turn e h = h
+standing-clear table n (At r place) turn e h = absurd (clear-not (sym e))
+
+------------------------------------------------------------------------
+-- the next record
+
+-- some record has this turn after it
+before-turn : (turn : ℕ) → (before : Option Cell) × (turnAfter before ≡ turn)
+unfolding turnAfter
+before-turn zero = (none, refl)
+before-turn (suc k) = (some (record { input = k; output = 0; flow = 0; rank = 0; tag = 0; slot = 0 }), omega arith)
+
+-- what the check of a record says
+abbrev Says : List ℕ → ℕ → ℕ → Cell → Fault → Type 0
+Says table turn place c found =
+    (before : Option Cell) → turnAfter before ≡ turn
+    → found ≡ faultAt place (fault (portsIn table) (cells (stateOf table)) before c)
+
+-- a record without a fault has none
+says-clear : (table : List ℕ) (turn place : ℕ) (c : Cell) (found : Fault) → Says table turn place c found → found ≡ Clear
+    → (before : Option Cell) → turnAfter before ≡ turn → fault (portsIn table) (cells (stateOf table)) before c ≡ none
+unfolding faultAt
+says-clear table turn place c found says clear before e = go (fault (portsIn table) (cells (stateOf table)) before c) refl
+  where
+    go : (o : Option Refusal) → fault (portsIn table) (cells (stateOf table)) before c ≡ o
+        → fault (portsIn table) (cells (stateOf table)) before c ≡ none
+    go none q = q
+    go (some r) q = absurd (clear-not (sym clear ∙ says before e ∙ ap (faultAt place) q))
+
+-- a record of numbers of 32 bits
+pub fits-arrival : (a : Arrival) → a .input < 4294967296 → a .output < 4294967296 → a .flow < 4294967296
+    → a .rank < 4294967296 → a .tag < 4294967296 → arrivalFits a ≡ true
+unfolding arrivalFits fits32
+fits-arrival a i o f r t =
+    let i′ : leb (a .input) 4294967295 ≡ true = le-leb (a .input) 4294967295 (omega arith) in
+    let o′ : leb (a .output) 4294967295 ≡ true = le-leb (a .output) 4294967295 (omega arith) in
+    let f′ : leb (a .flow) 4294967295 ≡ true = le-leb (a .flow) 4294967295 (omega arith) in
+    let r′ : leb (a .rank) 4294967295 ≡ true = le-leb (a .rank) 4294967295 (omega arith) in
+    let t′ : leb (a .tag) 4294967295 ≡ true = le-leb (a .tag) 4294967295 (omega arith) in
+    search and-i depth 9
+
+pub next-input : (table : List ℕ) (turn place clock : ℕ) (a : Arrival) (c : Cell) (found : Fault) → IsTable table
+    → c ≡ accepted clock a → Says table turn place c found → found ≡ Clear → (a .input < portLimit) × (turn ≤ a .input)
+unfolding accepted
+next-input table turn place clock a c found t is says clear =
+    let b = before-turn turn in
+    let w = faultless (portsIn table) (cells (stateOf table)) (b .0) c
+    (says-clear table turn place c found says clear (b .0) (b .1)) in
+    let same : c .input ≡ a .input = ap (λ d. d .input) is in
+    let late : turn ≤ c .input =
+    ltb-false (c .input) turn (ap (ltb (c .input)) (sym (b .1)) ∙ turn-after (b .0) c ∙ w .turn) in
+    (omega (arith, port-input (portsIn table) c (w .port), ports-below table t), omega arith)
+
+module _ (table : List ℕ) (room : ℕ) (records : List Arrival) (n : ℕ) (f : Fault) (turn : ℕ) (bytes : List ℕ)
+    (l : LookedAt table room records n f turn bytes) where
+  -- behind a fault
+  pub looked-behind : {r : Refusal} {place : ℕ} → f ≡ At r place → LookedAt table room records (n + 1) f turn bytes
+  looked-behind {r} {place} e = go f e l
+    where
+      go : (g : Fault) → g ≡ At r place → LookedAt table room records n g turn bytes → LookedAt table room records (n + 1) g turn bytes
+      go Clear e l = absurd (clear-not e)
+      go (At r place) e l = l
+
+  module _ (clear : f ≡ Clear) (a : Arrival) (here : drop n records ≡ a ∷ drop (n + 1) records) (c : Cell)
+      (is : c ≡ accepted (clockIn table) a) (found : Fault) (says : Says table turn (n + 1) c found) where
+    passed : Passed table room records n turn bytes
+    passed = subst (λ g. LookedAt table room records n g turn bytes) clear l
+
+    next : drop n (cellsOf table records) ≡ c ∷ drop (n + 1) (cellsOf table records)
+    unfolding cellsOf
+    next =
+        let same : c ≡ accepted (stateOf table .clock) a = is ∙ ap (λ k. accepted k a) (sym (table-clock table (passed .clear .sound))) in
+        drop-map n records ∙ ap (map (accepted (stateOf table .clock))) here
+        ∙ ap₂ _∷_ (sym same) (sym (drop-map (n + 1) records))
+      where
+        drop-map : (k : ℕ) (rs : List Arrival) → drop k (map (accepted (stateOf table .clock)) rs) ≡ map (accepted (stateOf table .clock)) (drop k rs)
+        drop-map zero rs = refl
+        drop-map (suc k) [] = refl
+        drop-map (suc k) (r ∷ rs) = drop-map k rs
+
+    rest-at : firstFault (portsIn table) (cells (stateOf table)) (cellsOf table records)
+        ≡ faultFrom (portsIn table) (cells (stateOf table)) (n + 1) (passed .before) (c ∷ drop (n + 1) (cellsOf table records))
+    rest-at = passed .rest ∙ ap (faultFrom (portsIn table) (cells (stateOf table)) (n + 1) (passed .before)) next
+
+    -- it has a fault
+    pub looked-fault : {r : Refusal} {place : ℕ} → found ≡ At r place → (k : ℕ) (bs : List ℕ) → LookedAt table room records (n + 1) found k bs
+    unfolding faultAt
+    looked-fault bad k bs = go (fault (portsIn table) (cells (stateOf table)) (passed .before) c) refl
+      where
+        go : (o : Option Refusal) → fault (portsIn table) (cells (stateOf table)) (passed .before) c ≡ o
+            → LookedAt table room records (n + 1) found k bs
+        go none e = absurd (clear-not (sym (says (passed .before) (passed .after) ∙ ap (faultAt (n + 1)) e) ∙ bad))
+        go (some r) e =
+            subst (λ g. LookedAt table room records (n + 1) g k bs)
+            (sym (says (passed .before) (passed .after) ∙ ap (faultAt (n + 1)) e))
+            (lent-fault table room (passed .clear) records (some (r, n + 1))
+            (rest-at ∙ faults-first _ _ (n + 1) (passed .before) c _ e))
+
+    -- it has none
+    pub looked-next : found ≡ Clear → arrivalFits a ≡ true → length bytes ≡ 320 → (new : List ℕ)
+        → new ≡ take (arrivalSize * n) bytes ++ (arrivalBytes a ++ drop (arrivalSize * n + arrivalSize) bytes)
+        → LookedAt table room records (n + 1) found (a .input + 1) new
+    unfolding turnAfter accepted
+    looked-next good fits size new e =
+        let w = next-input table turn (n + 1) (clockIn table) a c found (passed .clear .sound) is says good in
+        let same : c .input ≡ a .input = ap (λ d. d .input) is in
+        let none : fault (portsIn table) (cells (stateOf table)) (passed .before) c ≡ none =
+        says-clear table turn (n + 1) c found says good (passed .before) (passed .after) in
+        subst (λ g. LookedAt table room records (n + 1) g (a .input + 1) new) (sym good)
+        (record {
+          clear = passed .clear;
+          few = omega (arith, passed .few, w .1);
+          low = omega (arith, w .0);
+          before = some c;
+          after = ap (λ k. k + 1) same;
+          rest = rest-at ∙ faults-next _ _ (n + 1) (passed .before) c _ none;
+          copied = copied-next n bytes records a (drop (arrivalSize * n + arrivalSize) bytes) new fits
+              (omega (arith, w .0, w .1, passed .few)) here (passed .copied) e;
+        })
+
+------------------------------------------------------------------------
+-- all records
+
+module _ (table : List ℕ) (room : ℕ) (records : List Arrival) where
+  -- the first fault is none where all records have passed
+  pub passed-none : (turn : ℕ) (bytes : List ℕ) → Passed table room records (length records) turn bytes
+      → firstFault (portsIn table) (cells (stateOf table)) (cellsOf table records) ≡ none
+  unfolding faultFrom cellsOf
+  passed-none turn bytes p =
+      let past : length (map (accepted (stateOf table .clock)) records) ≤ length records =
+      omega (arith, length-map records (accepted (stateOf table .clock))) in
+      let end : drop (length records) (map (accepted (stateOf table .clock)) records) ≡ [] =
+      drop-of-length-le (map (accepted (stateOf table .clock)) records) past in
+      p .rest ∙ ap (faultFrom (portsIn table) (cells (stateOf table)) (length records + 1) (p .before)) end
+
+  pub looked-all : (n : ℕ) (c : Checked) → n ≡ min (length records) 17 → Looked table room records n c → Found table room records c
+  unfolding refusalOf
+  looked-all n c m l = go (c .fault) refl l
+    where
+      go : (f : Fault) → c .fault ≡ f → LookedAt table room records n f (c .turn) (c .bytes) → Found table room records c
+      go Clear e p =
+          let whole : n ≡ length records = omega (arith, p .few, p .low) in
+          let passed : Passed table room records (length records) (c .turn) (c .bytes) =
+          subst (λ k. Passed table room records k (c .turn) (c .bytes)) whole p in
+          record {
+            answer = e ∙ sym (ap refusalOf (lent-fault table room (passed .clear) records none (passed-none (c .turn) (c .bytes) passed)));
+            all = λ _. passed;
+          }
+      go (At r place) e p =
+          record { answer = e ∙ sym (ap refusalOf p); all = λ z. absurd (clear-not (sym z ∙ e)) }

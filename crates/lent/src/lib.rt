@@ -1,0 +1,88 @@
+// A slot on what it is lent: the arrivals are lent as a slice of records, and the tally is lent to be changed in place.
+pub mod bytes;
+mod records;
+mod running;
+
+use arrival::Fault;
+use cell::Arrival;
+use cell::Tally;
+use records::Checked;
+use records::before_records;
+use records::check_held;
+use records::check_records;
+use records::clock_refusal;
+use records::none_checked;
+use running::Ended;
+use running::run_checked;
+use tally::count;
+ghost use mathlib.Core.Path.{_≡_};
+ghost use Prim.Native.Nat.{_≤_};
+ghost use lib.ListN.{length, take};
+ghost use Rattle.model.specs.Tally.{tallyAfter};
+ghost use Rattle.layout.specs.Answer.{answerSize};
+ghost use Rattle.layout.specs.Host.{tableAfter, answerAfter};
+ghost use Rattle.layout.specs.Table.{IsTable};
+ghost use Rattle.fabric.specs.Slot.{refusalOf};
+ghost use Rattle.lent.specs.Looked.{recordsSlot};
+
+// Takes a slot on the lent table with the lent records. The table is then the one after the slot, the first bytes of the
+// answer's buffer are its answer, and the tally counts it. A refusal is the first one of: 2, the table is broken; 10, the
+// buffer is too short for the answer; 3, the clock's end; record by record 4 to 8. A refusal keeps the table and the
+// buffer, and the tally counts a refused slot.
+pub fn slot(table: &mut [u8], records: &[Arrival], answer: &mut [u8], tally: &mut Tally) -> Fault
+    ensures { λ r. ⌜ r ≡ refusalOf (recordsSlot (now (table .entry)) (length (now (answer .entry))) (now (records .entry))) ⌝ }
+    ensures { λ _. ⌜ now (table .exit) ≡ tableAfter (now (table .entry)) (recordsSlot (now (table .entry)) (length (now (answer .entry))) (now (records .entry))) ⌝ }
+    ensures { λ _. ⌜ now (answer .exit) ≡ answerAfter (now (answer .entry)) (recordsSlot (now (table .entry)) (length (now (answer .entry))) (now (records .entry))) ⌝ }
+    ensures { λ _. ⌜ now (tally .exit) ≡ tallyAfter (length (now (records .entry))) (recordsSlot (now (table .entry)) (length (now (answer .entry))) (now (records .entry))) (now (tally .entry)) ⌝ }
+{
+    let room: usize = answer.len();
+    let many: usize = records.len();
+    let before: Checked = before_records(table, room);
+    let checked: Checked = check_records(table, before, records);
+    let ended: Ended = run_checked(table, answer, checked, many);
+    count(tally, ended.ran, many as u64, ended.departures);
+    ended.fault
+}
+
+// What a slot call leaves of what it was passed by value: its refusal, and the tally.
+pub struct Called {
+    pub fault: Fault,
+    pub tally: Tally,
+}
+
+// The same slot for a caller that holds the first records and the tally by value: whoever calls it needs no reference to
+// a struct.
+pub fn slot_of(
+    table: &mut [u8],
+    records: [Arrival; 17],
+    many: usize,
+    answer: &mut [u8],
+    tally: Tally,
+) -> Called
+    requires { ⌜ many ≤ 17 ⌝ }
+    ensures { λ r. ⌜ r .fault ≡ refusalOf (recordsSlot (now (table .entry)) (length (now (answer .entry))) (take many records)) ⌝ }
+    ensures { λ r. ⌜ r .tally ≡ tallyAfter many (recordsSlot (now (table .entry)) (length (now (answer .entry))) (take many records)) tally ⌝ }
+    ensures { λ _. ⌜ now (table .exit) ≡ tableAfter (now (table .entry)) (recordsSlot (now (table .entry)) (length (now (answer .entry))) (take many records)) ⌝ }
+    ensures { λ _. ⌜ now (answer .exit) ≡ answerAfter (now (answer .entry)) (recordsSlot (now (table .entry)) (length (now (answer .entry))) (take many records)) ⌝ }
+{
+    let mut counts: Tally = tally;
+    let fault: Fault = slot(table, &records[..many], answer, &mut counts);
+    Called {
+        fault,
+        tally: counts,
+    }
+}
+
+// The same for a caller that keeps a sound table, has room for the answer and counts nothing.
+pub fn sound_slot(table: &mut [u8], records: [Arrival; 17], many: usize, answer: &mut [u8]) -> Fault
+    requires { ⌜ IsTable (now table) ⌝ }
+    requires { ⌜ answerSize ≤ length (now answer) ⌝ }
+    requires { ⌜ many ≤ 17 ⌝ }
+    ensures { λ r. ⌜ r ≡ refusalOf (recordsSlot (now (table .entry)) (length (now (answer .entry))) (take many records)) ⌝ }
+    ensures { λ _. ⌜ now (table .exit) ≡ tableAfter (now (table .entry)) (recordsSlot (now (table .entry)) (length (now (answer .entry))) (take many records)) ⌝ }
+    ensures { λ _. ⌜ now (answer .exit) ≡ answerAfter (now (answer .entry)) (recordsSlot (now (table .entry)) (length (now (answer .entry))) (take many records)) ⌝ }
+{
+    let before = none_checked(clock_refusal(table));
+    let checked = check_held(table, before, records, many);
+    run_checked(table, answer, checked, many).fault
+}

@@ -1,0 +1,162 @@
+// The records that a slot is lent: each is copied out of the slice and looked at.
+use arrival::Fault;
+use arrival::check_record;
+use cell::Arrival;
+use cell::Cell;
+use cell::Refusal;
+ghost use mathlib.Core.Path.{_≡_};
+ghost use mathlib.Core.List.{List, _∷_, _++_};
+ghost use Prim.Native.Nat.{ℕ, _+_, _≤_, min};
+ghost use lib.ListN.{length, take, drop};
+ghost use Rattle.cell.specs.declared.Arrival.{Arrival};
+ghost use Rattle.cell.specs.Cell.{accepted};
+ghost use Rattle.layout.specs.Answer.{answerSize};
+ghost use Rattle.layout.specs.Arrivals.{arrivalBytes, arrivalSize};
+ghost use Rattle.layout.specs.Table.{IsTable};
+ghost use Rattle.lent.specs.Looked.{Before, Looked, Standing, Found};
+
+// The bytes of an answer.
+const ANSWER_BYTES: usize = 456;
+
+// The number of no slot.
+const CLOCK_END: u32 = 4294967295;
+
+// The records looked at so far: what was found, the lowest input whose turn it is, and the records as bytes.
+pub struct Checked {
+    pub fault: Fault,
+    pub turn: u32,
+    pub bytes: [u8; 320],
+}
+
+// Looks at the lent records one by one, each copied out of the slice, after what was found before them. Inputs rise and
+// are below 16, so that the seventeenth record, if there is one, has a fault or stands behind one.
+pub fn check_records(table: &[u8], before: Checked, records: &[Arrival]) -> Checked
+    requires { ⌜ ((room : ℕ) × Looked (now table) room (now records) 0 before) ⌝ }
+    ensures { λ r. ⌜ ((room : ℕ) → Looked (now (table .entry)) room (now (records .entry)) 0 before
+        → Found (now (table .entry)) room (now (records .entry)) r) ⌝ }
+{
+    let mut checked: Checked = before;
+    let end: usize = few(records.len());
+    let mut n: usize = 0;
+    while n < end {
+        let a: Arrival = records[n];
+        checked = check_next(table, checked, n, a);
+        n += 1;
+    }
+    checked
+}
+
+// The same for a caller that holds the first records by value.
+pub fn check_held(table: &[u8], before: Checked, records: [Arrival; 17], many: usize) -> Checked
+    requires { ⌜ (many ≤ 17) × ((room : ℕ) × Looked (now table) room (take many records) 0 before) ⌝ }
+    ensures { λ r. ⌜ ((room : ℕ) → Looked (now (table .entry)) room (take many records) 0 before
+        → Found (now (table .entry)) room (take many records) r) ⌝ }
+{
+    check_records(table, before, &records[..many])
+}
+
+// How many of so many records are looked at.
+pub fn few(count: usize) -> usize
+    ensures { λ r. ⌜ r ≡ min count 17 ⌝ }
+{
+    if count < 17 {
+        return count;
+    }
+    17
+}
+
+// What is found before any record is looked at.
+pub fn before_records(table: &[u8], room: usize) -> Checked
+    ensures { λ r. ⌜ ((records : List Arrival) → Looked (now (table .entry)) room records 0 r) ⌝ }
+{
+    none_checked(first_refusal(table, room))
+}
+
+// No record has been looked at.
+pub fn none_checked(fault: Fault) -> Checked
+    ensures { λ r. ⌜ ((table : List ℕ) (room : ℕ) (records : List Arrival) → Before table room fault → Looked table room records 0 r) ⌝ }
+{
+    Checked {
+        fault,
+        turn: 0,
+        bytes: [0; 320],
+    }
+}
+
+// 2, 10 and 3.
+fn first_refusal(table: &[u8], room: usize) -> Fault
+    ensures { λ r. ⌜ Before (now (table .entry)) room r ⌝ }
+{
+    if !table::check::is_table(table) {
+        return Fault::At(Refusal::BrokenTable, 0);
+    }
+    if room < ANSWER_BYTES {
+        return Fault::At(Refusal::ShortBuffer, 0);
+    }
+    clock_refusal(table)
+}
+
+// 3.
+pub fn clock_refusal(table: &[u8]) -> Fault
+    requires { ⌜ IsTable (now table) ⌝ }
+    ensures { λ r. ⌜ ((room : ℕ) → answerSize ≤ room → Before (now (table .entry)) room r) ⌝ }
+{
+    if table::word::read_u32(table, 8) == CLOCK_END {
+        return Fault::At(Refusal::ClockEnd, 0);
+    }
+    Fault::Clear
+}
+
+// Looks at one record. Behind a fault nothing is looked at.
+fn check_next(table: &[u8], checked: Checked, n: usize, a: Arrival) -> Checked
+    requires { ⌜ Standing (now table) n checked ⌝ }
+    ensures { λ r. ⌜ ((room : ℕ) (records : List Arrival) → drop n records ≡ a ∷ drop (n + 1) records
+        → Looked (now (table .entry)) room records n checked → Looked (now (table .entry)) room records (n + 1) r) ⌝ }
+{
+    let fault = checked.fault;
+    let Fault::Clear = fault else {
+        return checked;
+    };
+    let mut bytes = checked.bytes;
+    let c = cell_of(a, table::word::read_u32(table, 8));
+    let found = check_record(table, checked.turn, (n + 1) as u32, c);
+    let Fault::Clear = found else {
+        return Checked {
+            fault: found,
+            turn: 0,
+            bytes,
+        };
+    };
+    put_record(&mut bytes, 20 * n, a);
+    Checked {
+        fault: found,
+        turn: a.input + 1,
+        bytes,
+    }
+}
+
+// The cell that a record would become.
+fn cell_of(a: Arrival, clock: u32) -> Cell
+    ensures { λ r. ⌜ r ≡ accepted clock a ⌝ }
+{
+    Cell {
+        input: a.input,
+        output: a.output,
+        flow: a.flow,
+        rank: a.rank,
+        tag: a.tag,
+        slot: clock,
+    }
+}
+
+// Puts the 20 bytes of a record at a place.
+fn put_record(bytes: &mut [u8], at: usize, a: Arrival)
+    requires { ⌜ at + arrivalSize ≤ length (now bytes) ⌝ }
+    ensures { λ _. ⌜ now (bytes .exit) ≡ take at (now (bytes .entry)) ++ (arrivalBytes a ++ drop (at + arrivalSize) (now (bytes .entry))) ⌝ }
+{
+    table::word::write_u32(bytes, at, a.input);
+    table::word::write_u32(bytes, at + 4, a.output);
+    table::word::write_u32(bytes, at + 8, a.flow);
+    table::word::write_u32(bytes, at + 12, a.rank);
+    table::word::write_u32(bytes, at + 16, a.tag);
+}

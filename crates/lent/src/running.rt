@@ -1,0 +1,58 @@
+// The course of a slot whose records have been looked at.
+use crate::records::Checked;
+use arrival::Fault;
+use fabric::slot::run;
+ghost use mathlib.Core.Path.{_≡_};
+ghost use Prim.Native.Nat.{_*_, _≤_};
+ghost use lib.ListN.{length};
+ghost use Rattle.layout.specs.Answer.{answerSize};
+ghost use Rattle.layout.specs.Host.{tableAfter, answerAfter};
+ghost use Rattle.arrival.specs.declared.Fault.the-variants.{Clear};
+ghost use Rattle.lent.specs.Ended.{Runs, foundOutcome, endedOf, sentIn};
+
+// What came of a slot: its refusal if it is turned back, and its departures if it ran.
+pub struct Ended {
+    pub fault: Fault,
+    pub ran: bool,
+    pub departures: u64,
+}
+
+// Runs the slot of so many records if no fault was found; else nothing is written.
+pub fn run_checked(table: &mut [u8], answer: &mut [u8], checked: Checked, count: usize) -> Ended
+    requires { ⌜ (checked .fault ≡ Clear → Runs (now table) (length (now answer)) count (checked .bytes)) ⌝ }
+    ensures { λ r. ⌜ r ≡ endedOf (foundOutcome (now (table .entry)) count (checked .fault) (checked .bytes)) ⌝ }
+    ensures { λ _. ⌜ now (table .exit) ≡ tableAfter (now (table .entry)) (foundOutcome (now (table .entry)) count (checked .fault) (checked .bytes)) ⌝ }
+    ensures { λ _. ⌜ now (answer .exit) ≡ answerAfter (now (answer .entry)) (foundOutcome (now (table .entry)) count (checked .fault) (checked .bytes)) ⌝ }
+{
+    let fault = checked.fault;
+    let Fault::Clear = fault else {
+        return Ended {
+            fault,
+            ran: false,
+            departures: 0,
+        };
+    };
+    let bytes = checked.bytes;
+    run(table, &bytes[..20 * count], answer);
+    Ended {
+        fault,
+        ran: true,
+        departures: departures_in(answer),
+    }
+}
+
+// How many departures an answer has.
+pub fn departures_in(answer: &[u8]) -> u64
+    requires { ⌜ answerSize ≤ length (now answer) ⌝ }
+    ensures { λ r. ⌜ r ≡ sentIn (now (answer .entry)) ⌝ }
+{
+    let mut count: u64 = 0;
+    let mut output: usize = 0;
+    while output < 16 {
+        if table::word::read_u32(answer, 28 * output) != 0 {
+            count += 1;
+        }
+        output += 1;
+    }
+    count
+}
