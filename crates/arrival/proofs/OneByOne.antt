@@ -38,7 +38,7 @@ use Rattle.model.proofs.SoundArrival.{arrival-admitted, arrival-room, arrival-s
 use Rattle.model.proofs.SoundLaws.{SoundTable, sound-e, sound-i}
 use Rattle.layout.specs.Arrivals.{arrivalSize, arrivalsOf}
 use Rattle.layout.specs.Entry.{portsIn, clockIn, countIn}
-use Rattle.layout.specs.Number.{bytesOf, word}
+use Rattle.layout.specs.Number.{bytesOf}
 use Rattle.layout.specs.Table.{stateOf, encode, decode, IsTable}
 use Rattle.layout.proofs.Arrivals.{arrivalOf-fits}
 use Rattle.layout.proofs.Number.{bytes?, bytes?-take, bytes?-drop, below-fits32}
@@ -119,7 +119,7 @@ records-fit (suc n) bs b room =
     (records-fit n (drop arrivalSize bs) (bytes?-drop arrivalSize bs b) rest)
 
 clock-raised : (s : Switch) (cs : List Cell)
-    → take 8 (encode s) ++ (bytesOf 4 (s .clock + 1) ++ drop (8 + 4) (encode s))
+    → take 8 (encode s) ++ (bytesOf 4 (s .clock + 1) ++ drop 12 (encode s))
     ≡ encode (arrivedBy (raised s) (take 0 cs))
 unfolding encode bytesOf arrivedBy raised arrive
 clock-raised s cs = refl
@@ -175,12 +175,11 @@ module _ (table arrivals : List ℕ) (t : IsTable table) (clear : faultIn table 
   after-state n = stateOf-encode (after n) (after-sound n)
 
   -- the clock is raised
-  pub after-first : (clock : ℕ) (first : List ℕ) → clock ≡ word table 8
-      → first ≡ take 8 table ++ (bytesOf 4 (clock + 1) ++ drop (8 + 4) table) → first ≡ encode (after 0)
-  unfolding clockIn
+  pub after-first : (clock : ℕ) (first : List ℕ) → clock ≡ clockIn table
+      → first ≡ take 8 table ++ (bytesOf 4 (clock + 1) ++ drop 12 table) → first ≡ encode (after 0)
   after-first clock first e w =
       w
-      ∙ ap₂ (λ l n. take 8 l ++ (bytesOf 4 (n + 1) ++ drop (8 + 4) l))
+      ∙ ap₂ (λ l n. take 8 l ++ (bytesOf 4 (n + 1) ++ drop 12 l))
       (sym (table-encode table t)) (e ∙ sym (table-clock table t))
       ∙ clock-raised s cs
 
@@ -300,8 +299,8 @@ pub record Slot (table arrivals : List ℕ) (clock : ℕ) (first : List ℕ) : T
   pub clear : faultIn table arrivals ≡ none
   pub early : clockIn table < clockEnd
   pub bytes : bytes? arrivals ≡ true
-  pub clock-read : clock ≡ word table 8
-  pub clock-raised : first ≡ take 8 table ++ (bytesOf 4 (clock + 1) ++ drop (8 + 4) table)
+  pub clock-read : clock ≡ clockIn table
+  pub clock-raised : first ≡ take 8 table ++ (bytesOf 4 (clock + 1) ++ drop 12 table)
 
 -- the first n records have come
 abbrev pub Came : List ℕ → List ℕ → ℕ → ℕ → List ℕ → Type 0
@@ -310,7 +309,7 @@ Came first arrivals clock n cur = cur ≡ encode (arrivedBy (stateOf first) (tak
 module _ (table arrivals : List ℕ) (clock : ℕ) (first : List ℕ) (g : Slot table arrivals clock first) where
   so-far : (n : ℕ) → arrivedBy (stateOf first) (take n (arriving clock arrivals))
       ≡ after table arrivals (g .isTable) (g .clear) (g .early) (g .bytes) n
-  unfolding arrivedBy arriving coming arrive clockIn
+  unfolding arrivedBy arriving coming arrive
   so-far n =
       let state : stateOf first ≡ after table arrivals (g .isTable) (g .clear) (g .early) (g .bytes) 0 =
       ap stateOf (after-first table arrivals (g .isTable) (g .clear) (g .early) (g .bytes) clock first

@@ -127,7 +127,7 @@ coming-at table arrivals k d h =
     arrivalsOf-at (accepted (stateOf table .clock)) (length arrivals / arrivalSize) arrivals k d h
 
 -- read with the table's clock
-pub coming-read : (table arrivals : List ℕ) (clock k : ℕ) (c : Cell) → clock ≡ word table 8
+pub coming-read : (table arrivals : List ℕ) (clock k : ℕ) (c : Cell) → clock ≡ clockIn table
     → c ≡ accepted clock (arrivalAt arrivals k) → c ≡ accepted (stateOf table .clock) (arrivalAt arrivals k)
-unfolding stateOf
+unfolding stateOf clockIn
 coming-read table arrivals clock k c e h = h ∙ ap (λ n. accepted n (arrivalAt arrivals k)) e

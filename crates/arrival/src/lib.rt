@@ -34,8 +34,8 @@ pub fn arrive(table: &mut [u8], arrivals: &[u8])
     requires { ⌜ clockIn (now table) < 4294967295 ⌝ }
     ensures { λ _. ⌜ now (table .exit) ≡ encode (arrived (now (table .entry)) (now (arrivals .entry))) ⌝ }
 {
-    let clock = table::word::read_u32(table, 8);
-    table::word::write_u32(table, 8, clock + 1);
+    let clock = table::entry::clock_of(table);
+    table::entry::write_clock(table, clock + 1);
     let count = arrivals.len() / 20;
     let mut n = 0;
     while n < count {
@@ -147,7 +147,7 @@ fn enter(table: &mut [u8], c: Cell)
     let at = new_place(table, c);
     move_up(table, at, 64 * input + count);
     table::entry::write_entry(table, at, c, table::entry::LISTED);
-    table[16 + input] = (count + 1) as u8;
+    table::entry::write_count(table, input, count + 1);
 }
 
 // The number that a new cell gets: it stands right after the last cell of its flow in the list, or in front if the

@@ -20,10 +20,11 @@ use Rattle.model.specs.State.{isListed}
 use Rattle.model.specs.Phase.{Waiting, ahead, crosspointEmpty}
 use Rattle.model.proofs.PhaseFacts.{lists, crosspoints}
 use Rattle.layout.specs.Entry.{entryAt, portsIn, countIn}
+use Rattle.table.specs.Entries.{flowNumber}
 use Rattle.places.specs.View.{waitingAt, inTable, InTable, crosspointAt}
 use Rattle.places.specs.Choices.{bestOf}
 use Rattle.places.specs.Scan.{Holds}
-use Rattle.choosing.specs.Walk.{Walkable, Seen, Reached, flowIndex, isHead, isReady, isPressing}
+use Rattle.choosing.specs.Walk.{Walkable, Seen, Reached, isHead, isReady, isPressing}
 use Rattle.places.proofs.Window.{waitingAt-cell, inTable-below, agrees-holds}
 use Rattle.choosing.proofs.Walk.{listed-byte, seen-pass, seen-mark, at-inside, at-input, head-seen}
 use Rattle.choosing.proofs.Walk.{empty-number, best-number, pressing-best}
@@ -96,30 +97,30 @@ module _ {table places : List ℕ} {cross : List (List ℕ)} {best : List ℕ} {
     is-listed = listed-byte table places k ∙ eq-eqb _ _ listed
 
     -- its flow is seen
-    pub step-marked : (next : List Bool) → next ≡ set seen (flowIndex table k) true
+    pub step-marked : (next : List Bool) → next ≡ set seen (flowNumber (entryAt table k)) true
         → Reached table places input (k + 1) next
-    unfolding flowIndex waitingAt
+    unfolding waitingAt
     step-marked next q =
         on next (subst (Seen table places input (n + 1)) (sym q)
         (seen-mark table places input n seen (reached .flows) k at is-listed step-output step-flow))
 
     -- a head is the first of its flow
-    head-flag : isHead all e ≡ not (getD seen (flowIndex table k) false)
-    unfolding flowIndex waitingAt
+    head-flag : isHead all e ≡ not (getD seen (flowNumber (entryAt table k)) false)
+    unfolding waitingAt
     head-flag =
         head-seen table places (w .readable) input n (reached .port) here k at is-listed
         ∙ ap not (sym (reached .flows .flows (entryAt table k .cell .output) (entryAt table k .cell .flow) step-output
         step-flow))
 
     -- one of its flow stands before it
-    pub step-behind : not (getD seen (flowIndex table k) false) ≡ false
+    pub step-behind : not (getD seen (flowNumber (entryAt table k)) false) ≡ false
         → (isReady all e ≡ false) × (isPressing all e ≡ false)
     unfolding isReady isPressing
     step-behind f =
         let g = head-flag ∙ f in
         (and-false-l (isHead all e) _ g, and-false-l (isHead all e) _ g)
 
-    module _ (first : not (getD seen (flowIndex table k) false) ≡ true) {o : ℕ}
+    module _ (first : not (getD seen (flowNumber (entryAt table k)) false) ≡ true) {o : ℕ}
         (out : o ≡ entryAt table k .cell .output) where
       is-head : isHead all e ≡ true
       is-head = head-flag ∙ first

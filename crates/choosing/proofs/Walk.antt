@@ -34,7 +34,7 @@ use Rattle.places.specs.View.{waitingAt, window, inTable, InTable, crosspointAt
 use Rattle.table.proofs.Fields.{placeOf-listed}
 use Rattle.places.specs.Choices.{bestOf}
 use Rattle.places.specs.Scan.{Readable, Holds}
-use Rattle.choosing.specs.Walk.{Seen, flowIndex, isOfFlow, isHead}
+use Rattle.choosing.specs.Walk.{Seen, isOfFlow, isHead}
 use Rattle.choosing.proofs.Best.{Chief, chief-of}
 use Rattle.places.proofs.Window.{waitingAt-at, waitingAt-input, waitingAt-place, window-zero, window-suc}
 use Rattle.places.proofs.Window.{window-i, window-e, window-input, inTable-i, inTable-e, inTable-input}
@@ -42,25 +42,17 @@ use Rattle.places.proofs.Window.{window-i, window-e, window-input, inTable-i, i
 ------------------------------------------------------------------------
 -- the flag of a flow
 
-module _ (seen : List Bool) (table : List ℕ) (k : ℕ) {o f : ℕ} (output : o ≡ entryAt table k .cell .output)
-    (flow : f ≡ entryAt table k .cell .flow) where
-  index : o * 8 + f ≡ flowIndex table k
-  unfolding flowIndex
-  index = ap₂ (λ o f. o * 8 + f) output flow
-
+module _ (seen : List Bool) {n flow : ℕ} (number : n ≡ flow) where
   -- it was set
-  pub flag-set : getD seen (o * 8 + f) false ≡ true
-      → (false ≡ not (getD seen (flowIndex table k) false)) × (seen ≡ set seen (flowIndex table k) true)
+  pub flag-set : getD seen n false ≡ true → (false ≡ not (getD seen flow false)) × (seen ≡ set seen flow true)
   flag-set h =
-      let g : getD seen (flowIndex table k) false ≡ true = ap (λ i. getD seen i false) (sym index) ∙ h in
-      (sym (ap not g), sym (set-getD seen (flowIndex table k) false) ∙ ap (set seen (flowIndex table k)) g)
+      let g : getD seen flow false ≡ true = ap (λ i. getD seen i false) (sym number) ∙ h in
+      (sym (ap not g), sym (set-getD seen flow false) ∙ ap (set seen flow) g)
 
   -- it was not
-  pub flag-clear : getD seen (o * 8 + f) false ≡ false
-      → (true ≡ not (getD seen (flowIndex table k) false))
-      × (set seen (o * 8 + f) true ≡ set seen (flowIndex table k) true)
-  flag-clear h =
-      (sym (ap (λ i. not (getD seen i false)) (sym index) ∙ ap not h), ap (λ i. set seen i true) index)
+  pub flag-clear : getD seen n false ≡ false
+      → (true ≡ not (getD seen flow false)) × (set seen n true ≡ set seen flow true)
+  flag-clear h = (sym (ap (λ i. not (getD seen i false)) (sym number) ∙ ap not h), ap (λ i. set seen i true) number)
 
 module _ (table places : List ℕ) where
   pub listed-byte : (k : ℕ) → isListed (waitingAt table places k .place) ≡ eqb (getD places k 0) 1
@@ -74,7 +66,7 @@ module _ (table places : List ℕ) where
     seen-zero = record {
       size = length-replicate 128 false;
       flows = λ o f lo lf.
-          getD-replicate 128 (o * 8 + f) false false (omega arith)
+          getD-replicate 128 (8 * o + f) false false (omega arith)
           ∙ sym (ap (some? (isOfFlow o f)) (window-zero table places input) ∙ some?-nil (isOfFlow o f));
     }
 
@@ -114,25 +106,25 @@ module _ (table places : List ℕ) where
 
       -- a cell in the list: its flow is seen
       pub seen-mark : isListed (e .place) ≡ true → e .cell .output < 16 → e .cell .flow < 8
-          → Seen table places input (n + 1) (set seen (e .cell .output * 8 + e .cell .flow) true)
+          → Seen table places input (n + 1) (set seen (8 * e .cell .output + e .cell .flow) true)
       unfolding isOfFlow
       seen-mark h lo lf = record {
-        size = length-set seen (e .cell .output * 8 + e .cell .flow) true ∙ s .size;
+        size = length-set seen (8 * e .cell .output + e .cell .flow) true ∙ s .size;
         flows = λ o f l m. go o f l m (compare o (e .cell .output)) (compare f (e .cell .flow));
       }
         where
           at-flow : ℕ
-          at-flow = e .cell .output * 8 + e .cell .flow
+          at-flow = 8 * e .cell .output + e .cell .flow
 
           room : at-flow < length seen
           room = omega (arith, s .size)
 
           -- of another flow
-          other : (o f : ℕ) → o < 16 → f < 8 → o * 8 + f ≢ at-flow → isOfFlow o f e ≡ false
-              → getD (set seen at-flow true) (o * 8 + f) false
+          other : (o f : ℕ) → o < 16 → f < 8 → 8 * o + f ≢ at-flow → isOfFlow o f e ≡ false
+              → getD (set seen at-flow true) (8 * o + f) false
               ≡ some? (isOfFlow o f) (window table places input (n + 1))
           other o f l m d q =
-              getD-set-other seen at-flow (o * 8 + f) true false d
+              getD-set-other seen at-flow (8 * o + f) true false d
               ∙ s .flows o f l m
               ∙ sym (last (isOfFlow o f)
               ∙ ap (λ b. some? (isOfFlow o f) (window table places input n) || b) q
@@ -147,10 +139,10 @@ module _ (table places : List ℕ) where
               go (inr x) t = x (sym (eqb-true _ _ (and-r (eqb (e .cell .output) o) (eqb (e .cell .flow) f) t)))
 
           go : (o f : ℕ) → o < 16 → f < 8 → Compared o (e .cell .output) → Compared f (e .cell .flow)
-              → getD (set seen at-flow true) (o * 8 + f) false
+              → getD (set seen at-flow true) (8 * o + f) false
               ≡ some? (isOfFlow o f) (window table places input (n + 1))
           go o f l m (equal a) (equal b) =
-              let q : o * 8 + f ≡ at-flow = omega arith in
+              let q : 8 * o + f ≡ at-flow = omega arith in
               ap (λ i. getD (set seen at-flow true) i false) q
               ∙ getD-set-same seen at-flow true false room
               ∙ sym (last (isOfFlow o f)

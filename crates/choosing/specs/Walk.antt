@@ -9,11 +9,11 @@ use lib.Dec.{eqb}
 use lib.ListN.{length, getD}
 use Rattle.laws.specs.Lists.{keep, some?, none?, all?}
 use Rattle.cell.specs.Flow.{sameFlow}
-use Rattle.cell.specs.Limits.{portLimit, cellLimit}
+use Rattle.cell.specs.Limits.{portLimit, flowLimit, cellLimit}
 use Rattle.model.specs.State.{isListed}
 use Rattle.model.specs.Phase.{Waiting, sameOutput, ahead, beats, blocked, crosspointEmpty, Phase, phase}
 use Rattle.model.proofs.PhaseFacts.{lists, crosspoints}
-use Rattle.layout.specs.Entry.{entryAt, portsIn, countIn}
+use Rattle.layout.specs.Entry.{portsIn, countIn}
 use Rattle.places.specs.Choices.{ofInput, scheduledOf, bestOf}
 use Rattle.places.specs.View.{window, inTable, Agrees}
 use Rattle.places.specs.Scan.{Readable, Column}
@@ -53,10 +53,6 @@ pub record Walkable (table places : List ℕ) (cross : List (List ℕ)) (best : 
   pub agrees : Agrees table places cross
   pub bests : (output : ℕ) → output < 16 → getD best output 0 ≡ bestOf (crosspoints (inTable table places)) output
 
--- the place of an entry's flow among those of its input
-unfoldable pub flowIndex : List ℕ → ℕ → ℕ
-flowIndex table k = entryAt table k .cell .output * 8 + entryAt table k .cell .flow
-
 -- in the list, and of this flow of its input
 unfoldable pub isOfFlow : ℕ → ℕ → Waiting → Bool
 isOfFlow output flow e = isListed (e .place) && (eqb (e .cell .output) output && eqb (e .cell .flow) flow)
@@ -65,7 +61,7 @@ isOfFlow output flow e = isListed (e .place) && (eqb (e .cell .output) output &&
 pub record Seen (table places : List ℕ) (input n : ℕ) (seen : List Bool) : Type 0 where
   pub size : length seen ≡ 128
   pub flows : (output flow : ℕ) → output < 16 → flow < 8
-      → getD seen (output * 8 + flow) false ≡ some? (isOfFlow output flow) (window table places input n)
+      → getD seen (flowLimit * output + flow) false ≡ some? (isOfFlow output flow) (window table places input n)
 
 -- the walk along the cells of an input has come to number k
 pub record Reached (table places : List ℕ) (input k : ℕ) (seen : List Bool) : Type 0 where

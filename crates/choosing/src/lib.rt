@@ -14,12 +14,13 @@ ghost use Rattle.cell.specs.Limits.{cellLimit};
 ghost use Rattle.model.specs.Phase.{Waiting, phase};
 ghost use Rattle.layout.specs.Table.{tableSize};
 ghost use Rattle.layout.specs.Entry.{entryAt, portsIn, countIn};
+ghost use Rattle.table.specs.Entries.{flowNumber};
 ghost use Rattle.places.specs.View.{inTable, waitingAt, Agrees};
 ghost use Rattle.places.specs.Choices.{bestOf, candidatesOf};
 ghost use Rattle.places.specs.Scan.{Readable, Holds, Bests, Scheduled, Written, Described, Chosen};
 ghost use Rattle.places.specs.Scan.{someUrgent, outputAt, rankAt, slotAt};
 ghost use Rattle.choosing.specs.Walk.{Walkable, Reached, Means, Scanned, Any, Filled, Sound};
-ghost use Rattle.choosing.specs.Walk.{flowIndex, urgentOf};
+ghost use Rattle.choosing.specs.Walk.{urgentOf};
 
 // What a walk along the cells of an input makes of a cell: a head with an empty crosspoint, a blocked head over every
 // cell in the crosspoints of its output, or neither.
@@ -225,11 +226,10 @@ fn kind_of(
 fn is_head(table: &[u8], seen: &mut [bool; 128], k: usize) -> bool
     requires { ⌜ (length (now table) ≡ tableSize) × (k < 1024) ⌝ }
     requires { ⌜ (entryAt (now table) k .cell .output < 16) × (entryAt (now table) k .cell .flow < 8) ⌝ }
-    ensures { λ r. ⌜ r ≡ not (getD (now (seen .entry)) (flowIndex (now (table .entry)) k) false) ⌝ }
-    ensures { λ r. ⌜ now (seen .exit) ≡ set (now (seen .entry)) (flowIndex (now (table .entry)) k) true ⌝ }
+    ensures { λ r. ⌜ r ≡ not (getD (now (seen .entry)) (flowNumber (entryAt (now (table .entry)) k)) false) ⌝ }
+    ensures { λ r. ⌜ now (seen .exit) ≡ set (now (seen .entry)) (flowNumber (entryAt (now (table .entry)) k)) true ⌝ }
 {
-    let flow = table::entry::output_of(table, k) as usize * 8
-        + table::entry::flow_of(table, k) as usize;
+    let flow = table::entry::flow_number(table, k);
     if seen[flow] {
         return false;
     }

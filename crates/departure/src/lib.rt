@@ -148,7 +148,7 @@ fn remove_from(table: &mut [u8], places: &[u8], best: &[u16; 16], input: usize)
     let end = places::end_of(table, input);
     let free = close_up(table, places, best, first, end);
     clear(table, free, end);
-    table[16 + input] = (free - first) as u8;
+    table::entry::write_count(table, input, free - first);
 }
 
 // Copies the entries that stay down, each to the next free record, and gives the first record that is free then.

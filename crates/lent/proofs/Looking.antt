@@ -32,7 +32,6 @@ use Rattle.layout.specs.Entry.{portsIn, clockIn}
 use Rattle.layout.specs.Host.{slotOf}
 use Rattle.layout.specs.Table.{stateOf, decode, isTable, IsTable}
 use Rattle.layout.specs.TallyBytes.{tallySize}
-use Rattle.layout.specs.Number.{word}
 use Rattle.layout.proofs.Table.{isTable-some, sound-clock}
 use Rattle.arrival.specs.declared.Fault.{Fault}
 use Rattle.arrival.specs.declared.Fault.the-variants.{Clear, At}
@@ -71,11 +70,11 @@ module _ (table : List ℕ) (room : ℕ) where
         lent-slot h records ∙ slot-clock-end (stateOf table) records (table-clock table t ∙ e)
 
   -- none of these
-  pub opened : IsTable table → answerSize ≤ room → (clock : ℕ) → clock ≡ word table 8 → (clock ≡ clockEnd → ⊥) → Open table room
+  pub opened : IsTable table → answerSize ≤ room → (clock : ℕ) → clock ≡ clockIn table → (clock ≡ clockEnd → ⊥) → Open table room
   unfolding clockIn fits32 stateOf
   opened t h clock e early =
-      let fits : word table 8 ≤ clockEnd = leb-true _ _ (sound-clock (stateOf table) (table-sound table t)) in
-      let apart : word table 8 ≢ clockEnd = λ q. early (e ∙ q) in
+      let fits : clockIn table ≤ clockEnd = leb-true _ _ (sound-clock (stateOf table) (table-sound table t)) in
+      let apart : clockIn table ≢ clockEnd = λ q. early (e ∙ q) in
       record { sound = t; space = h; early = omega arith }
 
   -- then by the first fault of its records

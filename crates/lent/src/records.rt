@@ -101,7 +101,7 @@ pub fn clock_refusal(table: &[u8]) -> Fault
     requires { ⌜ IsTable (now table) ⌝ }
     ensures { λ r. ⌜ ((room : ℕ) → answerSize ≤ room → Before (now (table .entry)) room r) ⌝ }
 {
-    if table::word::read_u32(table, 8) == CLOCK_END {
+    if table::entry::clock_of(table) == CLOCK_END {
         return Fault::At(Refusal::ClockEnd, 0);
     }
     Fault::Clear
@@ -118,7 +118,7 @@ fn check_next(table: &[u8], checked: Checked, n: usize, a: Arrival) -> Checked
         return checked;
     };
     let mut bytes = checked.bytes;
-    let c = cell_of(a, table::word::read_u32(table, 8));
+    let c = cell_of(a, table::entry::clock_of(table));
     let found = check_record(table, checked.turn, (n + 1) as u32, c);
     let Fault::Clear = found else {
         return Checked {

@@ -21,7 +21,8 @@ use Rattle.model.specs.State.{Entry, isListed}
 use Rattle.model.specs.Sound.{together}
 use Rattle.layout.specs.Entry.{entryAt}
 use Rattle.layout.specs.Records.{between, entriesBetween}
-use Rattle.table.specs.Check.{inRange, flowNumber, standsApart}
+use Rattle.table.specs.Check.{inRange, standsApart}
+use Rattle.table.specs.Entries.{flowNumber}
 use Rattle.layout.proofs.Records.{entryAt-input, between-mem, entriesBetween-nil, entriesBetween-split}
 use Rattle.layout.proofs.Records.{all?-entriesBetween}
 use Rattle.table.proofs.Walks.{inRange-e}
@@ -124,7 +125,7 @@ flowIs n e = eqb n (flowNumber e)
 
 flow-number : (e g : Entry) → inRange e ≡ true → inRange g ≡ true → e .cell .input ≡ g .cell .input
     → sameFlow (e .cell) (g .cell) ≡ flowIs (flowNumber e) g
-unfolding flowIs flowNumber
+unfolding flowIs
 flow-number e g he hg input =
     same (sameFlow (e .cell) (g .cell)) (eqb (flowNumber e) (flowNumber g))
     (λ t.

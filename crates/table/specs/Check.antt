@@ -1,5 +1,5 @@
 -- Whether bytes are a table, and the parts of that question in the order in which the code asks them.
-use Prim.Native.Nat.{ℕ, _+_, _*_, _/_}
+use Prim.Native.Nat.{ℕ, _+_, _/_}
 use mathlib.Core.Bool.{Bool, true, false, cond, not, _&&_}
 use mathlib.Core.List.{List}
 use mathlib.Core.Option.{none, some}
@@ -8,7 +8,7 @@ use lib.ListN.{replicate}
 use Rattle.laws.specs.Lists.{keep, all?, pairwise}
 use Rattle.cell.specs.Flow.{sameFlow}
 use Rattle.cell.specs.Order.{over}
-use Rattle.cell.specs.Limits.{portLimit, flowLimit, cellLimit, flowInRange}
+use Rattle.cell.specs.Limits.{portLimit, cellLimit, flowInRange}
 use Rattle.model.specs.State.{Entry, isListed}
 use Rattle.model.specs.Sound.{soundEntry, together, otherSlot, otherCrosspoint}
 use Rattle.layout.specs.Number.{sameBytes}
@@ -28,10 +28,6 @@ isUnused bs k = sameBytes (replicate entrySize 0) (recordAt bs k)
 -- an entry goes to an output and is of a flow that there can be
 unfoldable pub inRange : Entry → Bool
 inRange e = ltb (e .cell .output) portLimit && flowInRange (e .cell .flow)
-
--- the flows of an input by number
-unfoldable pub flowNumber : Entry → ℕ
-flowNumber e = flowLimit * e .cell .output + e .cell .flow
 
 -- a listed entry stands apart: a later one is of its flow, and the next one f is not, or should stand before it
 unfoldable pub standsApart : Bool → Entry → Entry → Bool

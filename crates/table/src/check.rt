@@ -14,7 +14,7 @@ ghost use Rattle.model.specs.Sound.{together, otherSlot, otherCrosspoint};
 ghost use Rattle.layout.specs.Table.{tableSize, isTable};
 ghost use Rattle.layout.specs.Entry.{entryAt};
 ghost use Rattle.layout.specs.Records.{between, entriesBetween};
-ghost use Rattle.table.specs.Check.{isSection, isEntry, isUnused, roomOf, inRange, flowNumber};
+ghost use Rattle.table.specs.Check.{isSection, isEntry, isUnused, roomOf, inRange};
 ghost use Rattle.table.specs.Check.{standsApart, sharesSlot};
 
 // Whether the bytes are a table.
@@ -34,7 +34,7 @@ pub fn is_table(bytes: &[u8]) -> bool
     if word::read_u32(bytes, 12) != 0 {
         return false;
     }
-    are_sections(bytes, ports, word::read_u32(bytes, 8))
+    are_sections(bytes, ports, entry::clock_of(bytes))
 }
 
 // Whether each of the sixteen sections is one of a table.
@@ -165,7 +165,7 @@ fn flows_together(bytes: &[u8], from: usize, to: usize) -> bool
     while from < k {
         k -= 1;
         let place = entry::place_of(bytes, k);
-        let flow = flow_number(bytes, k);
+        let flow = entry::flow_number(bytes, k);
         let was = seen[flow];
         if stands_apart(bytes, is_again(place, entry::LISTED, was), k, next) {
             return false;
@@ -183,14 +183,6 @@ fn is_again(place: u8, at: u8, seen: bool) -> bool
     ensures { λ r. ⌜ r ≡ (eqb place at && seen) ⌝ }
 {
     place as u32 + 256 * seen as u32 == at as u32 + 256
-}
-
-// The flow of an entry among the 128 of its input.
-fn flow_number(bytes: &[u8], k: usize) -> usize
-    requires { ⌜ (length (now bytes) ≡ tableSize) × (k < 1024) × (inRange (entryAt (now bytes) k) ≡ true) ⌝ }
-    ensures { λ r. ⌜ (r ≡ flowNumber (entryAt (now (bytes .entry)) k)) × (r < 128) ⌝ }
-{
-    8 * entry::output_of(bytes, k) as usize + entry::flow_of(bytes, k) as usize
 }
 
 // Whether an entry stands apart from those of its flow behind it, if there are such; `next` is the one right behind it.

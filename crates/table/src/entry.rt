@@ -1,15 +1,16 @@
-// The ports and the counts of a table, and the fields of its records. The record k = 64 * input + position stands at
-// byte 32 + 16 * k.
+// The header of a table and the fields of its records. In the header the ports stand at byte 4, the clock at 8, and the
+// count of an input at 16 + input. The record k = 64 * input + position stands at byte 32 + 16 * k.
 // A caller shows that the bytes have a table's length and that there is such a record; the bytes may be any.
 use cell::Cell;
 ghost use mathlib.Core.Path.{_≡_};
 ghost use mathlib.Core.List.{_++_};
 ghost use Prim.Native.Nat.{_+_, _*_, _<_, _≤_};
-ghost use lib.ListN.{length, take, drop};
+ghost use lib.ListN.{length, take, drop, set};
+ghost use Rattle.layout.specs.Number.{bytesOf};
 ghost use Rattle.layout.specs.Table.{tableSize, placeOf, entryBytes};
-ghost use Rattle.layout.specs.Entry.{entryAt, portsIn, countIn};
+ghost use Rattle.layout.specs.Entry.{entryAt, portsIn, clockIn, countIn};
 ghost use Rattle.layout.specs.Records.{placeByteAt, recordStart, recordAt};
-ghost use Rattle.table.specs.Entries.{entryWith, flowWord};
+ghost use Rattle.table.specs.Entries.{entryWith, flowWord, flowNumber};
 
 // The byte of a place: in the list, at the crosspoint, in the output's buffer.
 pub const LISTED: u8 = 1;
@@ -26,12 +27,34 @@ pub fn ports_of(bytes: &[u8]) -> usize
     crate::word::read_u32(bytes, 4) as usize
 }
 
+// The clock: the number of the next slot.
+pub fn clock_of(bytes: &[u8]) -> u32
+    requires { ⌜ length (now bytes) ≡ tableSize ⌝ }
+    ensures { λ r. ⌜ r ≡ clockIn (now (bytes .entry)) ⌝ }
+{
+    crate::word::read_u32(bytes, 8)
+}
+
+pub fn write_clock(bytes: &mut [u8], clock: u32)
+    requires { ⌜ length (now bytes) ≡ tableSize ⌝ }
+    ensures { λ _. ⌜ now (bytes .exit) ≡ take 8 (now (bytes .entry)) ++ (bytesOf 4 clock ++ drop 12 (now (bytes .entry))) ⌝ }
+{
+    crate::word::write_u32(bytes, 8, clock);
+}
+
 // How many entries an input has.
 pub fn count_of(bytes: &[u8], input: usize) -> usize
     requires { ⌜ (length (now bytes) ≡ tableSize) × (input < 16) ⌝ }
     ensures { λ r. ⌜ r ≡ countIn (now (bytes .entry)) input ⌝ }
 {
     bytes[16 + input] as usize
+}
+
+pub fn write_count(bytes: &mut [u8], input: usize, count: usize)
+    requires { ⌜ (length (now bytes) ≡ tableSize) × (input < 16) × (count < 256) ⌝ }
+    ensures { λ _. ⌜ now (bytes .exit) ≡ set (now (bytes .entry)) (16 + input) count ⌝ }
+{
+    bytes[16 + input] = count as u8;
 }
 
 // The cell of a record.
@@ -78,6 +101,15 @@ pub fn flow_word_of(bytes: &[u8], k: usize) -> u16
     ensures { λ r. ⌜ (r ≡ flowWord (entryAt (now (bytes .entry)) k .cell)) × (entryAt (now (bytes .entry)) k .cell .output < 256) ⌝ }
 {
     output_of(bytes, k) as u16 + 256 * flow_of(bytes, k) as u16
+}
+
+// The number of an entry's flow among the 128 that its input can have.
+pub fn flow_number(bytes: &[u8], k: usize) -> usize
+    requires { ⌜ (length (now bytes) ≡ tableSize) × (k < 1024) ⌝ }
+    requires { ⌜ (entryAt (now bytes) k .cell .output < 16) × (entryAt (now bytes) k .cell .flow < 8) ⌝ }
+    ensures { λ r. ⌜ (r ≡ flowNumber (entryAt (now (bytes .entry)) k)) × (r < 128) ⌝ }
+{
+    8 * output_of(bytes, k) as usize + flow_of(bytes, k) as usize
 }
 
 // The byte of its place.

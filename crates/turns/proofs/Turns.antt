@@ -40,7 +40,6 @@ use Rattle.reader.proofs.Answers.{headerIn-more, headerIn-known, nextIn-more, n
 use Rattle.reader.proofs.Pieces.{next-line}
 use Rattle.layout.specs.Entry.{clockIn}
 use Rattle.layout.specs.Host.{filled, startCall, bufferAfter}
-use Rattle.layout.specs.Number.{word}
 use Rattle.layout.specs.Table.{IsTable, decode, encode, stateOf, tableSize}
 use Rattle.layout.proofs.Host.{startCall-done}
 use Rattle.layout.proofs.Table.{decode-encode, decode-length, decode-sound, encode-clock, length-encode, sound-clock}
@@ -212,12 +211,11 @@ length-numbersOf [] = refl
 length-numbersOf (a ∷ rs) = omega (arith, length-numbersOf rs)
 
 module _ (last : Bool) (l : ℕ) (t table buffer : List ℕ) (good : IsTable table) (few : l ≤ 3 + 81 * clockIn table)
-    (clock : ℕ) (here : clock ≡ word table 8) {b : Block} (e : b ≡ blockOf t (nextIn last clock t)) where
+    (clock : ℕ) (here : clock ≡ clockIn table) {b : Block} (e : b ≡ blockOf t (nextIn last clock t)) where
   abbrev atNext : Turn
   atNext = nextTurn l (stateOf table) t (nextIn last (clockIn table) t)
 
   at-clock : atNext ≡ nextTurn l (stateOf table) t (nextIn last clock t)
-  unfolding clockIn
   at-clock = ap (λ n. nextTurn l (stateOf table) t (nextIn last n t)) (sym here)
 
   next-read : (b .answer ≡ More → ⊥) → nextIn last clock t ≡ known (next clock (from 0 t))
@@ -238,10 +236,10 @@ module _ (last : Bool) (l : ℕ) (t table buffer : List ℕ) (good : IsTable tab
   module _ (buffer′ : List ℕ) (stage : Stage) (l′ used n m : ℕ) (s : stage ≡ Over) (u : used ≡ 0) (v : m ≡ n) where
     pub next-end : b .answer ≡ EndBlock → Wrote (line End clock) buffer buffer′ n
         → Turned atNext t table buffer table buffer′ stage l′ used m
-    unfolding nextTurn stateOf
+    unfolding nextTurn stateOf clockIn
     next-end h w =
         let read = next-read (λ k. (let z : _≡_ {A = ℕ} 0 1 = cc in omega arith)) in
-        ends atNext t table buffer (line End (word table 8)) buffer′ stage l′ used n m
+        ends atNext t table buffer (line End (clockIn table)) buffer′ stage l′ used n m
         (at-clock ∙ ap (nextTurn l (stateOf table) t) (read ∙ ap known (answer-end-e last clock t e h)))
         (decode-length table (stateOf table) good) (rw here at w) s u v
 
@@ -316,8 +314,8 @@ module _ (last : Bool) (l : ℕ) (t table buffer : List ℕ) (good : IsTable tab
           goes (stateOf table) (ahead .rs) (decode-sound table (stateOf table) good) block-fits c
           (ap (λ rs. slot (stateOf table) (some rs)) (sym same-arrivals) ∙ o) in
           let less = block-size .1 in
-          plays atNext t table buffer (line Slot (word table 8) ++ departuresText (c .departures)) buffer′ table′
+          plays atNext t table buffer (line Slot (clockIn table) ++ departuresText (c .departures)) buffer′ table′
           (c .switch) (l + lines) i n
-          (at-slot ∙ ap (slotTurn (word table 8) l t (from lines (drop i t))) o)
+          (at-slot ∙ ap (slotTurn (clockIn table) l t (from lines (drop i t))) o)
           (ahead .within) (g .good) made (omega (arith, g .clock))
           (subst (λ k. Wrote (line Slot k ++ departuresText (c .departures)) buffer buffer′ n) here w)

@@ -150,7 +150,7 @@ fn next_turn(line: usize, text: &[u8], last: bool, table: &mut [u8], out: &mut [
         (now (text .entry)) (now (table .entry)) (now (out .entry)) (now (table .exit)) (now (out .exit))
         (r .stage) (r .line) (r .used) (r .written) ⌝ }
 {
-    let clock = table::word::read_u32(table, 8);
+    let clock = table::entry::clock_of(table);
     let block = reader::read_block(text, clock, last);
     let answer = block.answer;
     let records = block.records;

@@ -4,7 +4,6 @@ use mathlib.Core.Path.{_≡_, refl, _∙_}
 use native.Mathlib.Omega.{arith}
 use lib.ListN.{length}
 use Rattle.layout.proofs.Number.{bytes?-i}
-use Rattle.layout.specs.Entry.{clockIn}
 use Rattle.arrival.proofs.Stored.{table-length}
 use Rattle.arrival.proofs.OneByOne.{Slot, Came, slot-begins, slot-enters, slot-next, slot-ends}
 use Rattle.arrival.proofs.arrive.Statement.{statement}
@@ -17,15 +16,14 @@ Inv-loop table₀ arrivals clock count n₀ table n =
 abbrev μ-loop : tie.MeasureT-loop
 μ-loop table₀ arrivals clock count n₀ table n = count - n
 
-read-u32-requires : tie.Need-read-u32-requires Inv-loop μ-loop
-read-u32-requires c κs = omega (arith, table-length _ (c .before .before .before .pre .0))
+clock-of-requires : tie.Need-clock-of-requires Inv-loop μ-loop
+clock-of-requires c κs = table-length _ (c .before .before .before .pre .0)
 
-add-write-u32 : tie.Need-add-write-u32 Inv-loop μ-loop
-unfolding clockIn
-add-write-u32 c = omega (arith, c .before .read-u32 .ensures, c .before .before .before .before .before .pre .1 .1)
+add-write-clock : tie.Need-add-write-clock Inv-loop μ-loop
+add-write-clock c = omega (arith, c .before .clock-of .ensures, c .before .before .before .before .before .pre .1 .1)
 
-write-u32-requires : tie.Need-write-u32-requires Inv-loop μ-loop
-write-u32-requires c κs = omega (arith, table-length _ (c .before .before .before .before .before .pre .0))
+write-clock-requires : tie.Need-write-clock-requires Inv-loop μ-loop
+write-clock-requires c κs = table-length _ (c .before .before .before .before .before .pre .0)
 
 -- the slot, where the loop begins
 abbrev Begun : tie.After-slice-known2 Inv-loop μ-loop → Type 0
@@ -33,7 +31,7 @@ Begun c =
     let written = c .before .before in
     let read = written .before .before in
     let start = read .before .before .before .before in
-    Slot (start .args .table .now) (start .args .arrivals .now) (read .read-u32 .result) (written .write-u32 .last .0)
+    Slot (start .args .table .now) (start .args .arrivals .now) (read .clock-of .result) (written .write-clock .last .0)
 
 slot : (c : tie.After-slice-known2 Inv-loop μ-loop) → Begun c
 slot c =
@@ -45,8 +43,8 @@ slot c =
       clear = start .pre .1 .0;
       early = start .pre .1 .1;
       bytes = bytes?-i _ (λ i. read .before .before .shared-slice-known .given i .fits);
-      clock-read = read .read-u32 .ensures;
-      clock-raised = written .write-u32 .ensures;
+      clock-read = read .clock-of .ensures;
+      clock-raised = written .write-clock .ensures;
     }
 
 loop-holds : tie.Need-loop-holds Inv-loop μ-loop
@@ -80,7 +78,7 @@ loop-again c =
 
 same-length : tie.Need-same-length Inv-loop μ-loop
 same-length c =
-    c .before .loop .inv .1 ∙ c .before .before .before .before .write-u32 .kept .0
+    c .before .loop .inv .1 ∙ c .before .before .before .before .write-clock .kept .0
 
 returns : tie.Need-returns Inv-loop μ-loop
 returns c =
@@ -93,9 +91,9 @@ arrive-spec =
     (tie.spec
     Inv-loop
     μ-loop
-    read-u32-requires
-    add-write-u32
-    write-u32-requires
+    clock-of-requires
+    add-write-clock
+    write-clock-requires
     loop-holds
     record-at-requires
     enter-requires

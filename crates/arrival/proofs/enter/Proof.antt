@@ -2,7 +2,6 @@
 use mathlib.Core.Path.{_∙_}
 use native.Mathlib.Omega.{arith}
 use borrow.Author.Needs.{needs}
-use lib.ListN.{length-set}
 use Rattle.arrival.proofs.Stored.{table-length, ports-below}
 use Rattle.arrival.proofs.Arriving.{new-written, place-within, entered-bytes}
 use Rattle.arrival.proofs.enter.Statement.{statement}
@@ -51,38 +50,38 @@ write-entry-requires c κs =
       (fits .0, fits .1, omega arith, omega arith),
     )
 
-add-table : tie.Need-add-table
-add-table c = search needs
+add-write-count : tie.Need-add-write-count
+add-write-count c = search needs
 
-cast-table : tie.Need-cast-table
-cast-table c = search needs
-
-add-table-2 : tie.Need-add-table-2
-add-table-2 c = search needs
-
-slice-write-table : tie.Need-slice-write-table
-slice-write-table c =
-    let new = c .before .before in
+write-count-requires : tie.Need-write-count-requires
+write-count-requires c κs =
+    let new = c .before .before .before in
     let moved = new .before .before .before .before in
-    let start = moved .before .before .before .before .before .before .before .before in
-    let size = table-length _ (start .pre .0) in
-    let ports = ports-below _ (start .pre .0) in
-    omega (arith, new .write-entry .kept .0, moved .move-up .kept .0, start .pre .1 .0 .0)
+    let count = moved .before .before .before .before in
+    let start = count .before .before .before .before in
+    let ports = ports-below _ (start .pre .0) in (
+      new .write-entry .kept .0 ∙ moved .move-up .kept .0 ∙ table-length _ (start .pre .0),
+      omega (arith, start .pre .1 .0 .0),
+      omega (arith, count .count-of .ensures, start .pre .1 .0 .1),
+    )
 
 same-length : tie.Need-same-length
 same-length c =
-    let new = c .before .before in
+    let written = c .before .before in
+    let new = written .before .before .before .before in
     let moved = new .before .before .before .before in
-    simp length-set (new .write-entry .kept .0 ∙ moved .move-up .kept .0)
+    written .write-count .kept .0 ∙ new .write-entry .kept .0 ∙ moved .move-up .kept .0
 
 returns : tie.Need-returns
 returns c =
-    let new = c .before .before in
+    let written = c .before .before in
+    let new = written .before .before .before .before in
     let moved = new .before .before .before .before in
     let at = moved .before .before in
     let count = at .before .before in
     let start = count .before .before .before .before in
-    entered-bytes _ (start .pre .0) _ (start .pre .1 .0 .0) (start .pre .1 .0 .1) (at .new-place .result)
+    written .write-count .ensures
+    ∙ entered-bytes _ (start .pre .0) _ (start .pre .1 .0 .0) (start .pre .1 .0 .1) (at .new-place .result)
     (count .count-of .result) (moved .move-up .last .0) (new .write-entry .last .0) (at .new-place .ensures)
     (count .count-of .ensures) (moved .move-up .ensures)
     (new .write-entry .ensures ∙ new-written (at .new-place .result) (start .args .c) (moved .move-up .last .0))
@@ -98,9 +97,7 @@ enter-spec =
     add-move-up
     move-up-requires
     write-entry-requires
-    add-table
-    cast-table
-    add-table-2
-    slice-write-table
+    add-write-count
+    write-count-requires
     same-length
     returns)

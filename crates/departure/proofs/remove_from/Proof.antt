@@ -3,7 +3,7 @@ use Prim.Native.Nat.{_+_, _*_, _-_, _≤_}
 use native.Mathlib.Omega.{arith}
 use mathlib.Core.Path.{_≡_, sym, _∙_, ap, ap₂, subst}
 use borrow.Author.Needs.{needs}
-use lib.ListN.{length, length-set}
+use lib.ListN.{length}
 use Rattle.layout.specs.Entry.{countIn}
 use Rattle.departure.specs.Departing.{staying, closed, cleared, Movable}
 use Rattle.departure.proofs.Staying.{length-left, removed-section}
@@ -54,29 +54,31 @@ clear-requires c κs =
     let records = up .before .before .before .before .before .before .pre .records in
     (up .close-up .kept .0 ∙ records .size, omega (arith, few up, end), omega (arith, records .limit, end))
 
-sub-table : tie.Need-sub-table
-sub-table c = search needs
+sub-write-count : tie.Need-sub-write-count
+sub-write-count c = search needs
 
-cast-table : tie.Need-cast-table
-cast-table c =
-    let up = c .before .before .before .before .before .before in
-    omega (arith, few up, up .before .before .before .before .before .before .pre .count)
-
-add-table : tie.Need-add-table
-add-table c = search needs
-
-slice-write-table : tie.Need-slice-write-table
-slice-write-table c = search needs
+write-count-requires : tie.Need-write-count-requires
+write-count-requires c κs =
+    let clear = c .before .before .before in
+    let up = clear .before .before .before .before in
+    let start = up .before .before .before .before .before .before in (
+      clear .clear .kept .0 ∙ up .close-up .kept .0 ∙ start .pre .records .size,
+      start .pre .port,
+      omega (arith, few up, start .pre .count),
+    )
 
 same-length : tie.Need-same-length
 same-length c =
-    let clear = c .before .before in
-    length-set (clear .clear .last .0) _ _ ∙ clear .clear .kept .0 ∙ clear .before .before .before .before .close-up .kept .0
+    let written = c .before .before in
+    let clear = written .before .before .before .before in
+    let up = clear .before .before .before .before in
+    written .write-count .kept .0 ∙ clear .clear .kept .0 ∙ up .close-up .kept .0
 
 returns : tie.Need-returns
 returns c =
-    let clear = c .before .before .clear in
-    let t = c .before .before .before .before .before .before in
+    let written = c .before .before in
+    let clear = written .before .before .before .before in
+    let t = clear .before .before .before .before in
     let up = t .close-up in
     let start = t .before .before .before .before .before .before in
     let a = start .args in
@@ -84,10 +86,11 @@ returns c =
     let left = staying (a .table .now) (a .places .now) (a .best .now) (64 * a .input) (countIn (a .table .now) (a .input)) in
     let freed : end .result - up .result ≡ countIn (a .table .now) (a .input) - length left =
     omega (arith, kept t, end .ensures) in
-    removed-section (a .table .now) (a .places .now) (a .best .now) (a .input) (start .pre) (up .last .0) (clear .last .0)
-    (up .result - 64 * a .input)
+    written .write-count .ensures
+    ∙ removed-section (a .table .now) (a .places .now) (a .best .now) (a .input) (start .pre) (up .last .0)
+    (clear .clear .last .0) (up .result - 64 * a .input)
     (up .ensures .1 ∙ ap (closed (a .table .now) (a .places .now) (a .best .now) (64 * a .input)) (size (t .before .before)))
-    (clear .ensures ∙ ap₂ (cleared (up .last .0)) (kept t) freed)
+    (clear .clear .ensures ∙ ap₂ (cleared (up .last .0)) (kept t) freed)
     (omega (arith, kept t))
 
 pub remove-from-spec : {M : Type 1} → statement M
@@ -98,9 +101,7 @@ remove-from-spec =
     end-of-requires
     close-up-requires
     clear-requires
-    sub-table
-    cast-table
-    add-table
-    slice-write-table
+    sub-write-count
+    write-count-requires
     same-length
     returns)

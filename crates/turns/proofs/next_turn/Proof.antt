@@ -7,7 +7,6 @@ use lib.ListN.{length}
 use Rattle.cell.specs.declared.Refusal.the-variants.{BadLine}
 use Rattle.trace.specs.declared.Key.the-variants.{End}
 use Rattle.trace.proofs.Tests.{fits32-i}
-use Rattle.layout.specs.Entry.{clockIn}
 use Rattle.layout.proofs.Table.{decode-length}
 use Rattle.play.specs.Player.{refusalText}
 use Rattle.turns.proofs.Lines.{line-le, wrote-put, wrote-refusal}
@@ -16,9 +15,8 @@ use Rattle.turns.proofs.next_turn.Statement.{statement}
 use Rattle.turns.proofs.next_turn.Tie as tie
 
 -- the number of the line is small enough for what is added to it
-line-room : (c : tie.After-read-u32) → c .before .before .before .before .before .args .line ≤ 3 + 81 * 4294967295
-unfolding clockIn
-line-room c = omega (arith, c .before .before .before .before .before .pre .1 .0, c .read-u32 .ensures, c .read-u32 .ok)
+line-room : (c : tie.After-clock-of) → c .before .before .before .before .before .args .line ≤ 3 + 81 * 4294967295
+line-room c = omega (arith, c .before .before .before .before .before .pre .1 .0, c .clock-of .ensures, c .clock-of .ok)
 
 -- the sizes of a block
 sizes : (c : tie.After-answer) → (c .answer .given .0 .0 ≤ 16) × (c .answer .given .0 .1 .1 .0 ≤ 81)
@@ -29,10 +27,10 @@ sizes c =
     let start = read .before .before .before .before .before in
     let a = start .args in
     block-size (a .last) (a .line) (a .text .now) (a .table .now) (a .out .now) (start .pre .0) (start .pre .1 .0)
-    (read .read-u32 .result) (read .read-u32 .ensures) (block .read-block .ensures) (c .answer .given .1)
+    (read .clock-of .result) (read .clock-of .ensures) (block .read-block .ensures) (c .answer .given .1)
 
-read-u32-requires : tie.Need-read-u32-requires
-read-u32-requires c κs = omega (arith, decode-length _ _ (c .before .before .before .before .pre .0))
+clock-of-requires : tie.Need-clock-of-requires
+clock-of-requires c κs = decode-length _ _ (c .before .before .before .before .pre .0)
 
 read-block-requires : tie.Need-read-block-requires
 read-block-requires c κs = search needs
@@ -44,13 +42,12 @@ slice-aggregate-play-slot : tie.Need-slice-aggregate-play-slot
 slice-aggregate-play-slot c = sym (sizes (c .before .before) .2)
 
 play-slot-requires : tie.Need-play-slot-requires
-unfolding clockIn
 play-slot-requires c κs =
     let answer = c .before .before .before .before in
     let read = answer .before .before .before .before in
     let start = read .before .before .before .before .before in
-    let few : start .args .line ≤ 3 + 81 * read .read-u32 .result = omega (arith, start .pre .1 .0, read .read-u32 .ensures) in
-    (start .pre .0, ((read .read-u32 .ensures, few), ((sizes answer .2, sizes answer .0), start .pre .1 .1)))
+    let few : start .args .line ≤ 3 + 81 * read .clock-of .result = omega (arith, start .pre .1 .0, read .clock-of .ensures) in
+    (start .pre .0, ((read .clock-of .ensures, few), ((sizes answer .2, sizes answer .0), start .pre .1 .1)))
 
 enum-known-written : tie.Need-enum-known-written
 enum-known-written c = search needs
@@ -111,7 +108,7 @@ returns c =
     let start = read .before .before .before .before .before in
     let a = start .args in
     next-ran (a .last) (a .line) (a .text .now) (a .table .now) (a .out .now) (start .pre .0) (start .pre .1 .0)
-    (read .read-u32 .result) (read .read-u32 .ensures) (block .read-block .ensures) (answer .answer .given .1)
+    (read .clock-of .result) (read .clock-of .ensures) (block .read-block .ensures) (answer .answer .given .1)
     (played .play-slot .ensures) (c .before .written .given .1)
 
 same-length-3 : tie.Need-same-length-3
@@ -129,7 +126,7 @@ returns-2 c =
     let start = read .before .before .before .before .before in
     let a = start .args in
     next-stopped (a .last) (a .line) (a .text .now) (a .table .now) (a .out .now) (start .pre .0) (start .pre .1 .0)
-    (read .read-u32 .result) (read .read-u32 .ensures) (block .read-block .ensures) (answer .answer .given .1)
+    (read .clock-of .result) (read .clock-of .ensures) (block .read-block .ensures) (answer .answer .given .1)
     (played .play-slot .ensures) (c .before .before .written2 .given .1) (c .ended .result .stage) (c .ended .result .line)
     (c .ended .result .used) (c .ended .result .written) (c .ended .ensures .0) (c .ended .ensures .1) (c .ended .ensures .2)
 
@@ -146,9 +143,9 @@ returns-3 c =
     let read = block .before in
     let start = read .before .before .before .before .before in
     let a = start .args in
-    let size = line-le End (read .read-u32 .result) (fits32-i _ (omega (arith, read .read-u32 .ok))) in
+    let size = line-le End (read .clock-of .result) (fits32-i _ (omega (arith, read .clock-of .ok))) in
     next-end (a .last) (a .line) (a .text .now) (a .table .now) (a .out .now) (start .pre .0) (start .pre .1 .0)
-    (read .read-u32 .result) (read .read-u32 .ensures) (block .read-block .ensures) (put .put-line .last .0)
+    (read .clock-of .result) (read .clock-of .ensures) (block .read-block .ensures) (put .put-line .last .0)
     (c .ended2 .result .stage) (c .ended2 .result .line) (c .ended2 .result .used) (put .put-line .result)
     (c .ended2 .result .written) (c .ended2 .ensures .0) (c .ended2 .ensures .1) (c .ended2 .ensures .2)
     (put .before .before .enum-told .given .1)
@@ -170,7 +167,7 @@ returns-4 c =
     let start = read .before .before .before .before .before in
     let a = start .args in
     next-bad (a .last) (a .line) (a .text .now) (a .table .now) (a .out .now) (start .pre .0) (start .pre .1 .0)
-    (read .read-u32 .result) (read .read-u32 .ensures) (block .read-block .ensures) (put .put-refusal .last .0)
+    (read .clock-of .result) (read .clock-of .ensures) (block .read-block .ensures) (put .put-refusal .last .0)
     (c .ended3 .result .stage) (c .ended3 .result .line) (c .ended3 .result .used) (put .put-refusal .result)
     (c .ended3 .result .written) (c .ended3 .ensures .0) (c .ended3 .ensures .1) (c .ended3 .ensures .2)
     (told .answer2 .given .1)
@@ -187,13 +184,13 @@ returns-5 c =
     let start = read .before .before .before .before .before in
     let a = start .args in
     next-more (a .last) (a .line) (a .text .now) (a .table .now) (a .out .now) (start .pre .0) (start .pre .1 .0)
-    (read .read-u32 .result) (read .read-u32 .ensures) (block .read-block .ensures) (c .enum-told2 .given .1)
+    (read .clock-of .result) (read .clock-of .ensures) (block .read-block .ensures) (c .enum-told2 .given .1)
 
 pub next-turn-spec : {M : Type 1} → statement M
 next-turn-spec =
     tie.close
     (tie.spec
-    read-u32-requires
+    clock-of-requires
     read-block-requires
     enum-known-answer
     slice-aggregate-play-slot

@@ -3,7 +3,6 @@ use mathlib.Core.Path.{ap, _∙_}
 use native.Mathlib.Omega.{arith}
 use borrow.Author.Needs.{needs}
 use Rattle.cell.specs.Cell.{accepted}
-use Rattle.layout.specs.Entry.{clockIn}
 use Rattle.arrival.proofs.Stored.{table-length}
 use Rattle.lent.proofs.Looking.{standing-clear, next-input, looked-behind, looked-fault, looked-next}
 use Rattle.lent.proofs.Typed.{arrival-fits, checked-size}
@@ -22,12 +21,12 @@ returns c =
     λ room records here l. looked-behind (a .table .now) room records (a .n) (a .checked .fault) (a .checked .turn)
     (a .checked .bytes) l (c .enum-told2 .given .1)
 
-read-u32-requires : tie.Need-read-u32-requires
-read-u32-requires c κs =
+clock-of-requires : tie.Need-clock-of-requires
+clock-of-requires c κs =
     let told = c .before in
     let start = told .before .before .before in
     let stands = standing-clear (start .args .table .now) (start .args .n) _ _ (told .enum-told .given .1) (start .pre) in
-    omega (arith, table-length _ (stands .0))
+    table-length _ (stands .0)
 
 cell-of-requires : tie.Need-cell-of-requires
 cell-of-requires c κs = search needs
@@ -59,7 +58,6 @@ enum-told-4 : tie.Need-enum-told-4
 enum-told-4 c = search needs
 
 returns-2 : tie.Need-returns-2
-unfolding clockIn
 returns-2 c =
     let check = c .before .before in
     let cell = check .before in
@@ -68,7 +66,7 @@ returns-2 c =
     let a = told .before .before .before .args in
     λ room records here l. looked-fault (a .table .now) room records (a .n) (a .checked .fault) (a .checked .turn)
     (a .checked .bytes) l (told .enum-told .given .1) (a .a) here (cell .cell-of .result)
-    (cell .cell-of .ensures ∙ ap (λ k. accepted k (a .a)) (read .read-u32 .ensures)) (check .check-record .result)
+    (cell .cell-of .ensures ∙ ap (λ k. accepted k (a .a)) (read .clock-of .ensures)) (check .check-record .result)
     (check .check-record .ensures) (c .enum-told4 .given .1) _ _
 
 slice-aggregate-put-record : tie.Need-slice-aggregate-put-record
@@ -105,7 +103,6 @@ add-t9 c =
     omega (arith, turns .0)
 
 returns-3 : tie.Need-returns-3
-unfolding clockIn
 returns-3 c =
     let put = c .before .before in
     let good = put .before .before in
@@ -117,7 +114,7 @@ returns-3 c =
     let a = start .args in
     λ room records here l. looked-next (a .table .now) room records (a .n) (a .checked .fault) (a .checked .turn)
     (a .checked .bytes) l (told .enum-told .given .1) (a .a) here (cell .cell-of .result)
-    (cell .cell-of .ensures ∙ ap (λ k. accepted k (a .a)) (read .read-u32 .ensures)) (check .check-record .result)
+    (cell .cell-of .ensures ∙ ap (λ k. accepted k (a .a)) (read .clock-of .ensures)) (check .check-record .result)
     (check .check-record .ensures) (good .enum-told3 .given .1)
     (arrival-fits (a .a) _ (start .good .1 .1 .1 .0)) (checked-size (a .checked) _ (start .good .1 .0)) _
     (put .put-record .ensures)
@@ -129,7 +126,7 @@ check-next-spec =
     enum-told
     enum-told-2
     returns
-    read-u32-requires
+    clock-of-requires
     cell-of-requires
     add-check-record
     cast-check-record

@@ -13,6 +13,7 @@ use Rattle.layout.specs.Records.{entriesBetween}
 use Rattle.table.specs.Check.{inRange, standsApart}
 use Rattle.table.proofs.Fields.{placeOf-listed}
 use Rattle.layout.proofs.Records.{entriesBetween-each}
+use Rattle.table.proofs.Walks.{inRange-e}
 use Rattle.table.proofs.Flows.{Flows, section-good, flows-start, flows-mark, flows-pass, flows-stop, flows-end}
 use Rattle.table.proofs.check.flows_together.Statement.{statement}
 use Rattle.table.proofs.check.flows_together.Tie as tie
@@ -78,7 +79,7 @@ place-of-requires : tie.Need-place-of-requires Inv-loop μ-loop
 place-of-requires c κs = search needs
 
 flow-number-requires : tie.Need-flow-number-requires Inv-loop μ-loop
-flow-number-requires c κs = (c .before .before .before .before .pre .0 .0, omega arith, range c)
+flow-number-requires c κs = ((c .before .before .before .before .pre .0 .0, omega arith), inRange-e _ (range c))
 
 array-read-was : tie.Need-array-read-was Inv-loop μ-loop
 array-read-was c = c .flow-number .ensures .1

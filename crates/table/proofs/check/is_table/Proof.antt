@@ -5,6 +5,7 @@ use borrow.Author.Needs.{needs}
 use Rattle.laws.specs.Lists.{all?}
 use Rattle.laws.proofs.Tests.{clash, by-fail, same, not-e, not-false-e}
 use Rattle.cell.specs.Limits.{portsInRange}
+use Rattle.layout.specs.Entry.{clockIn}
 use Rattle.layout.specs.Records.{between}
 use Rattle.table.specs.Check.{isSection}
 use Rattle.table.proofs.Fields.{known-bytes}
@@ -45,8 +46,8 @@ returns-4 : tie.Need-returns-4
 returns-4 c =
     fails (c .before .before .before .before .before .before .before .before .before) (λ t. c .if4 .taken (c .before .read-u323 .ensures ∙ t .zeros))
 
-read-u32-requires-4 : tie.Need-read-u32-requires-4
-read-u32-requires-4 c κs = search needs
+clock-of-requires : tie.Need-clock-of-requires
+clock-of-requires c κs = search needs
 
 are-sections-requires : tie.Need-are-sections-requires
 are-sections-requires c κs =
@@ -59,6 +60,7 @@ are-sections-requires c κs =
     )
 
 returns-5 : tie.Need-returns-5
+unfolding clockIn
 returns-5 c =
     let clock = c .before in
     let else4 = clock .before in
@@ -73,7 +75,7 @@ returns-5 c =
     let whole =
     c .are-sections .ensures
     ∙ ap₂ (λ ports clock. all? (isSection ports clock bs) (between 0 16)) (ports .read-u322 .ensures)
-    (clock .read-u324 .ensures) in
+    (clock .clock-of .ensures) in
     same (c .are-sections .result) (isTable bs)
     (λ t.
     isTable-i bs (known-bytes bs (else1 .before .shared-slice-known .given))
@@ -101,6 +103,6 @@ is-table-spec =
     returns-3
     read-u32-requires-3
     returns-4
-    read-u32-requires-4
+    clock-of-requires
     are-sections-requires
     returns-5)
