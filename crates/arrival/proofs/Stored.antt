@@ -1,7 +1,7 @@
 -- What the bytes of a table and of a slot's arrivals hold.
 --     is-table, table-sound, -encode, -length, -ports, -clock    what it is to be a table
 --     section-length, section-entry                    a section, its entries by their numbers
---     arrivalAt-cell, length-coming, coming-at, coming-read    the records of a slot
+--     arrivalAt-fields, length-coming, coming-at, coming-read    the records of a slot
 use Prim.Native.Nat.{ℕ, zero, suc, _+_, _*_, _/_, _≤_, _<_}
 use mathlib.Core.Bool.{true, false≢true}
 use mathlib.Core.Path.{_≡_, refl, sym, _∙_, ap}
@@ -87,11 +87,11 @@ module _ (bs : List ℕ) (k : ℕ) where
   arrivalAt-word at h = sym (numberAt-part 4 at 20 (20 * k) bs h)
 
   -- the cell whose fields are read
-  pub arrivalAt-cell : (c : Cell) → c .input ≡ word bs (20 * k) → c .output ≡ word bs (20 * k + 4)
-      → c .flow ≡ word bs (20 * k + 8) → c .rank ≡ word bs (20 * k + 12) → c .tag ≡ word bs (20 * k + 16)
-      → c ≡ accepted (c .slot) (arrivalAt bs k)
-  unfolding accepted arrivalAt arrivalOf
-  arrivalAt-cell c i o f r t =
+  pub arrivalAt-fields : (a : Arrival) → a .input ≡ word bs (20 * k) → a .output ≡ word bs (20 * k + 4)
+      → a .flow ≡ word bs (20 * k + 8) → a .rank ≡ word bs (20 * k + 12) → a .tag ≡ word bs (20 * k + 16)
+      → a ≡ arrivalAt bs k
+  unfolding arrivalAt arrivalOf
+  arrivalAt-fields a i o f r t =
       let first : 20 * k ≡ 20 * k + 0 = omega arith in
       λ x. record {
         input = (i ∙ ap (word bs) first ∙ arrivalAt-word 0 (omega arith)) x;
@@ -99,7 +99,6 @@ module _ (bs : List ℕ) (k : ℕ) where
         flow = (f ∙ arrivalAt-word 8 (omega arith)) x;
         rank = (r ∙ arrivalAt-word 12 (omega arith)) x;
         tag = (t ∙ arrivalAt-word 16 (omega arith)) x;
-        slot = c .slot;
       }
 
 arrivalsOf-at : {A : Type 0} (f : Arrival → A) (n : ℕ) (bs : List ℕ) (k : ℕ) (d : A) → k < n

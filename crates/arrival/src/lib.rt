@@ -16,6 +16,7 @@ ghost use Rattle.table.specs.Entries.{flowWord};
 ghost use Rattle.arrival.specs.Arrival.{entered, arrived, enterPlace, movedUp};
 ghost use Rattle.arrival.specs.Fault.{sectionIn, arrivalAt, faultIn, faultAt};
 ghost use Rattle.arrival.specs.Fault.{turnAfter, outranks};
+use cell::Arrival;
 use cell::Cell;
 use cell::Refusal;
 use cell::Switch;
@@ -39,7 +40,8 @@ pub fn arrive(table: &mut [u8], arrivals: &[u8])
     let count = arrivals.len() / 20;
     let mut n = 0;
     while n < count {
-        let c = record_at(arrivals, n, clock);
+        let a = record_at(arrivals, n);
+        let c = cell_of(a, clock);
         enter(table, c);
         n += 1;
     }
@@ -195,18 +197,31 @@ fn move_up(table: &mut [u8], at: usize, end: usize)
     }
 }
 
-// The cell that a record would become.
-fn record_at(arrivals: &[u8], k: usize, clock: u32) -> Cell
+// The cell that a record becomes where it is accepted in this slot.
+pub fn cell_of(a: Arrival, clock: u32) -> Cell
+    ensures { λ r. ⌜ r ≡ accepted clock a ⌝ }
+{
+    Cell {
+        input: a.input,
+        output: a.output,
+        flow: a.flow,
+        rank: a.rank,
+        tag: a.tag,
+        slot: clock,
+    }
+}
+
+// The record at a place.
+pub fn record_at(arrivals: &[u8], k: usize) -> Arrival
     requires { ⌜ 20 * k + 20 ≤ length (now arrivals) ⌝ }
-    ensures { λ r. ⌜ r ≡ accepted clock (arrivalAt (now (arrivals .entry)) k) ⌝ }
+    ensures { λ r. ⌜ r ≡ arrivalAt (now (arrivals .entry)) k ⌝ }
 {
     let at = 20 * k;
-    Cell {
+    Arrival {
         input: table::word::read_u32(arrivals, at),
         output: table::word::read_u32(arrivals, at + 4),
         flow: table::word::read_u32(arrivals, at + 8),
         rank: table::word::read_u32(arrivals, at + 12),
         tag: table::word::read_u32(arrivals, at + 16),
-        slot: clock,
     }
 }

@@ -1,5 +1,4 @@
 -- Records read from bytes, and a slot on the first of them.
---     read-record              the record whose fields are read
 --     read-none, read-next     the records read so far
 --     lent-first              a slot looks at no record behind the seventeenth
 --     lent-torn, lent-called   a slot on bytes: no whole number of records, or the slot on the first of them
@@ -30,7 +29,6 @@ use Rattle.model.proofs.CheckOrder.{faults-first, faults-next}
 use Rattle.layout.specs.Answer.{answerSize}
 use Rattle.layout.specs.Arrivals.{arrivalSize, arrivalOf, arrivalsOf, recordsOf}
 use Rattle.layout.specs.Host.{slotOf, tableAfter, answerAfter}
-use Rattle.layout.specs.Number.{word}
 use Rattle.layout.specs.Table.{decode}
 use Rattle.layout.specs.TallyBytes.{tallyOf, tallyBytes}
 use Rattle.layout.proofs.Arrivals.{recordsOf-whole, recordsOf-broken, length-arrivalsOf}
@@ -39,7 +37,6 @@ use Rattle.arrival.specs.declared.Fault.{Fault}
 use Rattle.arrival.specs.declared.Fault.the-variants.{At}
 use Rattle.arrival.specs.Fault.{arrivalAt, turnAfter}
 use Rattle.arrival.proofs.Faults.{port-input, turn-after}
-use Rattle.arrival.proofs.Stored.{arrivalAt-cell}
 use Rattle.fabric.specs.Slot.{refusalOf}
 use Rattle.tally.specs.Counted.{countedAs}
 use Rattle.lent.specs.Lent.{lentSlot}
@@ -48,15 +45,6 @@ use Rattle.lent.proofs.Copies.{arrivalsOf-more}
 
 ------------------------------------------------------------------------
 -- the bytes
-
-pub read-record : (bs : List ℕ) (k : ℕ) (a : Arrival) → a .input ≡ word bs (20 * k) → a .output ≡ word bs (20 * k + 4)
-    → a .flow ≡ word bs (20 * k + 8) → a .rank ≡ word bs (20 * k + 12) → a .tag ≡ word bs (20 * k + 16)
-    → a ≡ arrivalAt bs k
-unfolding accepted
-read-record bs k a i o f r t =
-    ap (λ (c : Cell). record { input = c .input; output = c .output; flow = c .flow; rank = c .rank; tag = c .tag })
-    (arrivalAt-cell bs k
-    (record { input = a .input; output = a .output; flow = a .flow; rank = a .rank; tag = a .tag; slot = 0 }) i o f r t)
 
 pub read-none : (bs : List ℕ) → [] ≡ arrivalsOf 0 bs
 unfolding arrivalsOf

@@ -1,15 +1,14 @@
 // The records that a slot is lent: each is copied out of the slice and looked at.
 use arrival::Fault;
+use arrival::cell_of;
 use arrival::check_record;
 use cell::Arrival;
-use cell::Cell;
 use cell::Refusal;
 ghost use mathlib.Core.Path.{_≡_};
 ghost use mathlib.Core.List.{List, _∷_, _++_};
 ghost use Prim.Native.Nat.{ℕ, _+_, _≤_, min};
 ghost use lib.ListN.{length, take, drop};
 ghost use Rattle.cell.specs.declared.Arrival.{Arrival};
-ghost use Rattle.cell.specs.Cell.{accepted};
 ghost use Rattle.layout.specs.Answer.{answerSize};
 ghost use Rattle.layout.specs.Arrivals.{arrivalBytes, arrivalSize};
 ghost use Rattle.layout.specs.Table.{IsTable};
@@ -132,20 +131,6 @@ fn check_next(table: &[u8], checked: Checked, n: usize, a: Arrival) -> Checked
         fault: found,
         turn: a.input + 1,
         bytes,
-    }
-}
-
-// The cell that a record would become.
-fn cell_of(a: Arrival, clock: u32) -> Cell
-    ensures { λ r. ⌜ r ≡ accepted clock a ⌝ }
-{
-    Cell {
-        input: a.input,
-        output: a.output,
-        flow: a.flow,
-        rank: a.rank,
-        tag: a.tag,
-        slot: clock,
     }
 }
 

@@ -1,8 +1,9 @@
 -- The records that have come so far are in the table, whose clock is raised first.
 use Prim.Native.Nat.{_-_, _≤_}
-use mathlib.Core.Path.{_≡_, refl, _∙_}
+use mathlib.Core.Path.{_≡_, refl, _∙_, ap}
 use native.Mathlib.Omega.{arith}
 use lib.ListN.{length}
+use Rattle.cell.specs.Cell.{accepted}
 use Rattle.layout.proofs.Number.{bytes?-i}
 use Rattle.arrival.proofs.Stored.{table-length}
 use Rattle.arrival.proofs.OneByOne.{Slot, Came, slot-begins, slot-enters, slot-next, slot-ends}
@@ -53,11 +54,14 @@ loop-holds c = (omega arith, refl, slot-begins _ _ _ _ (slot c))
 record-at-requires : tie.Need-record-at-requires Inv-loop μ-loop
 record-at-requires c κs = omega arith
 
+cell-of-requires : tie.Need-cell-of-requires Inv-loop μ-loop
+cell-of-requires c κs = tt
+
 enter-requires : tie.Need-enter-requires Inv-loop μ-loop
 enter-requires c κs =
-    let at = c .before .before .before in
+    let at = c .before .before .before .before in
     slot-enters _ _ _ _ (slot (at .before)) (at .loop .n) _ (at .loop .inv .2) (omega arith) _
-    (c .before .record-at .ensures)
+    (c .before .cell-of .ensures ∙ ap (accepted _) (c .before .before .record-at .ensures))
 
 add-n : tie.Need-add-n Inv-loop μ-loop
 add-n c = omega arith
@@ -68,12 +72,13 @@ loop-less c = omega arith
 loop-again : tie.Need-loop-again Inv-loop μ-loop
 loop-again c =
     let new = c .before .before in
-    let read = new .before .before in
+    let become = new .before .before in
+    let read = become .before in
     let at = read .before .before in (
       omega arith,
       omega (arith, new .enter .kept .0),
-      slot-next _ _ _ _ (slot (at .before)) (at .loop .n) _ (at .loop .inv .2) (omega arith) _ (read .record-at .ensures)
-          (new .enter .last .0) (new .enter .ensures),
+      slot-next _ _ _ _ (slot (at .before)) (at .loop .n) _ (at .loop .inv .2) (omega arith) _
+          (become .cell-of .ensures ∙ ap (accepted _) (read .record-at .ensures)) (new .enter .last .0) (new .enter .ensures),
     )
 
 same-length : tie.Need-same-length Inv-loop μ-loop
@@ -96,6 +101,7 @@ arrive-spec =
     write-clock-requires
     loop-holds
     record-at-requires
+    cell-of-requires
     enter-requires
     add-n
     loop-less

@@ -1,6 +1,6 @@
 -- The record whose fields are read is the one at its place.
 use borrow.Author.Needs.{needs}
-use Rattle.arrival.proofs.Stored.{arrivalAt-cell}
+use Rattle.arrival.proofs.Stored.{arrivalAt-fields}
 use Rattle.arrival.proofs.record_at.Statement.{statement}
 use Rattle.arrival.proofs.record_at.Tie as tie
 
@@ -37,7 +37,7 @@ read-u32-requires-5 c κs = search needs
 returns : tie.Need-returns
 returns c =
     let start = c .before .before .before .before .before .before in
-    arrivalAt-cell (start .args .arrivals .now) (start .args .k) _
+    arrivalAt-fields (start .args .arrivals .now) (start .args .k) _
     (c .before .before .before .before .read-u32 .ensures) (c .before .before .before .read-u322 .ensures)
     (c .before .before .read-u323 .ensures) (c .before .read-u324 .ensures) (c .read-u325 .ensures)
 

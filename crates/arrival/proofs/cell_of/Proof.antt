@@ -1,8 +1,8 @@
 -- The fields are copied, beside the slot's number.
 use mathlib.Core.Path.{refl}
 use Rattle.cell.specs.Cell.{accepted}
-use Rattle.lent.proofs.records.cell_of.Statement.{statement}
-use Rattle.lent.proofs.records.cell_of.Tie as tie
+use Rattle.arrival.proofs.cell_of.Statement.{statement}
+use Rattle.arrival.proofs.cell_of.Tie as tie
 
 returns : tie.Need-returns
 unfolding accepted
