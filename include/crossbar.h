@@ -3,8 +3,9 @@
 
    The switch is a table of bytes that the host keeps and lends to every call: start makes one, slot runs it for one
    slot, check says whether bytes are one. No call asks anything of the values that it is lent: a bad one is a refusal.
-   A call keeps nothing, allocates nothing and has no state of its own. No pointer may be null, not even that of no
-   bytes, and what one call is lent may not overlap. docs/LAYOUT.md has every byte. */
+   A call keeps nothing, allocates nothing and has no state of its own, so any number of threads may call, each with
+   bytes of its own. A pointer to no bytes may be null: an empty slot is lent NULL, 0. Any other pointer is to as many
+   bytes as the number behind it says, and what one call is lent does not overlap. docs/LAYOUT.md has every byte. */
 #ifndef CROSSBAR_H
 #define CROSSBAR_H
 
@@ -14,6 +15,11 @@
 #ifdef __cplusplus
 extern "C" {
 #endif
+
+/* The version of this header and of the library that it describes, and the number of the table's layout, with which
+   every table begins. */
+#define CROSSBAR_VERSION "1.0.0"
+#define CROSSBAR_LAYOUT 1u
 
 /* Limits. */
 #define CROSSBAR_PORTS 16u /* ports at most */

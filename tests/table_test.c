@@ -1,5 +1,6 @@
 /* Tests start and check through the static library, against a check of the table that is written here from
-   docs/LAYOUT.md and document 01 alone. Prints one line and ends with 0 if all agree. */
+   docs/LAYOUT.md and document 01 alone; and every call with null for no bytes. Prints one line and ends with 0 if all
+   agree. */
 #include <stdio.h>
 #include <stdlib.h>
 #include <string.h>
@@ -171,9 +172,45 @@ static void test_check(void) {
     }
 }
 
+static void expect(int held, const char *what, long where) {
+    if (!held) fail(what, where);
+    cases++;
+}
+
+/* A pointer to no bytes may be null: the call answers as it does for any other pointer to no bytes. */
+static void test_null(void) {
+    static uint8_t table[CROSSBAR_TABLE_BYTES], other[CROSSBAR_TABLE_BYTES], arrival[CROSSBAR_ARRIVAL_BYTES];
+    static uint8_t answer[CROSSBAR_ANSWER_BYTES], same_answer[CROSSBAR_ANSWER_BYTES], none[1];
+    static uint8_t tally[CROSSBAR_TALLY_BYTES], same_tally[CROSSBAR_TALLY_BYTES];
+    expect(start(2, 0, NULL, 0) == CROSSBAR_SHORT_BUFFER, "start in null", 0);
+    expect(start(0, 0, NULL, 0) == CROSSBAR_BAD_SIZE, "start of no ports in null", 0);
+    expect(check(NULL, 0) == CROSSBAR_BROKEN_TABLE, "check of null", 0);
+    expect(start(2, 7, table, sizeof table) == 0, "start", 0);
+    put32(arrival + 12, 5);
+    expect(slot(table, sizeof table, arrival, sizeof arrival, answer, sizeof answer, tally, sizeof tally) == 0, "slot", 0);
+    for (int i = 0; i < 3; i++) {
+        memcpy(other, table, sizeof table);
+        memcpy(same_answer, answer, sizeof answer);
+        memcpy(same_tally, tally, sizeof tally);
+        expect(slot(table, sizeof table, NULL, 0, answer, sizeof answer, tally, sizeof tally) == 0, "an empty slot", i);
+        expect(slot(other, sizeof other, none, 0, same_answer, sizeof answer, same_tally, sizeof tally) == 0, "its like", i);
+        expect(memcmp(table, other, sizeof table) == 0, "the table of an empty slot", i);
+        expect(memcmp(answer, same_answer, sizeof answer) == 0, "the answer of an empty slot", i);
+        expect(memcmp(tally, same_tally, sizeof tally) == 0, "the tally of an empty slot", i);
+    }
+    memcpy(other, table, sizeof table);
+    expect(slot(NULL, 0, NULL, 0, answer, sizeof answer, tally, sizeof tally) == CROSSBAR_BROKEN_TABLE, "no table", 0);
+    expect(slot(table, sizeof table, NULL, 0, NULL, 0, tally, sizeof tally) == CROSSBAR_SHORT_BUFFER, "no answer", 0);
+    expect(slot(table, sizeof table, NULL, 0, answer, sizeof answer, NULL, 0) == CROSSBAR_BROKEN_TABLE, "no tally", 0);
+    expect(slot(NULL, 0, NULL, 0, NULL, 0, NULL, 0) == CROSSBAR_BROKEN_TABLE, "nothing", 0);
+    expect(get32(tally) == 4 && get32(tally + 8) == 2, "slots run and refused", 0);
+    expect(memcmp(table, other, sizeof table) == 0, "the table of refused slots", 0);
+}
+
 int main(void) {
     test_start();
     test_check();
-    printf("start and check: %lu cases agree\n", cases);
+    test_null();
+    printf("start, check and null: %lu cases agree\n", cases);
     return 0;
 }
