@@ -13,7 +13,8 @@ use Rattle.laws.proofs.Numbers.{numbersFrom-at}
 use Rattle.cell.specs.Limits.{cellLimit, clockEnd}
 use Rattle.model.specs.State.{Entry, Switch}
 use Rattle.model.specs.Sound.{sound, soundSections}
-use Rattle.model.specs.Phase.{Phase, Waiting, numberFrom, numberSections, numbered, waiting, phase, moved}
+use Rattle.model.specs.Phase.{Phase, Waiting, numberFrom, numberSections, numbered, waiting, phase, placedBy}
+use Rattle.model.specs.Phase.{moved}
 use Rattle.model.specs.Crossbar.{leaving, departuresOf, without, run, answerOf}
 use Rattle.model.specs.Slackness.{Orderly, OneCrosspoint, relocated}
 use Rattle.model.proofs.Numbering.{waiting-moved, entryAfter}
@@ -59,7 +60,7 @@ lengths-numbered p input (s ∷ ss) =
     (lengths-numbered p (input + 1) ss)
 
 lengths-moved : (p : Phase) (ss : List (List Entry)) → map length (moved p ss) ≡ map length ss
-unfolding moved numbered
+unfolding moved placedBy numbered
 lengths-moved p ss = lengths-numbered p 0 ss
 
 ------------------------------------------------------------------------

@@ -1,5 +1,5 @@
 -- The limits of a slot: at most two cells are taken from each input and two brought to each output, one in each phase,
--- and at most one is at each crosspoint. They hold from any sound table.
+-- and at most one is at each crosspoint, within a phase too. They hold from any sound table.
 use Prim.Native.Nat.{ℕ, _+_, _≤_}
 use native.Mathlib.Omega.{arith}
 use mathlib.Core.Bool.{Bool, true, false, not, _&&_, _||_}
@@ -20,16 +20,17 @@ use Rattle.cell.specs.Limits.{clockEnd}
 use Rattle.model.specs.State.{Place, Entry, Switch, cells, isListed, isCrossed, isBuffered}
 use Rattle.model.specs.Checks.{firstFault}
 use Rattle.model.specs.Sound.{sound, soundSections}
-use Rattle.model.specs.Phase.{Waiting, waiting, sameCrosspoint, Phase, phase, placeAfter, moved}
+use Rattle.model.specs.Phase.{Waiting, waiting, sameCrosspoint, Phase, phase, placeSent, placeAfter, placedBy}
+use Rattle.model.specs.Phase.{filled, moved}
 use Rattle.model.specs.Crossbar.{Course, run}
 use Rattle.model.specs.Emulation.{cellsAt, taken, brought, atCrosspoint, WithinLimits}
 use Rattle.model.specs.Slackness.{Orderly, OneCrosspoint, apart, relocate, relocated}
 use Rattle.model.proofs.SoundOrderly.{sound-orderly, sound-one-crosspoint}
 use Rattle.model.proofs.SoundSlot.{arrived-sound, between-sound, settled-sound}
-use Rattle.model.proofs.PhaseLimits.{phase-taken, phase-brought}
+use Rattle.model.proofs.PhaseLimits.{phase-taken, phase-brought, filled-crosspoint}
 use Rattle.model.proofs.WaitingOrder.{crosspoint-i}
 use Rattle.model.proofs.CellOrder.{same-cell-refl}
-use Rattle.model.proofs.Numbering.{entryOf, waiting-cells, count-waiting, waiting-moved}
+use Rattle.model.proofs.Numbering.{entryOf, waiting-cells, count-waiting, waiting-placed, waiting-moved}
 
 -- counts over the cells at some places are counts over the waiting cells
 cells-count : (p : Place → Bool) (q : Cell → Bool) (sections : List (List Entry))
@@ -86,6 +87,14 @@ crosspoint-one sections one input output =
         both v w h
         (and-l (isCrossed (v .place) && here (v .cell)) (isCrossed (w .place) && here (w .cell)) t)
         (and-r (isCrossed (v .place) && here (v .cell)) (isCrossed (w .place) && here (w .cell)) t)))
+
+-- and within a phase, once the scheduled cells are sent
+filled-one : (sections : List (List Entry)) → Orderly (waiting sections) → OneCrosspoint (waiting sections)
+    → (input output : ℕ) → atCrosspoint input output (filled (phase (waiting sections)) sections) ≤ 1
+unfolding filled
+filled-one sections o one =
+    crosspoint-one (placedBy (placeSent (phase (waiting sections))) sections)
+    (rw (waiting-placed (placeSent (phase (waiting sections))) sections) (filled-crosspoint (waiting sections) o one))
 
 -- Two phases, one after the other, on sections that are orderly before each.
 module _ (arrived : List (List Entry)) (o : Orderly (waiting arrived))
@@ -225,7 +234,9 @@ within-limits s records h fits ticks clear =
       taken-two = leaves-two arrived (orderly arrived a) (orderly between b);
       brought-two = enters-two arrived (orderly arrived a) (orderly between b);
       crosspoint-arrived = crosspoint-one arrived (apart-all arrived a);
+      crosspoint-filled-one = filled-one arrived (orderly arrived a) (apart-all arrived a);
       crosspoint-between = crosspoint-one between (apart-all between b);
+      crosspoint-filled-two = filled-one between (orderly between b) (apart-all between b);
       crosspoint-settled = crosspoint-one (c .settled) (apart-all (c .settled) (settled-sound s records h fits ticks clear));
     }
   where

@@ -4,7 +4,7 @@
 --     numbered-at, numbered-entries    the sections
 --     Stands, mem-waiting, waiting-mem a waiting cell stands in a section, and its number is its position there
 --     waiting-cells, cells-waiting, count-waiting   the waiting cells are the entries of the sections
---     waiting-moved, moved-            what a phase makes of them
+--     waiting-placed, waiting-moved, moved-   what a phase makes of them
 --     flatten-without, without-        what a departure makes of them
 --     numbers-rise, numbers-differ     no two waiting cells have one number
 --     ahead-prefix                     the listed cells ahead of one are those that stand before it in its section
@@ -24,9 +24,9 @@ use Rattle.laws.proofs.Lists.{none?-i}
 use Rattle.laws.proofs.Count.{count-append, count-map, count-ext, count-zero}
 use Rattle.laws.proofs.Pairwise.{pairwise-nil, pairwise-cons, pairwise-mono}
 use Rattle.cell.specs.Limits.{cellLimit}
-use Rattle.model.specs.State.{Entry, isListed}
+use Rattle.model.specs.State.{Place, Entry, isListed}
 use Rattle.model.specs.Phase.{Waiting, numberFrom, numberSections, numbered, waiting, ahead, among, Phase}
-use Rattle.model.specs.Phase.{placeAfter, moved}
+use Rattle.model.specs.Phase.{placeAfter, placedBy, moved}
 use Rattle.model.specs.Crossbar.{without}
 use Rattle.model.specs.Slackness.{relocate, relocated, otherNumber}
 use Rattle.model.proofs.WaitingOrder.{ahead-i, ahead-input, ahead-at}
@@ -250,27 +250,38 @@ cells-waiting sections =
 abbrev pub entryAfter : Phase → Waiting → Entry
 entryAfter p e = record { cell = e .cell; place = placeAfter p e }
 
+-- a waiting cell in another place
+abbrev pub putAt : (Waiting → Place) → Waiting → Waiting
+putAt place e = record { at = e .at; cell = e .cell; place = place e }
+
+-- cells that are put elsewhere stand in the same order
+pub waiting-placed : (place : Waiting → Place) (sections : List (List Entry))
+    → waiting (placedBy place sections) ≡ map (putAt place) (waiting sections)
+unfolding waiting placedBy numbered
+waiting-placed place sections =
+    ap flatten (numberSections-map (λ e. record { cell = e .cell; place = place e }) 0 sections)
+    ∙ flatten-map (putAt place) (numberSections 0 sections)
+
 -- a phase relocates the waiting cells and does not reorder them
 pub waiting-moved : (p : Phase) (sections : List (List Entry))
     → waiting (moved p sections) ≡ relocated p (waiting sections)
-unfolding waiting moved relocated relocate numbered
-waiting-moved p sections =
-    ap flatten (numberSections-map (entryAfter p) 0 sections) ∙ flatten-map (relocate p) (numberSections 0 sections)
+unfolding moved relocated relocate
+waiting-moved p sections = waiting-placed (placeAfter p) sections
 
 pub moved-at : (p : Phase) (sections : List (List Entry)) (k : ℕ)
     → getD (moved p sections) k [] ≡ map (entryAfter p) (numberFrom (cellLimit * k) (getD sections k []))
-unfolding moved
+unfolding moved placedBy
 moved-at p sections k =
     List·getD-map (map (entryAfter p)) (numbered sections) k [] ∙ ap (map (entryAfter p)) (numbered-at sections k)
 
 pub length-moved : (p : Phase) (sections : List (List Entry)) → length (moved p sections) ≡ length sections
-unfolding moved
+unfolding moved placedBy
 length-moved p sections = length-map (numbered sections) (map (entryAfter p)) ∙ length-numbered sections
 
 -- the cells are the same
 pub moved-cells : (p : Phase) (sections : List (List Entry))
     → map (λ e. e .cell) (flatten (moved p sections)) ≡ map (λ e. e .cell) (flatten sections)
-unfolding moved waiting
+unfolding moved placedBy waiting
 moved-cells p sections =
     ap (map (λ e. e .cell)) (flatten-map (entryAfter p) (numbered sections))
     ∙ map-map (λ e. e .cell) (entryAfter p) (waiting sections)

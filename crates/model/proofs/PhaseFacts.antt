@@ -18,7 +18,7 @@ use Rattle.cell.specs.Flow.{sameFlow}
 use Rattle.cell.proofs.Flow.{flow-trans}
 use Rattle.model.specs.State.{isListed, isCrossed}
 use Rattle.model.specs.Phase.{Waiting, sameInput, sameOutput, sameCrosspoint, ahead, beats, phase, heads, blocked}
-use Rattle.model.specs.Phase.{crosspointEmpty, scheduled, isUrgent, urgent, sent, pulled}
+use Rattle.model.specs.Phase.{crosspointEmpty, ready, scheduled, isUrgent, urgent, sent, pulled}
 use Rattle.model.proofs.WaitingOrder.{output-i, output-e, beats-output, ahead-irrefl, ahead-trans, ahead-strict}
 use Rattle.model.proofs.WaitingOrder.{beats-strict}
 
@@ -118,45 +118,44 @@ module _ (all : List Waiting) where
   unfolding crosspointEmpty
   crosspoint-find h = find (sameCrosspoint h) (crosspoints all)
 
-  -- normal, and its crosspoint is empty
-  ready : Waiting → Bool
-  ready h = not (blocked (crosspoints all) h) && crosspointEmpty (crosspoints all) h
+  prepared : List Waiting
+  prepared = keep (ready (crosspoints all)) (firsts all)
 
   pub scheduled-head : {s : Waiting} → List·Memᴰ s (phase all .scheduled) → List·Memᴰ s (firsts all)
-  unfolding phase scheduled lists crosspoints firsts ready
-  scheduled-head m = mem-keep-in ready (firsts all) (mem-least-in ahead (keep ready (firsts all)) m)
+  unfolding phase scheduled lists crosspoints firsts prepared
+  scheduled-head m = mem-keep-in (ready (crosspoints all)) (firsts all) (mem-least-in ahead prepared m)
 
-  scheduled-ready : {s : Waiting} → List·Memᴰ s (phase all .scheduled) → ready s ≡ true
-  unfolding phase scheduled lists crosspoints firsts ready
-  scheduled-ready m = mem-keep-passes ready (firsts all) (mem-least-in ahead (keep ready (firsts all)) m)
+  scheduled-ready : {s : Waiting} → List·Memᴰ s (phase all .scheduled) → ready (crosspoints all) s ≡ true
+  unfolding phase scheduled lists crosspoints firsts prepared
+  scheduled-ready m = mem-keep-passes (ready (crosspoints all)) (firsts all) (mem-least-in ahead prepared m)
 
   pub scheduled-normal : {s : Waiting} → List·Memᴰ s (phase all .scheduled) → blocked (crosspoints all) s ≡ false
   unfolding ready
   scheduled-normal {s} m =
       not-e (blocked (crosspoints all) s)
-      (and-l (not (blocked (crosspoints all) s)) (crosspointEmpty (crosspoints all) s) (scheduled-ready m))
+      (and-l (not (blocked (crosspoints all) s)) _ (scheduled-ready m))
 
   pub scheduled-empty : {s x : Waiting} → List·Memᴰ s (phase all .scheduled) → List·Memᴰ x (crosspoints all)
       → sameCrosspoint s x ≡ false
   unfolding ready crosspointEmpty
   scheduled-empty {s} m k =
       none?-e (sameCrosspoint s)
-      (and-r (not (blocked (crosspoints all) s)) (crosspointEmpty (crosspoints all) s) (scheduled-ready m)) k
+      (and-r (not (blocked (crosspoints all) s)) _ (scheduled-ready m)) k
 
   -- an input has one scheduled cell
   pub scheduled-one : {s t : Waiting} → List·Memᴰ s (phase all .scheduled) → List·Memᴰ t (phase all .scheduled)
       → ahead s t ≡ false
-  unfolding phase scheduled lists crosspoints firsts ready
-  scheduled-one m k = mem-least-first ahead (keep ready (firsts all)) k (mem-least-in ahead (keep ready (firsts all)) m)
+  unfolding phase scheduled lists crosspoints firsts prepared
+  scheduled-one m k = mem-least-first ahead prepared k (mem-least-in ahead prepared m)
 
   -- a normal head with an empty crosspoint is scheduled, or the scheduled cell of its input stands before it
   pub scheduled-of : {h : Waiting} → List·Memᴰ h (firsts all) → blocked (crosspoints all) h ≡ false
       → crosspointEmpty (crosspoints all) h ≡ true
       → (s : Waiting) × List·Memᴰ s (phase all .scheduled) × ((s ≡ h) ⊎ (ahead s h ≡ true))
-  unfolding phase scheduled lists crosspoints firsts ready
+  unfolding phase scheduled lists crosspoints firsts ready prepared
   scheduled-of {h} m n c =
-      least-below ahead ahead-strict (keep ready (firsts all))
-      (keep-mem ready m
+      least-below ahead ahead-strict prepared
+      (keep-mem (ready (crosspoints all)) m
       (and-i (not (blocked (crosspoints all) h)) (crosspointEmpty (crosspoints all) h)
       (not-i (blocked (crosspoints all) h) n) c))
 

@@ -1,14 +1,15 @@
 -- The limits that a phase keeps, and what it leaves as it was.
 --     phase-taken        at most one cell leaves the list of an input
 --     phase-brought      at most one cell enters the buffer of an output
---     phase-crosspoint   no crosspoint comes to hold two cells
+--     filled-crosspoint  no crosspoint holds two cells once the scheduled cells are sent
+--     phase-crosspoint   nor at the end of the phase
 --     phase-orderly      the cells are orderly afterwards
 --     apart-e            what it is that two cells do not share a crosspoint
 use Prim.Native.Nat.{ℕ, _≤_}
 use mathlib.Core.Bool.{Bool, true, not, _&&_}
 use mathlib.Core.Path.{_≡_, sym, _∙_, ap, ap₂}
 use mathlib.Core.Logic.{_⊎_, inl, inr}
-use mathlib.Core.List.{List, List·Memᴰ, Memᴰ·of-map}
+use mathlib.Core.List.{List, map, List·Memᴰ, Memᴰ·of-map}
 use borrow.Author.Tests.{eqb-true, eqb-false}
 use lib.Dec.{eqb}
 use Rattle.laws.specs.Lists.{count}
@@ -16,15 +17,17 @@ use Rattle.laws.proofs.Tests.{clash, and-i, and-l, and-r, not-e, not-i, by-fail
 use Rattle.laws.proofs.Pairwise.{pairwise-e, pairwise-mono, pairwise-map, pairwise-le-one}
 use Rattle.cell.specs.Flow.{sameFlow}
 use Rattle.cell.specs.Order.{over}
-use Rattle.model.specs.State.{isListed, isCrossed, isBuffered}
-use Rattle.model.specs.Phase.{Waiting, sameInput, sameOutput, sameCrosspoint, ahead, beats, phase, placeAfter}
+use Rattle.model.specs.State.{Place, isListed, isCrossed, isBuffered}
+use Rattle.model.specs.Phase.{Waiting, sameInput, sameOutput, sameCrosspoint, ahead, beats, phase, placeSent}
+use Rattle.model.specs.Phase.{placeAfter}
 use Rattle.model.specs.Slackness.{Orderly, otherNumber, otherArrival, relocate, relocated, OneCrosspoint, apart}
 use Rattle.model.proofs.WaitingOrder.{input-i, output-i, crosspoint-i, crosspoint-input, crosspoint-output}
 use Rattle.model.proofs.WaitingOrder.{ahead-total, beats-total}
 use Rattle.model.proofs.PhaseFacts.{crosspoints-i, scheduled-empty, scheduled-one, sent-scheduled, sent-free}
 use Rattle.model.proofs.PhaseFacts.{pulled-free, pulled-one}
 use Rattle.model.proofs.PhaseMatching.{straight-matched, sent-all, pulled-all, match-input, match-output}
-use Rattle.model.proofs.PhasePlaces.{listed-forward, crossed-forward, taken-by, brought-by}
+use Rattle.model.proofs.PhasePlaces.{listed-forward, filled-forward, crossed-forward, taken-by, brought-by}
+use Rattle.model.proofs.Numbering.{putAt}
 
 -- what it is that two cells do not share a crosspoint
 apart-i : (e f : Waiting)
@@ -191,20 +194,30 @@ module _ (all : List Waiting) (o : Orderly all) where
       absurd (clash c (scheduled-empty all (sent-scheduled all h) (crosspoints-i all k j)))
   filled-same one {e} {f} m k c (inr h) (inr j) = sent-same h j (crosspoint-input e f c)
 
-  pub phase-crosspoint : OneCrosspoint all → OneCrosspoint (relocated (phase all) all)
-  unfolding relocated relocate sameCrosspoint sameInput sameOutput
-  phase-crosspoint one =
-      pairwise-map apart there all ∙ pairwise-mono otherNumber (λ e f. apart (there e) (there f)) all go (o .numbers)
+  -- cells put where those at a crosspoint were there already or are sent
+  crosspoint-placed : OneCrosspoint all → (place : Waiting → Place)
+      → ((e : Waiting) → List·Memᴰ e all → isCrossed (place e) ≡ true
+      → (isCrossed (e .place) ≡ true) ⊎ List·Memᴰ e (phase all .sent))
+      → OneCrosspoint (map (putAt place) all)
+  unfolding sameCrosspoint sameInput sameOutput
+  crosspoint-placed one place forward =
+      pairwise-map apart (putAt place) all
+      ∙ pairwise-mono otherNumber (λ e f. apart (putAt place e) (putAt place f)) all go (o .numbers)
     where
-      there : Waiting → Waiting
-      there e = relocate (phase all) e
-
       go : (e f : Waiting) → List·Memᴰ e all → List·Memᴰ f all → otherNumber e f ≡ true
-          → apart (there e) (there f) ≡ true
+          → apart (putAt place e) (putAt place f) ≡ true
       go e f m k n =
-          apart-i (there e) (there f)
-          (λ h j c. numbers-differ e f n
-          (filled-same one m k c (crossed-forward all o m h) (crossed-forward all o k j)))
+          apart-i (putAt place e) (putAt place f)
+          (λ h j c. numbers-differ e f n (filled-same one m k c (forward e m h) (forward f k j)))
+
+  -- after rule 5
+  pub filled-crosspoint : OneCrosspoint all → OneCrosspoint (map (putAt (placeSent (phase all))) all)
+  filled-crosspoint one = crosspoint-placed one (placeSent (phase all)) (λ e m. filled-forward all o m)
+
+  -- after rule 6
+  pub phase-crosspoint : OneCrosspoint all → OneCrosspoint (relocated (phase all) all)
+  unfolding relocated relocate
+  phase-crosspoint one = crosspoint-placed one (placeAfter (phase all)) (λ e m. crossed-forward all o m)
 
   ------------------------------------------------------------------------
   -- order

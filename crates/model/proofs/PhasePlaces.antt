@@ -4,13 +4,13 @@
 --     After, after              where a cell is afterwards, and why
 --     listed-forward, ..        cells only move forward: from a list to a crosspoint, from either to a buffer
 --     taken-by, brought-by      what leaves a list, and what enters a buffer
-use mathlib.Core.Bool.{Bool, true, false, cond, _||_, false≢true}
+use mathlib.Core.Bool.{Bool, true, false, cond, false≢true}
 use mathlib.Core.Path.{_≡_, refl, sym, _∙_, ap}
 use mathlib.Core.Logic.{_⊎_, inl, inr}
 use mathlib.Core.List.{List, List·Memᴰ}
-use Rattle.laws.proofs.Tests.{clash, either, by-fail, or-l, or-r, cond-pass, cond-fail, or-false}
+use Rattle.laws.proofs.Tests.{clash, either, by-fail, cond-pass, cond-fail}
 use Rattle.model.specs.State.{Place, listed, crossed, buffered, isListed, isCrossed, isBuffered}
-use Rattle.model.specs.Phase.{Waiting, among, phase, placeAfter}
+use Rattle.model.specs.Phase.{Waiting, among, phase, placeSent, placeAfter}
 use Rattle.model.specs.Slackness.{Orderly}
 use Rattle.model.proofs.WaitingOrder.{among-i, among-e}
 use Rattle.model.proofs.PhaseFacts.{crosspoints, lists-listed, crosspoints-crossed, head-listed, scheduled-head}
@@ -73,31 +73,30 @@ module _ (all : List Waiting) where
     stays : placeAfter (phase all) e ≡ e .place → After e
 
   pub after-straight : {e : Waiting} → List·Memᴰ e (phase all .straight) → placeAfter (phase all) e ≡ buffered
-  unfolding placeAfter
-  after-straight {e} m =
-      cond-pass _ _ _ (or-l (among (phase all .straight) e) (among (phase all .pulled) e) (among-i m))
+  unfolding placeAfter placeSent
+  after-straight {e} m = go (among (phase all .pulled) e)
+    where
+      go : (q : Bool) → cond q buffered (placeSent (phase all) e) ≡ buffered
+      go true = refl
+      go false = cond-pass _ _ _ (among-i m)
 
   pub after-pulled : {e : Waiting} → List·Memᴰ e (phase all .pulled) → placeAfter (phase all) e ≡ buffered
   unfolding placeAfter
-  after-pulled {e} m =
-      cond-pass _ _ _ (or-r (among (phase all .straight) e) (among (phase all .pulled) e) (among-i m))
+  after-pulled {e} m = cond-pass _ _ _ (among-i m)
 
   pub after-sent : {e : Waiting} → List·Memᴰ e (phase all .sent) → isListed (placeAfter (phase all) e) ≡ false
-  unfolding placeAfter isListed
-  after-sent {e} m = go (either moved)
+  unfolding placeAfter placeSent isListed
+  after-sent {e} m = go (among (phase all .pulled) e) (among (phase all .straight) e)
     where
-      moved : Bool
-      moved = among (phase all .straight) e || among (phase all .pulled) e
-
-      go : (moved ≡ true) ⊎ (moved ≡ false) → isListed (placeAfter (phase all) e) ≡ false
-      go (inl t) = ap isListed (cond-pass moved buffered (cond (among (phase all .sent) e) crossed (e .place)) t)
-      go (inr f) =
-          ap isListed (cond-fail moved buffered (cond (among (phase all .sent) e) crossed (e .place)) f
-          ∙ cond-pass (among (phase all .sent) e) crossed (e .place) (among-i m))
+      go : (q s : Bool)
+          → isListed (cond q buffered (cond s buffered (cond (among (phase all .sent) e) crossed (e .place)))) ≡ false
+      go true s = refl
+      go false true = refl
+      go false false = ap isListed (cond-pass _ _ _ (among-i m))
 
   module _ (o : Orderly all) where
     pub after : {e : Waiting} → List·Memᴰ e all → After e
-    unfolding placeAfter
+    unfolding placeAfter placeSent
     after {e} m = go (either s) (either q) (either t)
       where
         s : Bool
@@ -116,7 +115,9 @@ module _ (all : List Waiting) where
         pulls i = is-pulled i (after-pulled i)
 
         unmoved : s ≡ false → q ≡ false → placeAfter (phase all) e ≡ cond t crossed (e .place)
-        unmoved a b = cond-fail (s || q) buffered (cond t crossed (e .place)) (or-false s q a b)
+        unmoved a b =
+            cond-fail q buffered (cond s buffered (cond t crossed (e .place))) b
+            ∙ cond-fail s buffered (cond t crossed (e .place)) a
 
         go : (s ≡ true) ⊎ (s ≡ false) → (q ≡ true) ⊎ (q ≡ false) → (t ≡ true) ⊎ (t ≡ false) → After e
         go (inl a) b c = goes (among-e o (phase all .straight) (λ f j. straight-all all j) m a)
@@ -155,17 +156,29 @@ module _ (all : List Waiting) where
         → isBuffered (e .place) ≡ false
     outside-forward {e} m n = by-fail (isBuffered (e .place)) (λ h. clash (buffered-forward m h) n)
 
-    -- a cell at a crosspoint was there, or was sent there
+    -- a cell at a crosspoint after rule 5 was there, or was sent there
+    pub filled-forward : {e : Waiting} → List·Memᴰ e all → isCrossed (placeSent (phase all) e) ≡ true
+        → (isCrossed (e .place) ≡ true) ⊎ List·Memᴰ e (phase all .sent)
+    unfolding placeSent isCrossed
+    filled-forward {e} m h = go (among (phase all .straight) e) (among (phase all .sent) e) refl h
+      where
+        go : (s t : Bool) → among (phase all .sent) e ≡ t
+            → isCrossed (cond s buffered (cond t crossed (e .place))) ≡ true
+            → (isCrossed (e .place) ≡ true) ⊎ List·Memᴰ e (phase all .sent)
+        go true t p i = absurd (false≢true i)
+        go false true p i = inr (among-e o (phase all .sent) (λ f j. sent-all all j) m p)
+        go false false p i = inl i
+
+    -- and rule 6 puts none there
     pub crossed-forward : {e : Waiting} → List·Memᴰ e all → isCrossed (placeAfter (phase all) e) ≡ true
         → (isCrossed (e .place) ≡ true) ⊎ List·Memᴰ e (phase all .sent)
-    unfolding isCrossed
-    crossed-forward {e} m h = go (after m)
+    unfolding placeAfter isCrossed
+    crossed-forward {e} m h = filled-forward m (go (among (phase all .pulled) e) h)
       where
-        go : After e → (isCrossed (e .place) ≡ true) ⊎ List·Memᴰ e (phase all .sent)
-        go (goes-straight i p) = absurd (false≢true (ap isCrossed (sym p) ∙ h))
-        go (is-pulled i p) = absurd (false≢true (ap isCrossed (sym p) ∙ h))
-        go (is-sent i p) = inr i
-        go (stays p) = inl (ap isCrossed (sym p) ∙ h)
+        go : (q : Bool) → isCrossed (cond q buffered (placeSent (phase all) e)) ≡ true
+            → isCrossed (placeSent (phase all) e) ≡ true
+        go true i = absurd (false≢true i)
+        go false i = i
 
     -- a cell that leaves its list goes straight or is sent
     pub taken-by : {e : Waiting} → List·Memᴰ e all → isListed (e .place) ≡ true

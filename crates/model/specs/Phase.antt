@@ -71,9 +71,13 @@ blocked crosspoints h = some? (λ x. sameCrosspoint h x && beats h x) crosspoint
 unfoldable pub crosspointEmpty : List Waiting → Waiting → Bool
 crosspointEmpty crosspoints h = none? (sameCrosspoint h) crosspoints
 
+-- it is normal, and its crosspoint is empty
+unfoldable pub ready : List Waiting → Waiting → Bool
+ready crosspoints h = not (blocked crosspoints h) && crosspointEmpty crosspoints h
+
 -- 2. the scheduled cell of an input is the first normal head in its list whose crosspoint is empty, if there is one
 unfoldable pub scheduled : List Waiting → List Waiting → List Waiting
-scheduled crosspoints hs = least ahead (keep (λ h. not (blocked crosspoints h) && crosspointEmpty crosspoints h) hs)
+scheduled crosspoints hs = least ahead (keep (ready crosspoints) hs)
 
 -- 3. a blocked head is urgent if it stands before the scheduled cell of its input (or there is none) and has higher
 -- output priority than every cell in the crosspoints of its output
@@ -139,10 +143,21 @@ phase all =
       pulled = pulled crosspoints sents straights;
     }
 
--- where a cell is after the phase
-unfoldable pub placeAfter : Phase → Waiting → Place
-placeAfter p e =
-    cond (among (p .straight) e || among (p .pulled) e) buffered (cond (among (p .sent) e) crossed (e .place))
+-- where a cell is after rule 5, before the outputs choose
+unfoldable pub placeSent : Phase → Waiting → Place
+placeSent p e = cond (among (p .straight) e) buffered (cond (among (p .sent) e) crossed (e .place))
 
+-- where a cell is after rule 6, at the end of the phase
+unfoldable pub placeAfter : Phase → Waiting → Place
+placeAfter p e = cond (among (p .pulled) e) buffered (placeSent p e)
+
+unfoldable pub placedBy : (Waiting → Place) → List (List Entry) → List (List Entry)
+placedBy place sections = map (map (λ e. record { cell = e .cell; place = place e })) (numbered sections)
+
+-- the sections after rule 5: the straight cells are gone, and the crosspoints of the sent cells are filled
+unfoldable pub filled : Phase → List (List Entry) → List (List Entry)
+filled p sections = placedBy (placeSent p) sections
+
+-- the sections after rule 6
 unfoldable pub moved : Phase → List (List Entry) → List (List Entry)
-moved p sections = map (map (λ e. record { cell = e .cell; place = placeAfter p e })) (numbered sections)
+moved p sections = placedBy (placeAfter p) sections

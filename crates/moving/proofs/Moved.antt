@@ -5,7 +5,7 @@
 --     moved-       where each cell is afterwards
 use Prim.Native.Nat.{ℕ, zero, suc, _/_, _<_, _≤_}
 use native.Mathlib.Omega.{arith}
-use mathlib.Core.Bool.{Bool, true, false, cond, _||_}
+use mathlib.Core.Bool.{Bool, true, false, cond}
 use mathlib.Core.Path.{_≡_, refl, sym, _∙_, ap, ap₂, subst}
 use mathlib.Core.Logic.{_⊎_, inl, inr}
 use mathlib.Core.List.{List, _++_, List·Memᴰ, Memᴰ·cast, List·Memᴰ·append-cases, Memᴰ·append-left, Memᴰ·append-right}
@@ -17,7 +17,7 @@ use Rattle.laws.specs.Lists.{keep, none?, all?, least, first?}
 use Rattle.laws.proofs.Lists.{none?-i, all?-i, keep-comm, keep-all, mem-keep-passes}
 use Rattle.cell.specs.Limits.{cellLimit, portLimit}
 use Rattle.model.specs.State.{crossed, buffered, isListed, isCrossed}
-use Rattle.model.specs.Phase.{Waiting, phase, beats, sameInput, sameOutput, pulled, among, placeAfter}
+use Rattle.model.specs.Phase.{Waiting, phase, beats, sameInput, sameOutput, pulled, among, placeSent, placeAfter}
 use Rattle.model.specs.Slackness.{Orderly, relocated}
 use Rattle.model.proofs.WaitingOrder.{input-i, input-e, output-i, output-e, crosspoint-i, among-e}
 use Rattle.model.proofs.PhaseFacts.{crosspoints, crosspoints-i, crosspoints-all, crosspoints-crossed}
@@ -69,12 +69,11 @@ marked f n i l = go (either (hit f n i))
 
 -- the place after the writes: a straight or pulled cell is in a buffer, any other that was sent at its crosspoint
 places-after : (s p t : Bool) (b : ℕ) → (s ≡ true → t ≡ true → ⊥)
-    → placeOf (cond p 3 (cond t 2 (cond s 3 b))) ≡ cond (s || p) buffered (cond t crossed (placeOf b))
+    → placeOf (cond p 3 (cond t 2 (cond s 3 b))) ≡ cond p buffered (cond s buffered (cond t crossed (placeOf b)))
 unfolding placeOf
-places-after true true t b h = refl
+places-after s true t b h = refl
 places-after true false true b h = absurd (h refl refl)
 places-after true false false b h = refl
-places-after false true t b h = refl
 places-after false false true b h = refl
 places-after false false false b h = refl
 
@@ -511,13 +510,13 @@ module _ {table places : List ℕ} {cross : List (List ℕ)} (st : Steady table 
             clash (input-i e e refl) (sent-free all j i)
 
         moved-place : placeOf (getD places₃ (e .at) 0) ≡ placeAfter (phase all) e
-        unfolding placeAfter
+        unfolding placeAfter placeSent
         moved-place =
             ap placeOf moved-byte
             ∙ places-after (among (phase all .straight) e) (among (phase all .pulled) e) (among (phase all .sent) e)
             (getD places (e .at) 0) apart
-            ∙ ap (λ q. cond (among (phase all .straight) e || among (phase all .pulled) e) buffered
-            (cond (among (phase all .sent) e) crossed q))
+            ∙ ap (λ q. cond (among (phase all .pulled) e) buffered
+            (cond (among (phase all .straight) e) buffered (cond (among (phase all .sent) e) crossed q)))
             (sym (ap (λ x. x .place) (k .self) ∙ waitingAt-place table places (e .at)))
 
       moved-cells : inTable table places₃ ≡ relocated (phase all) all
