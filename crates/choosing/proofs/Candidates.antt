@@ -18,8 +18,8 @@ use Rattle.laws.proofs.Lists.{mem-keep-passes}
 use Rattle.laws.proofs.Count.{count-nil, count-keep-le}
 use Rattle.laws.proofs.Least.{least-keeps}
 use Rattle.model.specs.State.{isListed}
-use Rattle.model.specs.Phase.{Waiting, ahead, among, takesPart, candidates, phase}
-use Rattle.model.proofs.PhaseFacts.{lists, lists-listed, head-listed, urgent-head, urgent-ahead, scheduled-head}
+use Rattle.model.specs.Phase.{Waiting, ahead, among, takesPart, candidates, phase, lists}
+use Rattle.model.proofs.PhaseFacts.{lists-listed, head-listed, urgent-head, urgent-ahead, scheduled-head}
 use Rattle.model.proofs.WaitingOrder.{among-i, input-i}
 use Rattle.places.specs.Choices.{ofInput, candidatesOf}
 use Rattle.choosing.specs.Walk.{isReady, isPressing, urgentOf}
@@ -196,7 +196,7 @@ module _ (all : List Waiting)
 
 -- where no cell is urgent, none is matched
 pub candidates-none : (all : List Waiting) (input : ℕ) → phase all .urgent ≡ [] → candidatesOf (phase all) input ≡ []
-unfolding candidatesOf ofInput phase lists keep
+unfolding candidatesOf ofInput phase keep
 candidates-none all input h =
     ap (λ us. numbers (candidates (lists all) us (phase all .scheduled))) h
     ∙ ap numbers (candidates-nil (lists all) (phase all .scheduled))

@@ -26,8 +26,8 @@ use Rattle.laws.proofs.Pairwise.{pairwise-nil, pairwise-keep}
 use Rattle.cell.specs.Limits.{cellLimit}
 use Rattle.cell.proofs.Order.{Compared, below, equal, above, compare}
 use Rattle.model.specs.State.{isListed}
-use Rattle.model.specs.Phase.{Waiting, ahead, phase, candidates}
-use Rattle.model.proofs.PhaseFacts.{lists, lists-i, lists-all, lists-listed, crosspoints}
+use Rattle.model.specs.Phase.{Waiting, ahead, phase, candidates, lists, crosspoints}
+use Rattle.model.proofs.PhaseFacts.{lists-i, lists-all, lists-listed}
 use Rattle.model.proofs.WaitingOrder.{ahead-strict, ahead-i, ahead-at, ahead-input}
 use Rattle.model.proofs.PhaseMatching.{urgent-all, scheduled-all, candidate-listed}
 use Rattle.layout.specs.Entry.{portsIn, countIn}

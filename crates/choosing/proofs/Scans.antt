@@ -20,8 +20,8 @@ use Rattle.laws.proofs.Pairwise.{pairwise-head, pairwise-append-r, pairwise-spl
 use Rattle.cell.specs.Flow.{sameFlow}
 use Rattle.model.specs.State.{isListed}
 use Rattle.model.specs.Phase.{Waiting, sameInput, sameOutput, sameCrosspoint, ahead, beats, heads, blocked}
-use Rattle.model.specs.Phase.{crosspointEmpty, ready, scheduled, isUrgent, urgent, phase}
-use Rattle.model.proofs.PhaseFacts.{lists, crosspoints, firsts}
+use Rattle.model.specs.Phase.{crosspointEmpty, ready, scheduled, isUrgent, urgent, phase, lists, crosspoints}
+use Rattle.model.proofs.PhaseFacts.{firsts}
 use Rattle.model.proofs.WaitingOrder.{ahead-strict, ahead-irrefl, ahead-trans, ahead-input, input-i, input-e}
 use Rattle.places.specs.Choices.{ofInput}
 use Rattle.choosing.specs.Walk.{isHead, isReady, isPressing}
@@ -70,7 +70,7 @@ module _ (all : List Waiting) where
       none?-clash (sameCrosspoint e) h (w .1) (and-l (sameCrosspoint e (w .0)) (beats e (w .0)) (w .2)))
 
   pub scheduled-ready : phase all .scheduled ≡ least ahead (keep (isReady all) all)
-  unfolding phase scheduled ready lists crosspoints firsts isReady
+  unfolding phase scheduled ready firsts isReady
   scheduled-ready =
       ap (least ahead)
       (ap (keep normal) firsts-heads
@@ -94,7 +94,7 @@ module _ (all : List Waiting) where
   foremost e = all? (ahead e) (keep (sameInput e) (phase all .scheduled))
 
   pub urgent-pressing : phase all .urgent ≡ keep (λ e. isPressing all e && foremost e) all
-  unfolding phase urgent isUrgent lists crosspoints firsts isPressing foremost
+  unfolding phase urgent isUrgent firsts isPressing foremost
   urgent-pressing =
       ap (keep test) firsts-heads
       ∙ keep-keep (isHead all) test all

@@ -17,8 +17,7 @@ use Rattle.cell.specs.Flow.{sameFlow}
 use Rattle.cell.specs.Limits.{cellLimit}
 use Rattle.cell.specs.Order.{over}
 use Rattle.model.specs.State.{isListed}
-use Rattle.model.specs.Phase.{Waiting, ahead, crosspointEmpty}
-use Rattle.model.proofs.PhaseFacts.{lists, crosspoints}
+use Rattle.model.specs.Phase.{Waiting, ahead, crosspointEmpty, lists, crosspoints}
 use Rattle.layout.specs.Entry.{entryAt, portsIn, countIn}
 use Rattle.table.specs.Entries.{flowNumber}
 use Rattle.places.specs.View.{waitingAt, inTable, InTable, crosspointAt}

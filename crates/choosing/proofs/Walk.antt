@@ -25,8 +25,8 @@ use Rattle.cell.specs.Order.{over}
 use Rattle.cell.proofs.Flow.{flow-i, flow-e}
 use Rattle.cell.proofs.Order.{Compared, below, equal, above, compare, over-trans}
 use Rattle.model.specs.State.{isListed}
-use Rattle.model.specs.Phase.{Waiting, ahead, beats, sameOutput, sameCrosspoint, blocked, crosspointEmpty}
-use Rattle.model.proofs.PhaseFacts.{lists, lists-i, lists-all, lists-listed}
+use Rattle.model.specs.Phase.{Waiting, ahead, beats, sameOutput, sameCrosspoint, blocked, crosspointEmpty, lists}
+use Rattle.model.proofs.PhaseFacts.{lists-i, lists-all, lists-listed}
 use Rattle.model.proofs.WaitingOrder.{ahead-i, ahead-at, ahead-input, beats-i, beats-over, output-i, output-e}
 use Rattle.model.proofs.WaitingOrder.{crosspoint-i, crosspoint-input, crosspoint-output}
 use Rattle.layout.specs.Entry.{entryAt, portsIn, countIn}

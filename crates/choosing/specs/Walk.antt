@@ -12,7 +12,7 @@ use Rattle.cell.specs.Flow.{sameFlow}
 use Rattle.cell.specs.Limits.{portLimit, flowLimit, cellLimit}
 use Rattle.model.specs.State.{isListed}
 use Rattle.model.specs.Phase.{Waiting, sameOutput, ahead, beats, blocked, crosspointEmpty, Phase, phase}
-use Rattle.model.proofs.PhaseFacts.{lists, crosspoints}
+use Rattle.model.specs.Phase.{lists, crosspoints}
 use Rattle.layout.specs.Entry.{portsIn, countIn}
 use Rattle.places.specs.Choices.{ofInput, scheduledOf, bestOf}
 use Rattle.places.specs.View.{window, inTable, Agrees}

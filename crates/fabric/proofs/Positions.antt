@@ -27,9 +27,9 @@ use Rattle.matching.specs.Positions.{positions, positionsTo, aheadAt, cellAt, o
 use Rattle.matching.proofs.Positions.{mem-positions, aheadAt-i, aheadAt-e}
 use Rattle.matching.proofs.Renaming.{matched-map, proposals-map, Agree, matched-ext, proposals-ext}
 use Rattle.model.specs.State.{isListed}
-use Rattle.model.specs.Phase.{Waiting, phase, ahead, beats, sameOutput, candidates, takesPart}
+use Rattle.model.specs.Phase.{Waiting, phase, ahead, beats, sameOutput, candidates, takesPart, lists}
 use Rattle.model.proofs.WaitingOrder.{ahead-input, ahead-irrefl, ahead-trans}
-use Rattle.model.proofs.PhaseFacts.{lists, lists-all}
+use Rattle.model.proofs.PhaseFacts.{lists-all}
 use Rattle.model.proofs.PhaseMatching.{candidate-listed}
 use Rattle.layout.specs.Entry.{entryAt, portsIn, countIn}
 use Rattle.places.specs.View.{waitingAt, inTable, window}

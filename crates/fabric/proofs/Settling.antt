@@ -18,10 +18,10 @@ use Rattle.cell.specs.Limits.{cellLimit, portLimit}
 use Rattle.matching.specs.Positions.{positions}
 use Rattle.matching.specs.Found.{Found}
 use Rattle.matching.proofs.Positions.{positions-mem}
-use Rattle.model.specs.Phase.{Waiting, phase, blocked}
+use Rattle.model.specs.Phase.{Waiting, phase, blocked, crosspoints}
 use Rattle.model.specs.Slackness.{Orderly}
 use Rattle.model.proofs.WaitingOrder.{at-same}
-use Rattle.model.proofs.PhaseFacts.{crosspoints, scheduled-normal, urgent-blocked}
+use Rattle.model.proofs.PhaseFacts.{scheduled-normal, urgent-blocked}
 use Rattle.model.proofs.PhaseMatching.{straight-i, straight-matched, straight-urgent, match-all, match-kind, match-output}
 use Rattle.model.proofs.PhaseMatching.{scheduled-all}
 use Rattle.places.specs.View.{inTable}

@@ -17,19 +17,14 @@ use Rattle.laws.proofs.Least.{Below, least-below, mem-least-in, mem-least-first
 use Rattle.cell.specs.Flow.{sameFlow}
 use Rattle.cell.proofs.Flow.{flow-trans}
 use Rattle.model.specs.State.{isListed, isCrossed}
-use Rattle.model.specs.Phase.{Waiting, sameInput, sameOutput, sameCrosspoint, ahead, beats, phase, heads, blocked}
+use Rattle.model.specs.Phase.{Waiting, lists, crosspoints, sameInput, sameOutput, sameCrosspoint, ahead, beats}
+use Rattle.model.specs.Phase.{phase, heads, blocked}
 use Rattle.model.specs.Phase.{crosspointEmpty, ready, scheduled, isUrgent, urgent, sent, pulled}
 use Rattle.model.proofs.WaitingOrder.{output-i, output-e, beats-output, ahead-irrefl, ahead-trans, ahead-strict}
 use Rattle.model.proofs.WaitingOrder.{beats-strict}
 
 ------------------------------------------------------------------------
 -- the cells in the lists, those at the crosspoints, and the heads
-
-unfoldable pub lists : List Waiting → List Waiting
-lists all = keep (λ e. isListed (e .place)) all
-
-unfoldable pub crosspoints : List Waiting → List Waiting
-crosspoints all = keep (λ e. isCrossed (e .place)) all
 
 unfoldable pub firsts : List Waiting → List Waiting
 firsts all = heads (lists all)
@@ -122,11 +117,11 @@ module _ (all : List Waiting) where
   prepared = keep (ready (crosspoints all)) (firsts all)
 
   pub scheduled-head : {s : Waiting} → List·Memᴰ s (phase all .scheduled) → List·Memᴰ s (firsts all)
-  unfolding phase scheduled lists crosspoints firsts prepared
+  unfolding phase scheduled firsts prepared
   scheduled-head m = mem-keep-in (ready (crosspoints all)) (firsts all) (mem-least-in ahead prepared m)
 
   scheduled-ready : {s : Waiting} → List·Memᴰ s (phase all .scheduled) → ready (crosspoints all) s ≡ true
-  unfolding phase scheduled lists crosspoints firsts prepared
+  unfolding phase scheduled firsts prepared
   scheduled-ready m = mem-keep-passes (ready (crosspoints all)) (firsts all) (mem-least-in ahead prepared m)
 
   pub scheduled-normal : {s : Waiting} → List·Memᴰ s (phase all .scheduled) → blocked (crosspoints all) s ≡ false
@@ -145,14 +140,14 @@ module _ (all : List Waiting) where
   -- an input has one scheduled cell
   pub scheduled-one : {s t : Waiting} → List·Memᴰ s (phase all .scheduled) → List·Memᴰ t (phase all .scheduled)
       → ahead s t ≡ false
-  unfolding phase scheduled lists crosspoints firsts prepared
+  unfolding phase scheduled firsts prepared
   scheduled-one m k = mem-least-first ahead prepared k (mem-least-in ahead prepared m)
 
   -- a normal head with an empty crosspoint is scheduled, or the scheduled cell of its input stands before it
   pub scheduled-of : {h : Waiting} → List·Memᴰ h (firsts all) → blocked (crosspoints all) h ≡ false
       → crosspointEmpty (crosspoints all) h ≡ true
       → (s : Waiting) × List·Memᴰ s (phase all .scheduled) × ((s ≡ h) ⊎ (ahead s h ≡ true))
-  unfolding phase scheduled lists crosspoints firsts ready prepared
+  unfolding phase scheduled firsts ready prepared
   scheduled-of {h} m n c =
       least-below ahead ahead-strict prepared
       (keep-mem (ready (crosspoints all)) m
@@ -163,12 +158,12 @@ module _ (all : List Waiting) where
   -- the urgent cells
 
   pub urgent-head : {u : Waiting} → List·Memᴰ u (phase all .urgent) → List·Memᴰ u (firsts all)
-  unfolding phase urgent lists crosspoints firsts
+  unfolding phase urgent firsts
   urgent-head m = mem-keep-in (isUrgent (crosspoints all) (phase all .scheduled)) (firsts all) m
 
   urgent-test : {u : Waiting} → List·Memᴰ u (phase all .urgent)
       → isUrgent (crosspoints all) (phase all .scheduled) u ≡ true
-  unfolding phase urgent lists crosspoints firsts
+  unfolding phase urgent firsts
   urgent-test m = mem-keep-passes (isUrgent (crosspoints all) (phase all .scheduled)) (firsts all) m
 
   -- before every scheduled cell of its input
@@ -208,7 +203,7 @@ module _ (all : List Waiting) where
 
   pub urgent-or : {h : Waiting} → List·Memᴰ h (firsts all) → blocked (crosspoints all) h ≡ true
       → List·Memᴰ h (phase all .urgent) ⊎ NotUrgent h
-  unfolding phase urgent isUrgent lists crosspoints firsts
+  unfolding phase urgent isUrgent firsts
   urgent-or {h} m b = go (find (λ s. not (ahead h s)) near) (find (λ x. not (beats h x)) facing)
     where
       near : List Waiting
@@ -253,7 +248,7 @@ module _ (all : List Waiting) where
 
   pub pulled-in : {x : Waiting} → List·Memᴰ x (phase all .pulled)
       → List·Memᴰ x (crosspoints all) ⊎ List·Memᴰ x (phase all .sent)
-  unfolding phase pulled crosspoints
+  unfolding phase pulled
   pulled-in m =
       List·Memᴰ·append-cases (crosspoints all)
       (mem-least-in beats (crosspoints all ++ phase all .sent)
@@ -262,7 +257,7 @@ module _ (all : List Waiting) where
 
   pub pulled-free : {x u : Waiting} → List·Memᴰ x (phase all .pulled) → List·Memᴰ u (phase all .straight)
       → sameOutput x u ≡ false
-  unfolding phase pulled crosspoints
+  unfolding phase pulled
   pulled-free {x} m k =
       none?-e (sameOutput x)
       (mem-keep-passes (λ x. none? (sameOutput x) (phase all .straight))
@@ -271,7 +266,7 @@ module _ (all : List Waiting) where
   -- an output pulls one cell
   pub pulled-one : {x y : Waiting} → List·Memᴰ x (phase all .pulled) → List·Memᴰ y (phase all .pulled)
       → beats x y ≡ false
-  unfolding phase pulled crosspoints
+  unfolding phase pulled
   pulled-one m k =
       mem-least-first beats (crosspoints all ++ phase all .sent) (first k)
       (mem-least-in beats (crosspoints all ++ phase all .sent) (first m))
@@ -287,7 +282,7 @@ module _ (all : List Waiting) where
   pub pulled-of : {x : Waiting} → List·Memᴰ x (crosspoints all) ⊎ List·Memᴰ x (phase all .sent)
       → none? (sameOutput x) (phase all .straight) ≡ true
       → (f : Waiting) × List·Memᴰ f (phase all .pulled) × ((f ≡ x) ⊎ (beats f x ≡ true))
-  unfolding phase pulled crosspoints
+  unfolding phase pulled
   pulled-of {x} m n = (w .0, keep-mem (λ x. none? (sameOutput x) (phase all .straight)) (w .1) free, w .2)
     where
       both : List·Memᴰ x (crosspoints all) ⊎ List·Memᴰ x (phase all .sent)

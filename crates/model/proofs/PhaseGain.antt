@@ -18,11 +18,11 @@ use Rattle.cell.specs.Flow.{sameFlow}
 use Rattle.cell.proofs.Flow.{flow-output}
 use Rattle.model.specs.State.{isListed, isCrossed, isBuffered}
 use Rattle.model.specs.Phase.{Waiting, sameInput, sameOutput, sameCrosspoint, ahead, beats, phase, blocked}
-use Rattle.model.specs.Phase.{crosspointEmpty, placeAfter}
+use Rattle.model.specs.Phase.{crosspointEmpty, placeAfter, lists, crosspoints}
 use Rattle.model.specs.Slackness.{Orderly, thread}
 use Rattle.model.proofs.WaitingOrder.{input-i, input-e, output-i, output-e, crosspoint-output, beats-i}
 use Rattle.model.proofs.WaitingOrder.{beats-output, ahead-trans, beats-trans, ahead-total, beats-total}
-use Rattle.model.proofs.PhaseFacts.{lists, crosspoints, firsts, lists-all, lists-listed, crosspoints-all}
+use Rattle.model.proofs.PhaseFacts.{firsts, lists-all, lists-listed, crosspoints-all}
 use Rattle.model.proofs.PhaseFacts.{crosspoints-crossed, head-listed, head-of, blocked-i, crosspoint-find}
 use Rattle.model.proofs.PhaseFacts.{scheduled-normal, scheduled-of, urgent-blocked, urgent-ahead, urgent-beats}
 use Rattle.model.proofs.PhaseFacts.{NotUrgent, urgent-or, sent-i, sent-scheduled, pulled-of, behind, beaten}

@@ -16,9 +16,10 @@ use Rattle.laws.proofs.Lists.{keep-mem, mem-keep-in, mem-keep-passes}
 use Rattle.matching.specs.Stable.{Stable, BestForInputs}
 use Rattle.matching.proofs.Matching.{matched-stable, matched-best, proposals-bound}
 use Rattle.model.specs.Phase.{Waiting, ahead, beats, among, phase, takesPart, candidates, straight}
+use Rattle.model.specs.Phase.{lists, crosspoints}
 use Rattle.model.specs.Slackness.{Orderly}
 use Rattle.model.proofs.WaitingOrder.{ahead-strict, beats-strict, among-i, among-e, ahead-total, beats-total}
-use Rattle.model.proofs.PhaseFacts.{lists, crosspoints, firsts, lists-all, crosspoints-all, head-listed}
+use Rattle.model.proofs.PhaseFacts.{firsts, lists-all, crosspoints-all, head-listed}
 use Rattle.model.proofs.PhaseFacts.{scheduled-head, urgent-head, sent-scheduled, pulled-in}
 
 -- where a cell is urgent, the candidates are the listed cells that take part; otherwise there are none
@@ -42,12 +43,12 @@ module _ (all : List Waiting) where
   takes e = takesPart (lists all) (phase all .urgent) (phase all .scheduled) e
 
   taking : {c : Waiting} → List·Memᴰ c (phase all .candidates) → List·Memᴰ c (keep takes (lists all))
-  unfolding phase lists takes
+  unfolding phase takes
   taking m = candidates-e (lists all) (phase all .urgent) (phase all .scheduled) m
 
   taken : {c u : Waiting} → List·Memᴰ u (phase all .urgent) → List·Memᴰ c (lists all) → takes c ≡ true
       → List·Memᴰ c (phase all .candidates)
-  unfolding phase lists takes
+  unfolding phase takes
   taken i m t = candidates-i (lists all) (phase all .urgent) (phase all .scheduled) i (keep-mem takes m t)
 
   pub candidate-listed : {c : Waiting} → List·Memᴰ c (phase all .candidates) → List·Memᴰ c (lists all)

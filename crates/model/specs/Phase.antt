@@ -38,6 +38,14 @@ numbered sections = numberSections 0 sections
 unfoldable pub waiting : List (List Entry) → List Waiting
 waiting sections = flatten (numbered sections)
 
+-- of all waiting cells those in the lists
+unfoldable pub lists : List Waiting → List Waiting
+lists all = keep (λ e. isListed (e .place)) all
+
+-- and those at the crosspoints
+unfoldable pub crosspoints : List Waiting → List Waiting
+crosspoints all = keep (λ e. isCrossed (e .place)) all
+
 unfoldable pub sameInput : Waiting → Waiting → Bool
 sameInput e f = eqb (e .cell .input) (f .cell .input)
 
@@ -123,12 +131,10 @@ pub record Phase : Type 0 where
 
 unfoldable pub phase : List Waiting → Phase
 phase all =
-    let lists = keep (λ e. isListed (e .place)) all in
-    let crosspoints = keep (λ e. isCrossed (e .place)) all in
-    let hs = heads lists in
-    let ss = scheduled crosspoints hs in
-    let us = urgent crosspoints ss hs in
-    let cs = candidates lists us ss in
+    let hs = heads (lists all) in
+    let ss = scheduled (crosspoints all) hs in
+    let us = urgent (crosspoints all) ss hs in
+    let cs = candidates (lists all) us ss in
     let ms = matched ahead beats cs in
     let straights = straight us ms in
     let sents = sent ss straights in
@@ -140,7 +146,7 @@ phase all =
       proposals = proposals ahead beats cs;
       straight = straights;
       sent = sents;
-      pulled = pulled crosspoints sents straights;
+      pulled = pulled (crosspoints all) sents straights;
     }
 
 -- where a cell is after rule 5, before the outputs choose

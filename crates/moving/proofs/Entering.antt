@@ -15,6 +15,7 @@ use lib.Seq.{getD-set-same, getD-set-other, set-getD}
 use Rattle.laws.proofs.Tests.{either}
 use Rattle.cell.specs.Limits.{cellLimit}
 use Rattle.cell.proofs.Order.{over-total}
+use Rattle.model.specs.Phase.{crosspoints}
 use Rattle.layout.specs.Entry.{entryAt, portsIn}
 use Rattle.layout.proofs.Records.{entryAt-input}
 use Rattle.places.specs.View.{inTable, crosspointAt, InTable, Agrees, Square}
@@ -22,7 +23,6 @@ use Rattle.places.specs.Scan.{Readable, Bests}
 use Rattle.places.specs.Choices.{nowhere, betterOf}
 use Rattle.places.proofs.Choices.{Ordered, better-none, best-same, best-more}
 use Rattle.places.proofs.Window.{agrees-holds, inTable-below}
-use Rattle.model.proofs.PhaseFacts.{crosspoints}
 use Rattle.choosing.proofs.Best.{Crossed, BestUpTo, of-best}
 use Rattle.moving.specs.Moves.{written, put, sending, entered, entering}
 use Rattle.moving.proofs.Agreeing.{outputAt, agrees-real, agrees-sending, output-small, Sendable}

@@ -18,9 +18,10 @@ use Rattle.laws.proofs.Lists.{none?-i, all?-i, keep-comm, keep-all, mem-keep-pa
 use Rattle.cell.specs.Limits.{cellLimit, portLimit}
 use Rattle.model.specs.State.{crossed, buffered, isListed, isCrossed}
 use Rattle.model.specs.Phase.{Waiting, phase, beats, sameInput, sameOutput, pulled, among, placeSent, placeAfter}
+use Rattle.model.specs.Phase.{crosspoints}
 use Rattle.model.specs.Slackness.{Orderly, relocated}
 use Rattle.model.proofs.WaitingOrder.{input-i, input-e, output-i, output-e, crosspoint-i, among-e}
-use Rattle.model.proofs.PhaseFacts.{crosspoints, crosspoints-i, crosspoints-all, crosspoints-crossed}
+use Rattle.model.proofs.PhaseFacts.{crosspoints-i, crosspoints-all, crosspoints-crossed}
 use Rattle.model.proofs.PhaseFacts.{scheduled-empty}
 use Rattle.model.proofs.PhaseFacts.{sent-i, sent-scheduled, sent-free, pulled-free}
 use Rattle.model.proofs.PhaseMatching.{straight-all, sent-all, pulled-all}
@@ -414,7 +415,7 @@ module _ {table places : List ℕ} {cross : List (List ℕ)} (st : Steady table 
 
     -- the cells that an output without a straight cell takes from
     pulled-best : (x : ℕ) → (StraightBy outputOf x → ⊥) → pulledOf (phase all) x ≡ bestOf cells x
-    unfolding pulledOf bestOf toOutput phase pulled crosspoints cells StraightBy
+    unfolding pulledOf bestOf toOutput phase pulled cells StraightBy
     pulled-best x none = ap (λ l. numberOf (first? l)) (keep-comm free to L ∙ keep-all free (keep to L) pass)
       where
         L : List Waiting

@@ -21,9 +21,9 @@ use Rattle.laws.proofs.Numbers.{length-numbersFrom, numbersFrom-mem, mem-number
 use Rattle.laws.proofs.Pairwise.{pairwise-nil, pairwise-cons, pairwise-map}
 use Rattle.cell.specs.Limits.{cellLimit}
 use Rattle.cell.proofs.Order.{Compared, below, equal, above, compare}
-use Rattle.model.specs.Phase.{Waiting, ahead}
+use Rattle.model.specs.Phase.{Waiting, ahead, crosspoints}
 use Rattle.model.proofs.WaitingOrder.{ahead-i}
-use Rattle.model.proofs.PhaseFacts.{crosspoints, crosspoints-i, crosspoints-all, crosspoints-crossed}
+use Rattle.model.proofs.PhaseFacts.{crosspoints-i, crosspoints-all, crosspoints-crossed}
 use Rattle.layout.proofs.Records.{entryAt-input}
 use Rattle.layout.specs.Entry.{entryAt, portsIn, countIn}
 use Rattle.layout.specs.Table.{placeOf}

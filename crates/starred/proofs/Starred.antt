@@ -14,7 +14,8 @@ use Rattle.matching.specs.Matching.{proposed, round, rounds, settled, matched, 
 use Rattle.model.specs.State.{fresh, isListed, isCrossed, isBuffered, cells}
 use Rattle.model.specs.Checks.{noSuchPort, noSuchFlow, outOfTurn, fallingRank, full, fault, faultFrom}
 use Rattle.model.specs.Checks.{firstFault}
-use Rattle.model.specs.Phase.{numberFrom, numberSections, numbered, waiting, sameInput, sameOutput, ahead}
+use Rattle.model.specs.Phase.{numberFrom, numberSections, numbered, waiting, lists, crosspoints, sameInput}
+use Rattle.model.specs.Phase.{sameOutput, ahead}
 use Rattle.model.specs.Phase.{beats, among, sameCrosspoint, heads, blocked, crosspointEmpty, ready, scheduled}
 use Rattle.model.specs.Phase.{isUrgent, urgent, takesPart, candidates, straight, sent, pulled, phase}
 use Rattle.model.specs.Phase.{placeSent, placeAfter, placedBy, moved}
@@ -32,5 +33,5 @@ use Rattle.play.specs.Player.{pifo, playCrossbar, playPifo}
 use Rattle.starred.specs.Shows.{sameDeparture, sameDepartures, crossbarAnswers, pifoAnswers, crossbarRuns, pifoRuns, startAnswers, given, arrival, cell, call, starred}
 
 pub starred-shows : all? given starred ≡ true
-unfolding bind flatten keep some? none? all? count least pairwise update first? numbersFrom upTo sameFlow fits32 portsInRange over accepted sameCell proposed round rounds settled matched proposals fresh isListed isCrossed isBuffered cells noSuchPort noSuchFlow outOfTurn fallingRank full fault faultFrom firstFault numberFrom numberSections numbered waiting sameInput sameOutput ahead beats among sameCrosspoint heads blocked crosspointEmpty ready scheduled isUrgent urgent takesPart candidates straight sent pulled phase placeSent placeAfter placedBy moved inListOf newEntry enterAfter enter arrive leaving departuresOf without run slot switchAfter start freshPifo queued join best rest runPifo slotPifo pifoAfter sameBytes ascii keyName keyText digitsWithin decimal line after upToLineFeed isDigit valueAfter noLeadingZero readNumber readLine give _>>=_ number exactly begins read-arrival read-arrivals block afterEnd next header departureText departuresText refusalText lineOf playFrom play crossbar pifo playCrossbar playPifo sameDeparture sameDepartures crossbarAnswers pifoAnswers crossbarRuns pifoRuns startAnswers given arrival cell call starred
+unfolding bind flatten keep some? none? all? count least pairwise update first? numbersFrom upTo sameFlow fits32 portsInRange over accepted sameCell proposed round rounds settled matched proposals fresh isListed isCrossed isBuffered cells noSuchPort noSuchFlow outOfTurn fallingRank full fault faultFrom firstFault numberFrom numberSections numbered waiting lists crosspoints sameInput sameOutput ahead beats among sameCrosspoint heads blocked crosspointEmpty ready scheduled isUrgent urgent takesPart candidates straight sent pulled phase placeSent placeAfter placedBy moved inListOf newEntry enterAfter enter arrive leaving departuresOf without run slot switchAfter start freshPifo queued join best rest runPifo slotPifo pifoAfter sameBytes ascii keyName keyText digitsWithin decimal line after upToLineFeed isDigit valueAfter noLeadingZero readNumber readLine give _>>=_ number exactly begins read-arrival read-arrivals block afterEnd next header departureText departuresText refusalText lineOf playFrom play crossbar pifo playCrossbar playPifo sameDeparture sameDepartures crossbarAnswers pifoAnswers crossbarRuns pifoRuns startAnswers given arrival cell call starred
 starred-shows = refl
