@@ -14,6 +14,7 @@ pub mod PhaseMatching
 pub mod PhasePlaces
 pub mod PhaseSlack
 pub mod PifoLaws
+pub mod PifoRest
 pub mod Related
 pub mod SameDeparture
 pub mod Sections

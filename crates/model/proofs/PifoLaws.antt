@@ -75,7 +75,7 @@ queues-join ports (c ∷ cs) queues q = queues-join ports cs (joined c queues) (
 
 mem-rest : (q : List Cell) {c : Cell} → List·Memᴰ c (rest q) → List·Memᴰ c q
 unfolding rest
-mem-rest q m = mem-keep-in (λ c. some? (λ d. over d c) q) q m
+mem-rest q m = mem-keep-in _ q m
 
 getD-rest : (queues : List (List Cell)) (o : ℕ) → getD (map rest queues) o [] ≡ rest (getD queues o [])
 unfolding rest keep

@@ -88,17 +88,17 @@ module _ (s : Switch) (records : List Arrival) where
   slot-runs h k = rw (h, k, slot)
 
 module _ (q : Pifo) (records : List Arrival) where
-  pifo-end : eqb (q .clock) clockEnd ≡ true → slotPifo q (some records) ≡ refused ClockEnd 0
+  pub pifo-end : eqb (q .clock) clockEnd ≡ true → slotPifo q (some records) ≡ refused ClockEnd 0
   unfolding slotPifo
   pifo-end h = rw (h, slotPifo)
 
-  pifo-fault : eqb (q .clock) clockEnd ≡ false → (f : Refusal × ℕ)
+  pub pifo-fault : eqb (q .clock) clockEnd ≡ false → (f : Refusal × ℕ)
       → firstFault (q .ports) (queued q) (map (accepted (q .clock)) records) ≡ some f
       → slotPifo q (some records) ≡ refused (f .0) (f .1)
   unfolding slotPifo
   pifo-fault h f k = rw (h, k, slotPifo)
 
-  pifo-runs : eqb (q .clock) clockEnd ≡ false
+  pub pifo-runs : eqb (q .clock) clockEnd ≡ false
       → firstFault (q .ports) (queued q) (map (accepted (q .clock)) records) ≡ none
       → slotPifo q (some records) ≡ done (runPifo q (map (accepted (q .clock)) records))
   unfolding slotPifo

@@ -411,7 +411,7 @@ fits-tag a h = search (and-l, and-r) depth 9
 
 -- the records of a slot, accepted
 module _ (slot : ℕ) (records : List Arrival) where
-  accepted-slot : (c : Cell) → List·Memᴰ c (map (accepted slot) records) → c .slot ≡ slot
+  pub accepted-slot : (c : Cell) → List·Memᴰ c (map (accepted slot) records) → c .slot ≡ slot
   unfolding accepted
   accepted-slot c m = let w = Memᴰ·of-map (accepted slot) records m in ap (λ d. d .slot) (sym (w .2))
 

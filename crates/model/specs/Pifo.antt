@@ -36,7 +36,8 @@ join (c ∷ cs) queues = join cs (update (c .output) (λ q. q ++ (c ∷ [])) que
 unfoldable pub best : List Cell → Option Cell
 best q = first? (least over q)
 
--- the queue without it
+-- the queue without it: all cells that another is over. On the queues that occur, where no two cells share input and
+-- slot, just the best cell goes (`rest-just-best` in proofs/PifoRest).
 unfoldable pub rest : List Cell → List Cell
 rest q = keep (λ c. some? (λ d. over d c) q) q
 
@@ -69,3 +70,8 @@ slotPifo s (some records) =
 unfoldable pub pifoAfter : Pifo → Outcome Sent → Pifo
 pifoAfter s (done r) = r .pifo
 pifoAfter s (refused r place) = s
+
+-- the switch after a list of slot calls, each call getting it as the last one left it
+unfoldable pub pifoAfterAll : Pifo → List (Option (List Arrival)) → Pifo
+pifoAfterAll s [] = s
+pifoAfterAll s (a ∷ calls) = pifoAfterAll (pifoAfter s (slotPifo s a)) calls

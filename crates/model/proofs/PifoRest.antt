@@ -1,0 +1,333 @@
+-- What leaves a queue of the PIFO switch. On the queues that occur no two cells share input and slot, and so just the
+-- best cell goes.
+--     JustBest          a queue without its best cell is its rest; a queue that has none is empty
+--     just-best         so it is where no two cells share input and slot
+--     rest-just-best    so it is in every slot that a PIFO switch accepts, from a fresh one on
+use Prim.Native.Nat.{ℕ, _+_, _≤_}
+use native.Mathlib.Omega.{arith}
+use mathlib.Core.Bool.{Bool, true, false, not, _&&_}
+use mathlib.Core.Path.{_≡_, refl, sym, _∙_, ap}
+use mathlib.Core.Logic.{_⊎_, inl, inr, _≢_}
+use mathlib.Core.List.{List, [], _∷_, map, flatten, List·Memᴰ, List·Memᴰ·head, List·Memᴰ·not-nil}
+use mathlib.Core.Option.{Option, none, some}
+use lib.Dec.{eqb, ltb}
+use lib.ListN.{getD}
+use borrow.Author.Tests.{eqb-true, eqb-false, eq-eqb, ne-eqb, ltb-true}
+use Rattle.laws.specs.Lists.{keep, some?, count, least, first?}
+use Rattle.laws.specs.Order.{Strict}
+use Rattle.laws.proofs.Tests.{clash, either, same, by-fail, and-i, and-l, and-r, and-false-r, not-i, not-e}
+use Rattle.laws.proofs.Lists.{some?-i, some?-e, none?-i, keep-ext}
+use Rattle.laws.proofs.Count.{count-nil, count-le, count-lt, count-pos, count-zero, count-keep-le}
+use Rattle.laws.proofs.Least.{least-below, mem-least-in, mem-least-first}
+use Rattle.laws.proofs.Pairwise.{pairwise-mono, pairwise-le-one}
+use Rattle.cell.specs.declared.Arrival.{Arrival}
+use Rattle.cell.specs.declared.Cell.{Cell}
+use Rattle.cell.specs.declared.Refusal.{Refusal}
+use Rattle.cell.specs.declared.Refusal.the-variants.{ClockEnd}
+use Rattle.cell.specs.Cell.{accepted, sameCell}
+use Rattle.cell.specs.Limits.{clockEnd}
+use Rattle.cell.specs.Order.{over}
+use Rattle.cell.proofs.Order.{over-irrefl, over-trans, over-total}
+use Rattle.model.specs.Checks.{done, refused, firstFault}
+use Rattle.model.specs.Pifo.{Pifo, freshPifo, queued, join, best, rest, Sent, runPifo, slotPifo, pifoAfter}
+use Rattle.model.specs.Pifo.{pifoAfterAll}
+use Rattle.model.proofs.Admitted.{admitted}
+use Rattle.model.proofs.CellOrder.{same-cell-refl, same-cell-path}
+use Rattle.model.proofs.PifoLaws.{Queues, queues-fresh, queues-join, queues-rest, join-count, queue-of}
+use Rattle.model.proofs.PifoLaws.{rest-queues}
+use Rattle.model.proofs.Related.{flatten-empty, pifo-end, pifo-fault, pifo-runs}
+use Rattle.model.proofs.SoundArrival.{accepted-slot}
+
+-- Just the best cell of a queue leaves it: it is over all others, the queue holds it once, and the rest is all but it.
+-- A queue that has no best cell is empty.
+pub record JustBest (q : List Cell) : Type 0 where
+  pub highest : (b c : Cell) → best q ≡ some b → List·Memᴰ c q → (b ≡ c) ⊎ (over b c ≡ true)
+  pub once : (b : Cell) → best q ≡ some b → count (sameCell b) q ≡ 1
+  pub others : (b : Cell) → best q ≡ some b → rest q ≡ keep (λ c. not (sameCell b c)) q
+  pub empty : best q ≡ none → q ≡ []
+
+-- came in at this input in this slot
+unfoldable pub cameIn : ℕ → ℕ → Cell → Bool
+cameIn input slot c = eqb (c .input) input && eqb (c .slot) slot
+
+-- no two cells share input and slot
+abbrev pub Distinct : List Cell → Type 0
+Distinct q = (input slot : ℕ) → count (cameIn input slot) q ≤ 1
+
+------------------------------------------------------------------------
+-- a queue in which no two cells share input and slot
+
+first-mem : {A : Type 0} (l : List A) (b : A) → first? l ≡ some b → List·Memᴰ b l
+unfolding first?
+first-mem [] b h = absurd (let z : _≡_ {A = ℕ} 0 1 = cc in omega arith)
+first-mem (x ∷ l) b h = let e : b ≡ x = cc in List·Memᴰ·head e
+
+first-none : {A : Type 0} (l : List A) → first? l ≡ none → l ≡ []
+unfolding first?
+first-none [] h = refl
+first-none (x ∷ l) h = absurd (let z : _≡_ {A = ℕ} 0 1 = cc in omega arith)
+
+over-strict : Strict over
+over-strict = record { irreflexive = over-irrefl; transitive = over-trans }
+
+module _ (q : List Cell) where
+  best-least : (b : Cell) → best q ≡ some b → List·Memᴰ b (least over q)
+  unfolding best
+  best-least b h = first-mem (least over q) b h
+
+  best-in : (b : Cell) → best q ≡ some b → List·Memᴰ b q
+  best-in b h = mem-least-in over q (best-least b h)
+
+  module _ (distinct : Distinct q) (b : Cell) (h : best q ≡ some b) where
+    same-came : (c : Cell) → sameCell b c ≡ true → cameIn (b .input) (b .slot) c ≡ true
+    unfolding cameIn
+    same-came c s =
+        let e = same-cell-path b c s in
+        and-i (eqb (c .input) (b .input)) (eqb (c .slot) (b .slot))
+        (eq-eqb (c .input) (b .input) (ap (λ x. x .input) (sym e)))
+        (eq-eqb (c .slot) (b .slot) (ap (λ x. x .slot) (sym e)))
+
+    best-once : count (sameCell b) q ≡ 1
+    best-once =
+        omega (
+          arith,
+          count-pos (sameCell b) (best-in b h) (same-cell-refl b),
+          count-le (sameCell b) (cameIn (b .input) (b .slot)) q (λ c m s. same-came c s),
+          distinct (b .input) (b .slot),
+        )
+
+    -- another cell came in at another input or in another slot
+    others-differ : (c : Cell) → List·Memᴰ c q → sameCell b c ≡ false → (b .input ≢ c .input) ⊎ (b .slot ≢ c .slot)
+    unfolding cameIn
+    others-differ c m s = go (either (eqb (c .input) (b .input))) (either (eqb (c .slot) (b .slot)))
+      where
+        go : (eqb (c .input) (b .input) ≡ true) ⊎ (eqb (c .input) (b .input) ≡ false)
+            → (eqb (c .slot) (b .slot) ≡ true) ⊎ (eqb (c .slot) (b .slot) ≡ false)
+            → (b .input ≢ c .input) ⊎ (b .slot ≢ c .slot)
+        go (inr i) k = inl (λ e. eqb-false (c .input) (b .input) i (sym e))
+        go (inl i) (inr k) = inr (λ e. eqb-false (c .slot) (b .slot) k (sym e))
+        go (inl i) (inl k) =
+            absurd
+            (omega (
+              arith,
+              best-once,
+              count-lt (sameCell b) (cameIn (b .input) (b .slot)) (λ d n t. same-came d t) m s
+                  (and-i (eqb (c .input) (b .input)) (eqb (c .slot) (b .slot)) i k),
+              distinct (b .input) (b .slot),
+            ))
+
+    best-over : (c : Cell) → List·Memᴰ c q → sameCell b c ≡ false → over b c ≡ true
+    best-over c m s = go (over-total b c (others-differ c m s))
+      where
+        go : (over b c ≡ true) ⊎ (over c b ≡ true) → over b c ≡ true
+        go (inl o) = o
+        go (inr o) = absurd (clash o (mem-least-first over q (best-least b h) m))
+
+    best-highest : (c : Cell) → List·Memᴰ c q → (b ≡ c) ⊎ (over b c ≡ true)
+    best-highest c m = go (either (sameCell b c))
+      where
+        go : (sameCell b c ≡ true) ⊎ (sameCell b c ≡ false) → (b ≡ c) ⊎ (over b c ≡ true)
+        go (inl s) = inl (same-cell-path b c s)
+        go (inr s) = inr (best-over c m s)
+
+    rest-others : rest q ≡ keep (λ c. not (sameCell b c)) q
+    unfolding rest
+    rest-others =
+        keep-ext (λ c. some? (λ d. over d c) q) (λ c. not (sameCell b c)) q
+        (λ c m. same (some? (λ d. over d c) q) (not (sameCell b c)) (stays c)
+        (λ n. some?-i (λ d. over d c) (best-in b h) (best-over c m (not-e (sameCell b c) n))))
+      where
+        stays : (c : Cell) → some? (λ d. over d c) q ≡ true → not (sameCell b c) ≡ true
+        stays c o =
+            let w = some?-e (λ d. over d c) q o in
+            not-i (sameCell b c) (by-fail (sameCell b c) (λ s.
+            clash (ap (over (w .0)) (same-cell-path b c s) ∙ w .2)
+            (mem-least-first over q (best-least b h) (w .1))))
+
+no-best : (q : List Cell) → best q ≡ none → q ≡ []
+unfolding best
+no-best [] h = refl
+no-best (c ∷ q) h =
+    let w = least-below over over-strict (c ∷ q) (List·Memᴰ·head refl) in
+    absurd (List·Memᴰ·not-nil (rw (first-none (least over (c ∷ q)) h) at (w .1)))
+
+pub just-best : (q : List Cell) → Distinct q → JustBest q
+just-best q distinct =
+    record {
+      highest = λ b c h m. best-highest q distinct b h c m;
+      once = λ b h. best-once q distinct b h;
+      others = λ b h. rest-others q distinct b h;
+      empty = λ h. no-best q h;
+    }
+
+------------------------------------------------------------------------
+-- the queues that occur
+
+-- What is kept between calls: the cells came in before, no two at one input in one slot.
+record Kept (s : Pifo) : Type 0 where
+  queues : Queues (s .ports) (s .queues)
+  past : (input slot : ℕ) → s .clock ≤ slot → _≡_ {A = ℕ} (count (cameIn input slot) (queued s)) 0
+  distinct : Distinct (queued s)
+
+kept-fresh : (ports first : ℕ) → Kept (freshPifo ports first)
+unfolding freshPifo queued
+kept-fresh ports first =
+    record {
+      queues = queues-fresh ports;
+      past = λ input slot h.
+          ap (count (cameIn input slot)) (flatten-empty {A = Cell} ports) ∙ count-nil (cameIn input slot);
+      distinct = λ input slot.
+          rw (flatten-empty {A = Cell} ports) (omega (arith, count-nil (cameIn input slot)));
+    }
+
+-- the cells that the records of a call become
+abbrev coming : Pifo → List Arrival → List Cell
+coming s records = map (accepted (s .clock)) records
+
+-- the queues of a slot once these have joined
+abbrev pub joinedQueues : Pifo → List Arrival → List (List Cell)
+joinedQueues s records = join (coming s records) (s .queues)
+
+-- an accepted slot
+module _ (s : Pifo) (kept : Kept s) (records : List Arrival)
+    (clear : firstFault (s .ports) (queued s) (coming s records) ≡ none) where
+  abbrev cs : List Cell
+  cs = coming s records
+
+  abbrev joined : List (List Cell)
+  joined = joinedQueues s records
+
+  joined-queues : Queues (s .ports) joined
+  joined-queues = queues-join (s .ports) cs (s .queues) (kept .queues)
+
+  -- at most one comes in at an input, and none in another slot
+  coming-one : (input slot : ℕ) → count (cameIn input slot) cs ≤ 1
+  unfolding cameIn
+  coming-one input slot =
+      pairwise-le-one (cameIn input slot) cs
+      (pairwise-mono (λ c d. ltb (c .input) (d .input)) (λ c d. not (cameIn input slot c && cameIn input slot d)) cs go
+      (admitted (s .ports) (queued s) cs clear .turns))
+    where
+      at : (c : Cell) → cameIn input slot c ≡ true → c .input ≡ input
+      at c h = eqb-true (c .input) input (and-l (eqb (c .input) input) (eqb (c .slot) slot) h)
+
+      go : (c d : Cell) → List·Memᴰ c cs → List·Memᴰ d cs → ltb (c .input) (d .input) ≡ true
+          → not (cameIn input slot c && cameIn input slot d) ≡ true
+      go c d m k l =
+          not-i (cameIn input slot c && cameIn input slot d) (by-fail (cameIn input slot c && cameIn input slot d) (λ t.
+          omega (
+            arith,
+            ltb-true (c .input) (d .input) l,
+            at c (and-l (cameIn input slot c) (cameIn input slot d) t),
+            at d (and-r (cameIn input slot c) (cameIn input slot d) t),
+          )))
+
+  coming-none : (input slot : ℕ) → slot ≢ s .clock → _≡_ {A = ℕ} (count (cameIn input slot) cs) 0
+  unfolding cameIn
+  coming-none input slot h =
+      count-zero (cameIn input slot) cs
+      (none?-i (cameIn input slot) cs (λ c m.
+      and-false-r (eqb (c .input) input) (eqb (c .slot) slot)
+      (ne-eqb (c .slot) slot (λ e. h (sym e ∙ accepted-slot (s .clock) records c m)))))
+
+  joined-count : (input slot : ℕ)
+      → count (cameIn input slot) (flatten joined) ≡ count (cameIn input slot) cs + count (cameIn input slot) (queued s)
+  unfolding queued
+  joined-count input slot =
+      join-count (cameIn input slot) cs (s .queues)
+      (λ c m. rw (kept .queues .size) (admitted (s .ports) (queued s) cs clear .outputs c m))
+
+  joined-distinct : Distinct (flatten joined)
+  joined-distinct input slot = go (either (eqb slot (s .clock)))
+    where
+      go : (eqb slot (s .clock) ≡ true) ⊎ (eqb slot (s .clock) ≡ false) → count (cameIn input slot) (flatten joined) ≤ 1
+      go (inl e) =
+          let now : slot ≡ s .clock = eqb-true slot (s .clock) e in
+          omega (arith, joined-count input slot, coming-one input slot, kept .past input slot (omega arith))
+      go (inr e) =
+          omega (
+            arith,
+            joined-count input slot,
+            coming-none input slot (eqb-false slot (s .clock) e),
+            kept .distinct input slot,
+          )
+
+  -- each queue from which the slot sends
+  queue-distinct : (output : ℕ) → Distinct (getD joined output [])
+  queue-distinct output input slot =
+      rw (← queue-of (s .ports) joined joined-queues output)
+      (omega (
+        arith,
+        count-keep-le (λ c. eqb (c .output) output) (cameIn input slot) (flatten joined),
+        joined-distinct input slot,
+      ))
+
+  stays-le : (input slot : ℕ)
+      → count (cameIn input slot) (flatten (map rest joined)) ≤ count (cameIn input slot) (flatten joined)
+  stays-le input slot =
+      rw (rest-queues (s .ports) joined joined-queues) (count-keep-le _ (cameIn input slot) (flatten joined))
+
+  kept-run : Kept (runPifo s cs .pifo)
+  unfolding runPifo queued
+  kept-run =
+      record {
+        queues = queues-rest (s .ports) joined joined-queues;
+        past = λ input slot h.
+            let other : slot ≢ s .clock = omega arith in
+            omega (
+              arith,
+              stays-le input slot,
+              joined-count input slot,
+              coming-none input slot other,
+              kept .past input slot (omega arith),
+            );
+        distinct = λ input slot. omega (arith, stays-le input slot, joined-distinct input slot);
+      }
+
+-- an accepted slot runs; any other is refused
+data Called (s : Pifo) (records : List Arrival) : Type 0 where
+  runs : firstFault (s .ports) (queued s) (coming s records) ≡ none
+      → slotPifo s (some records) ≡ done (runPifo s (coming s records)) → Called s records
+  refuses : (r : Refusal) (place : ℕ) → slotPifo s (some records) ≡ refused r place → Called s records
+
+called : (s : Pifo) (records : List Arrival) → Called s records
+called s records = go (eqb (s .clock) clockEnd) refl (firstFault (s .ports) (queued s) (coming s records)) refl
+  where
+    go : (b : Bool) → eqb (s .clock) clockEnd ≡ b → (f : Option (Refusal × ℕ))
+        → firstFault (s .ports) (queued s) (coming s records) ≡ f → Called s records
+    go true e f q = refuses ClockEnd 0 (pifo-end s records e)
+    go false e (some f) q = refuses (f .0) (f .1) (pifo-fault s records e f q)
+    go false e none q = runs q (pifo-runs s records e q)
+
+kept-after : (s : Pifo) (a : Option (List Arrival)) → Kept s → Kept (pifoAfter s (slotPifo s a))
+unfolding pifoAfter slotPifo
+kept-after s none kept = kept
+kept-after s (some records) kept = go (called s records)
+  where
+    go : Called s records → Kept (pifoAfter s (slotPifo s (some records)))
+    go (runs clear e) = rw e (kept-run s kept records clear)
+    go (refuses r place e) = rw e kept
+
+kept-all : (s : Pifo) (calls : List (Option (List Arrival))) → Kept s → Kept (pifoAfterAll s calls)
+unfolding pifoAfterAll
+kept-all s [] kept = kept
+kept-all s (a ∷ calls) kept = kept-all (pifoAfter s (slotPifo s a)) calls (kept-after s a kept)
+
+-- a PIFO switch after a list of slot calls from a fresh one
+abbrev pub reached : ℕ → ℕ → List (Option (List Arrival)) → Pifo
+reached ports first calls = pifoAfterAll (freshPifo ports first) calls
+
+-- in every slot that it accepts just the best cell leaves each queue
+pub rest-just-best : (ports first : ℕ) (calls : List (Option (List Arrival))) (records : List Arrival) (r : Sent)
+    → slotPifo (reached ports first calls) (some records) ≡ done r
+    → (output : ℕ) → JustBest (getD (joinedQueues (reached ports first calls) records) output [])
+rest-just-best ports first calls records r d output = go (called s records)
+  where
+    s : Pifo
+    s = reached ports first calls
+
+    go : Called s records → JustBest (getD (joinedQueues s records) output [])
+    go (runs clear e) =
+        just-best (getD (joinedQueues s records) output [])
+        (queue-distinct s (kept-all (freshPifo ports first) calls (kept-fresh ports first)) records clear output)
+    go (refuses r′ place e) = absurd (let z : _≡_ {A = ℕ} 0 1 = cc in omega arith)
