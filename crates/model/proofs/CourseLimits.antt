@@ -21,13 +21,13 @@ use Rattle.model.specs.State.{Place, Entry, Switch, cells, isListed, isC
 use Rattle.model.specs.Checks.{firstFault}
 use Rattle.model.specs.Sound.{sound, soundSections}
 use Rattle.model.specs.Phase.{Waiting, waiting, sameCrosspoint, Phase, phase, placeSent, placeAfter, placedBy}
-use Rattle.model.specs.Phase.{filled, moved}
+use Rattle.model.specs.Phase.{afterSending, moved}
 use Rattle.model.specs.Crossbar.{Course, run}
 use Rattle.model.specs.Emulation.{cellsAt, taken, brought, atCrosspoint, WithinLimits}
 use Rattle.model.specs.Slackness.{Orderly, OneCrosspoint, apart, relocate, relocated}
 use Rattle.model.proofs.SoundOrderly.{sound-orderly, sound-one-crosspoint}
 use Rattle.model.proofs.SoundSlot.{arrived-sound, between-sound, settled-sound}
-use Rattle.model.proofs.PhaseLimits.{phase-taken, phase-brought, filled-crosspoint}
+use Rattle.model.proofs.PhaseLimits.{phase-taken, phase-brought, sent-crosspoint}
 use Rattle.model.proofs.WaitingOrder.{crosspoint-i}
 use Rattle.model.proofs.CellOrder.{same-cell-refl}
 use Rattle.model.proofs.Numbering.{entryOf, waiting-cells, count-waiting, waiting-placed, waiting-moved}
@@ -89,12 +89,12 @@ crosspoint-one sections one input output =
         (and-r (isCrossed (v .place) && here (v .cell)) (isCrossed (w .place) && here (w .cell)) t)))
 
 -- and within a phase, once the scheduled cells are sent
-filled-one : (sections : List (List Entry)) → Orderly (waiting sections) → OneCrosspoint (waiting sections)
-    → (input output : ℕ) → atCrosspoint input output (filled (phase (waiting sections)) sections) ≤ 1
-unfolding filled
-filled-one sections o one =
+sent-one : (sections : List (List Entry)) → Orderly (waiting sections) → OneCrosspoint (waiting sections)
+    → (input output : ℕ) → atCrosspoint input output (afterSending (phase (waiting sections)) sections) ≤ 1
+unfolding afterSending
+sent-one sections o one =
     crosspoint-one (placedBy (placeSent (phase (waiting sections))) sections)
-    (rw (waiting-placed (placeSent (phase (waiting sections))) sections) (filled-crosspoint (waiting sections) o one))
+    (rw (waiting-placed (placeSent (phase (waiting sections))) sections) (sent-crosspoint (waiting sections) o one))
 
 -- Two phases, one after the other, on sections that are orderly before each.
 module _ (arrived : List (List Entry)) (o : Orderly (waiting arrived))
@@ -234,9 +234,9 @@ within-limits s records h fits ticks clear =
       taken-two = leaves-two arrived (orderly arrived a) (orderly between b);
       brought-two = enters-two arrived (orderly arrived a) (orderly between b);
       crosspoint-arrived = crosspoint-one arrived (apart-all arrived a);
-      crosspoint-filled-one = filled-one arrived (orderly arrived a) (apart-all arrived a);
+      crosspoint-sent-one = sent-one arrived (orderly arrived a) (apart-all arrived a);
       crosspoint-between = crosspoint-one between (apart-all between b);
-      crosspoint-filled-two = filled-one between (orderly between b) (apart-all between b);
+      crosspoint-sent-two = sent-one between (orderly between b) (apart-all between b);
       crosspoint-settled = crosspoint-one (c .settled) (apart-all (c .settled) (settled-sound s records h fits ticks clear));
     }
   where

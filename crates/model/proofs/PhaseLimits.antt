@@ -1,7 +1,7 @@
 -- The limits that a phase keeps, and what it leaves as it was.
 --     phase-taken        at most one cell leaves the list of an input
 --     phase-brought      at most one cell enters the buffer of an output
---     filled-crosspoint  no crosspoint holds two cells once the scheduled cells are sent
+--     sent-crosspoint    no crosspoint holds two cells once the scheduled cells are sent
 --     phase-crosspoint   nor at the end of the phase
 --     phase-orderly      the cells are orderly afterwards
 --     apart-e            what it is that two cells do not share a crosspoint
@@ -26,7 +26,7 @@ use Rattle.model.proofs.WaitingOrder.{ahead-total, beats-total}
 use Rattle.model.proofs.PhaseFacts.{crosspoints-i, scheduled-empty, scheduled-one, sent-scheduled, sent-free}
 use Rattle.model.proofs.PhaseFacts.{pulled-free, pulled-one}
 use Rattle.model.proofs.PhaseMatching.{straight-matched, sent-all, pulled-all, match-input, match-output}
-use Rattle.model.proofs.PhasePlaces.{listed-forward, filled-forward, crossed-forward, taken-by, brought-by}
+use Rattle.model.proofs.PhasePlaces.{listed-forward, sent-forward, crossed-forward, taken-by, brought-by}
 use Rattle.model.proofs.Numbering.{putAt}
 
 -- what it is that two cells do not share a crosspoint
@@ -184,15 +184,15 @@ module _ (all : List Waiting) (o : Orderly all) where
       go (inr (inr a)) = absurd (apart-e f e a j h (crosspoint-sym e f c))
 
   -- a sent cell goes to an empty crosspoint
-  filled-same : OneCrosspoint all → {e f : Waiting} → List·Memᴰ e all → List·Memᴰ f all → sameCrosspoint e f ≡ true
+  sent-same-crosspoint : OneCrosspoint all → {e f : Waiting} → List·Memᴰ e all → List·Memᴰ f all → sameCrosspoint e f ≡ true
       → (isCrossed (e .place) ≡ true) ⊎ List·Memᴰ e (phase all .sent)
       → (isCrossed (f .place) ≡ true) ⊎ List·Memᴰ f (phase all .sent) → e ≡ f
-  filled-same one m k c (inl h) (inl j) = crossed-same one m k h j c
-  filled-same one {e} {f} m k c (inl h) (inr j) =
+  sent-same-crosspoint one m k c (inl h) (inl j) = crossed-same one m k h j c
+  sent-same-crosspoint one {e} {f} m k c (inl h) (inr j) =
       absurd (clash (crosspoint-sym e f c) (scheduled-empty all (sent-scheduled all j) (crosspoints-i all m h)))
-  filled-same one {e} {f} m k c (inr h) (inl j) =
+  sent-same-crosspoint one {e} {f} m k c (inr h) (inl j) =
       absurd (clash c (scheduled-empty all (sent-scheduled all h) (crosspoints-i all k j)))
-  filled-same one {e} {f} m k c (inr h) (inr j) = sent-same h j (crosspoint-input e f c)
+  sent-same-crosspoint one {e} {f} m k c (inr h) (inr j) = sent-same h j (crosspoint-input e f c)
 
   -- cells put where those at a crosspoint were there already or are sent
   crosspoint-placed : OneCrosspoint all → (place : Waiting → Place)
@@ -208,11 +208,11 @@ module _ (all : List Waiting) (o : Orderly all) where
           → apart (putAt place e) (putAt place f) ≡ true
       go e f m k n =
           apart-i (putAt place e) (putAt place f)
-          (λ h j c. numbers-differ e f n (filled-same one m k c (forward e m h) (forward f k j)))
+          (λ h j c. numbers-differ e f n (sent-same-crosspoint one m k c (forward e m h) (forward f k j)))
 
   -- after rule 5
-  pub filled-crosspoint : OneCrosspoint all → OneCrosspoint (map (putAt (placeSent (phase all))) all)
-  filled-crosspoint one = crosspoint-placed one (placeSent (phase all)) (λ e m. filled-forward all o m)
+  pub sent-crosspoint : OneCrosspoint all → OneCrosspoint (map (putAt (placeSent (phase all))) all)
+  sent-crosspoint one = crosspoint-placed one (placeSent (phase all)) (λ e m. sent-forward all o m)
 
   -- after rule 6
   pub phase-crosspoint : OneCrosspoint all → OneCrosspoint (relocated (phase all) all)

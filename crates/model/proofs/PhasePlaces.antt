@@ -157,10 +157,10 @@ module _ (all : List Waiting) where
     outside-forward {e} m n = by-fail (isBuffered (e .place)) (λ h. clash (buffered-forward m h) n)
 
     -- a cell at a crosspoint after rule 5 was there, or was sent there
-    pub filled-forward : {e : Waiting} → List·Memᴰ e all → isCrossed (placeSent (phase all) e) ≡ true
+    pub sent-forward : {e : Waiting} → List·Memᴰ e all → isCrossed (placeSent (phase all) e) ≡ true
         → (isCrossed (e .place) ≡ true) ⊎ List·Memᴰ e (phase all .sent)
     unfolding placeSent isCrossed
-    filled-forward {e} m h = go (among (phase all .straight) e) (among (phase all .sent) e) refl h
+    sent-forward {e} m h = go (among (phase all .straight) e) (among (phase all .sent) e) refl h
       where
         go : (s t : Bool) → among (phase all .sent) e ≡ t
             → isCrossed (cond s buffered (cond t crossed (e .place))) ≡ true
@@ -173,7 +173,7 @@ module _ (all : List Waiting) where
     pub crossed-forward : {e : Waiting} → List·Memᴰ e all → isCrossed (placeAfter (phase all) e) ≡ true
         → (isCrossed (e .place) ≡ true) ⊎ List·Memᴰ e (phase all .sent)
     unfolding placeAfter isCrossed
-    crossed-forward {e} m h = filled-forward m (go (among (phase all .pulled) e) h)
+    crossed-forward {e} m h = sent-forward m (go (among (phase all .pulled) e) h)
       where
         go : (q : Bool) → isCrossed (cond q buffered (placeSent (phase all) e)) ≡ true
             → isCrossed (placeSent (phase all) e) ≡ true

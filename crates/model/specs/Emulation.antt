@@ -15,7 +15,7 @@ use Rattle.cell.specs.Cell.{sameCell, arrivalFits}
 use Rattle.cell.specs.Limits.{portsInRange, fits32}
 use Rattle.model.specs.State.{Place, Entry, Switch, fresh, cells, isListed, isCrossed, isBuffered}
 use Rattle.model.specs.Checks.{Outcome, done, refused}
-use Rattle.model.specs.Phase.{filled}
+use Rattle.model.specs.Phase.{afterSending}
 use Rattle.model.specs.Crossbar.{Course, slot, switchAfter}
 use Rattle.model.specs.Pifo.{Pifo, freshPifo, Sent, slotPifo, pifoAfter}
 
@@ -57,9 +57,9 @@ pub record WithinLimits (c : Course) : Type 0 where
   pub taken-two : (input : ℕ) → taken input c ≤ 2
   pub brought-two : (output : ℕ) → brought output c ≤ 2
   pub crosspoint-arrived : (input output : ℕ) → atCrosspoint input output (c .arrived) ≤ 1
-  pub crosspoint-filled-one : (input output : ℕ) → atCrosspoint input output (filled (c .one) (c .arrived)) ≤ 1
+  pub crosspoint-sent-one : (input output : ℕ) → atCrosspoint input output (afterSending (c .one) (c .arrived)) ≤ 1
   pub crosspoint-between : (input output : ℕ) → atCrosspoint input output (c .between) ≤ 1
-  pub crosspoint-filled-two : (input output : ℕ) → atCrosspoint input output (filled (c .two) (c .between)) ≤ 1
+  pub crosspoint-sent-two : (input output : ℕ) → atCrosspoint input output (afterSending (c .two) (c .between)) ≤ 1
   pub crosspoint-settled : (input output : ℕ) → atCrosspoint input output (c .settled) ≤ 1
 
 abbrev pub Within : Outcome Course → Type 0

@@ -161,8 +161,8 @@ unfoldable pub placedBy : (Waiting → Place) → List (List Entry) → List (Li
 placedBy place sections = map (map (λ e. record { cell = e .cell; place = place e })) (numbered sections)
 
 -- the sections after rule 5: the straight cells are gone, and the crosspoints of the sent cells are filled
-unfoldable pub filled : Phase → List (List Entry) → List (List Entry)
-filled p sections = placedBy (placeSent p) sections
+unfoldable pub afterSending : Phase → List (List Entry) → List (List Entry)
+afterSending p sections = placedBy (placeSent p) sections
 
 -- the sections after rule 6
 unfoldable pub moved : Phase → List (List Entry) → List (List Entry)
