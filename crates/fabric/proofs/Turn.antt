@@ -6,18 +6,21 @@
 use Prim.Native.Nat.{ℕ, zero, suc, _/_, _%_, _<_}
 use native.Mathlib.Omega.{arith}
 use mathlib.Core.Bool.{Bool, true, false}
-use mathlib.Core.Path.{_≡_, refl, sym, _∙_, ap}
-use mathlib.Core.List.{List, [], _∷_, List·Memᴰ, List·Memᴰ·head}
+use mathlib.Core.Path.{_≡_, refl, sym, _∙_, ap, subst}
+use mathlib.Core.Logic.{_⊎_, inl, inr}
+use mathlib.Core.List.{List, [], _∷_, List·Memᴰ, List·Memᴰ·head, List·Memᴰ·not-nil}
+use borrow.Author.Tests.{ltb-true, ltb-false}
+use lib.Dec.{ltb}
 use lib.ListN.{length, getD, replicate}
 use Rattle.laws.specs.Lists.{keep}
-use Rattle.laws.proofs.Tests.{clash}
+use Rattle.laws.proofs.Tests.{clash, either}
 use Rattle.laws.proofs.Lists.{keep-nil, some?-i}
 use Rattle.cell.specs.Limits.{cellLimit, portLimit}
 use Rattle.matching.specs.Matching.{matched, proposals}
-use Rattle.matching.specs.Positions.{positions, aheadAt, overAt}
+use Rattle.matching.specs.Positions.{at, positions, aheadAt, overAt}
 use Rattle.matching.specs.Found.{Lent, Found}
 use Rattle.matching.proofs.Matching.{matched-nil, proposals-nil}
-use Rattle.matching.proofs.Positions.{mem-positions}
+use Rattle.matching.proofs.Positions.{positions-mem, mem-positions}
 use Rattle.model.specs.Phase.{Phase, phase}
 use Rattle.model.specs.Slackness.{Orderly}
 use Rattle.model.proofs.PhaseFacts.{lists-all}
@@ -53,7 +56,14 @@ found-none counts outputs ranks slots e =
       held-le = λ o. omega (arith, getD-replicate portLimit o portLimit);
       held-left = λ o i q b. absurd (omega (arith, getD-replicate portLimit o portLimit));
       held-here = λ o i q b. absurd (omega (arith, getD-replicate portLimit o portLimit));
+      unheld = λ i b none. getD-replicate portLimit i 0 ∙ sym (no-count i b (either (ltb 0 (at counts i))));
     }
+  where
+    no-count : (i : ℕ) → i < portLimit → (ltb 0 (at counts i) ≡ true) ⊎ (ltb 0 (at counts i) ≡ false)
+        → _≡_ {A = ℕ} (at counts i) 0
+    no-count i b (inl t) =
+        absurd (List·Memᴰ·not-nil (subst (List·Memᴰ _) e (positions-mem counts i 0 b (ltb-true 0 _ t))))
+    no-count i b (inr f) = let l = ltb-false 0 (at counts i) f in omega arith
 
 ------------------------------------------------------------------------
 -- the choices

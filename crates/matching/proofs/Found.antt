@@ -10,7 +10,7 @@ use native.Mathlib.Omega.{arith}
 use native.Mathlib.Numerals.{add-one}
 use mathlib.Core.Bool.{Bool, true, false, _&&_}
 use mathlib.Core.Path.{_≡_, refl, sym, _∙_, ap, subst}
-use mathlib.Core.Logic.{_⊎_, inl, inr, _≢_}
+use mathlib.Core.Logic.{_⊎_, inl, inr, ⊎-elim, _≢_}
 use mathlib.Core.List.{List, _∷_, List·Memᴰ}
 use borrow.Author.Tests.{leb-true, leb-false, eqb-true, eqb-false, eq-eqb, ltb-true, ltb-false}
 use lib.Dec.{leb, ltb, eqb}
@@ -26,7 +26,7 @@ use Rattle.matching.specs.Found.{Lent, Found}
 use Rattle.matching.specs.Asking.{Free, left, madeTo, Sound, Settled, Asking, Moved}
 use Rattle.matching.proofs.Proposed.{none?-proposed}
 use Rattle.matching.proofs.Matching.{matched-any-order, proposals-bound}
-use Rattle.matching.proofs.Positions.{positionsTo-none, positionsTo-more, mem-positions, Candidate}
+use Rattle.matching.proofs.Positions.{positionsTo-none, positionsTo-more, positions-mem, mem-positions, Candidate}
 use Rattle.matching.proofs.Positions.{aheadAt-strict, overAt-strict, overAt-output}
 use Rattle.matching.proofs.Left.{left-all, none-ahead, proposed-left, proposed-first}
 
@@ -240,6 +240,7 @@ module _ (counts outputs ranks slots : List ℕ) where
           held-le = λ o. held-le o (held-at o);
           held-left = λ o i q b. held-left o i q b (held-at o);
           held-here = λ o i q b. held-here o i q b (held-at o);
+          unheld = unheld;
         }
       where
         sound : Sound counts outputs ranks slots (at held) (at refused)
@@ -284,6 +285,18 @@ module _ (counts outputs ranks slots : List ℕ) where
             let f : at held o ≡ i = sym (w .1) ∙ q in
             ap (λ j. at outputs (first (at refused) j)) (sym f) ∙ sound .held-here o (w .0) (rw f b)
         held-here o i q b (inr n) = absurd (omega arith)
+
+        unheld : (i : ℕ) → i < 16 → ((o : ℕ) → getD held o 16 ≢ i) → at refused i ≡ at counts i
+        unheld i b none = go (either (ltb (at refused i) (at counts i)))
+          where
+            go : (ltb (at refused i) (at counts i) ≡ true) ⊎ (ltb (at refused i) (at counts i) ≡ false)
+                → at refused i ≡ at counts i
+            go (inl t) =
+                let m = lent .small (first (at refused) i) (positions-mem counts i (at refused i) b (ltb-true _ _ t)) in
+                ⊎-elim (λ e. e) (λ e. absurd (none _ (getD-any held _ 16 0 (rw (asking .held-length) m) ∙ e))) (settled i b)
+            go (inr f) =
+                let l : at counts i ≤ at refused i = ltb-false _ _ f in
+                omega (arith, sound .refused-le i b)
 
         next : ℕ → Bool
         next k = eqb (k % 64) (at refused (k / 64))

@@ -4,6 +4,7 @@
 use Prim.Native.Nat.{ℕ, _*_, _/_, _%_, _≤_, _<_}
 use mathlib.Core.Bool.{_&&_}
 use mathlib.Core.Path.{_≡_}
+use mathlib.Core.Logic.{_≢_}
 use mathlib.Core.List.{List, List·Memᴰ}
 use lib.Dec.{eqb}
 use lib.ListN.{length, getD}
@@ -37,3 +38,5 @@ module _ (counts outputs ranks slots : List ℕ) where
     -- an input that is held has a candidate left, which goes to that output
     pub held-left : (o i : ℕ) → getD held o portLimit ≡ i → i < portLimit → at refused i < at counts i
     pub held-here : (o i : ℕ) → getD held o portLimit ≡ i → i < portLimit → at outputs (first (at refused) i) ≡ o
+    -- of an input that no output holds all candidates were refused
+    pub unheld : (i : ℕ) → i < portLimit → ((o : ℕ) → getD held o portLimit ≢ i) → at refused i ≡ at counts i
