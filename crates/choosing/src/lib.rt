@@ -39,7 +39,7 @@ struct Found {
 // Rules 1 to 4: whether a cell is urgent; the scheduled cell of each input, 1,024 where there is none; and the numbers
 // of the cells that are matched, those of an input in list order, as many as its count, from 64 times the input on.
 // Nothing is matched where no cell is urgent. The best crosspoint cell of each output, which rule 3 asks for, is left in
-// `best` for rule 6.
+// `best` for rule 6. What the four columns have past the counts is the function's own: each has 1,024 numbers.
 pub fn choose(
     table: &[u8],
     places: &[u8],

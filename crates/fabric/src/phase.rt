@@ -16,7 +16,8 @@ ghost use Rattle.places.specs.View.{inTable};
 ghost use Rattle.moving.specs.Moved.{Steady, Moved};
 
 // Moves the cells as a phase does, and gives the number of proposals that it made. The four columns are lent for the
-// cells that are matched; what is in them before does not matter.
+// cells that are matched: what is in them before does not matter, and what is in them afterwards is the function's own,
+// 1,024 numbers each.
 pub fn phase(
     table: &[u8],
     places: &mut [u8],

@@ -14,7 +14,8 @@ ghost use Rattle.layout.specs.Table.{tableSize, IsTable};
 // A number that no entry has.
 pub const NOWHERE: u16 = 1024;
 
-// Fills the column and gives the crosspoints. Bytes of the column that are no entry's are kept.
+// Fills the column and gives the crosspoints. What the column has at a number that no entry has is the function's own:
+// it has 1,024 bytes.
 pub fn load(table: &[u8], places: &mut [u8]) -> [[u16; 16]; 16]
     requires { ⌜ IsTable (now table) ⌝ }
     requires { ⌜ length (now places) ≡ 1024 ⌝ }
