@@ -20,13 +20,14 @@ ghost use Rattle.moving.specs.Moves.{put, entered, straightTo, markOf, s
 ghost use Rattle.moving.specs.Moves.{Matches, Straightened, Sent, Pulled};
 
 // The ports of the straight cells: the inputs that they left, and the outputs that they went to.
-pub struct Straight {
-    pub inputs: [bool; 16],
-    pub outputs: [bool; 16],
+struct Straight {
+    inputs: [bool; 16],
+    outputs: [bool; 16],
 }
 
 // Rules 5 and 6: the straight cells go, then the inputs send, then the outputs take. `best` is lent with the best
-// crosspoint cell of each output before anything moves; only the cells that are sent can be better.
+// crosspoint cell of each output before anything moves; only the cells that are sent can be better. What is in it
+// afterwards is the function's own: sixteen numbers.
 pub fn move_cells(
     table: &[u8],
     places: &mut [u8],
@@ -51,7 +52,7 @@ pub fn move_cells(
 }
 
 // Rule 5: every matched urgent cell goes straight to its output buffer.
-pub fn go_straight(
+fn go_straight(
     places: &mut [u8],
     scheduled: &[u16; 16],
     numbers: &[u16],
@@ -77,7 +78,7 @@ pub fn go_straight(
 
 // Rule 5: every input without a straight cell sends its scheduled cell to the crosspoint, where it may be the best of its
 // output.
-pub fn send_scheduled(
+fn send_scheduled(
     table: &[u8],
     places: &mut [u8],
     cross: &mut [[u16; 16]; 16],
@@ -103,7 +104,7 @@ pub fn send_scheduled(
 }
 
 // Rule 6: every output without a straight cell takes the best cell at its crosspoints.
-pub fn pull_best(
+fn pull_best(
     places: &mut [u8],
     cross: &mut [[u16; 16]; 16],
     ports: usize,
