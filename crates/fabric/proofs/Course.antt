@@ -1,15 +1,21 @@
 -- The steps of a slot, one after the other, are the course of the definition.
---     begins, schedules     what loading and the two phases leave
+--     phased-none, phased-more, schedules    what loading and the phases leave
 --     departs, answers, first-is, second-is    what the departure makes of it
-use Prim.Native.Nat.{ℕ, _+_, _*_, _/_, _≤_, _<_}
-use mathlib.Core.Bool.{true}
+use Prim.Native.Nat.{ℕ, zero, suc, _+_, _*_, _/_, _≤_, _<_}
+use mathlib.Core.Bool.{true, false}
 use mathlib.Core.Path.{_≡_, refl, sym, _∙_, ap, ap₂, subst}
 use mathlib.Core.List.{List, [], _∷_, _++_, map}
+use mathlib.Core.Logic.{_⊎_, inl, inr, _≢_}
 use mathlib.Core.Option.{Option, none, some}
-use lib.ListN.{length, getD, take, drop, length-map}
+use borrow.Author.Tests.{eqb-true, eqb-false}
+use lib.Dec.{eqb}
+use lib.ListN.{length, getD, set, take, drop, length-map}
+use lib.Seq.{getD-set-same, getD-set-other}
 use native.Mathlib.Omega.{arith}
+use native.Mathlib.Numerals.{add-one}
 use Rattle.laws.specs.Lists.{upTo, numbersFrom}
 use Rattle.laws.proofs.Numbers.{numbersFrom-at}
+use Rattle.laws.proofs.Tests.{either}
 use Rattle.cell.specs.Limits.{cellLimit, clockEnd}
 use Rattle.model.specs.State.{Entry, Switch}
 use Rattle.model.specs.Sound.{sound, soundSections}
@@ -40,7 +46,7 @@ use Rattle.arrival.specs.Fault.{coming, faultIn}
 use Rattle.arrival.proofs.OneByOne.{arrived-sound}
 use Rattle.moving.specs.Moved.{Steady, Moved}
 use Rattle.departure.specs.Departing.{Ready, leavingIn, departed}
-use Rattle.fabric.specs.Slot.{courseIn, between, settled, Scheduled}
+use Rattle.fabric.specs.Slot.{courseIn, afterPhases, Scheduled}
 
 ------------------------------------------------------------------------
 -- lengths of sections
@@ -66,6 +72,12 @@ lengths-moved p ss = lengths-numbered p 0 ss
 ------------------------------------------------------------------------
 -- the two phases
 
+-- where the phases stand after so many: the column has the places, and the proposals of each phase are counted
+pub record Phased (table places : List ℕ) (cross : List (List ℕ)) (made : List ℕ) (n : ℕ) : Type 0 where
+  pub steady : Steady table places cross
+  pub cells : inTable table places ≡ waiting (afterPhases table n)
+  pub counted : (k : ℕ) → k < n → getD made k 0 ≡ phase (waiting (afterPhases table k)) .proposals
+
 module _ (table : List ℕ) (good : IsTable table) where
   abbrev s : Switch
   s = stateOf table
@@ -73,7 +85,7 @@ module _ (table : List ℕ) (good : IsTable table) where
   first-sound : soundSections (s .ports) (s .clock) 0 (s .sections) ≡ true
   first-sound = sound-sections s (decode-sound table s good)
 
-  pub begins : (places : List ℕ) (cross : List (List ℕ)) → Loaded table places cross → Steady table places cross
+  begins : (places : List ℕ) (cross : List (List ℕ)) → Loaded table places cross → Steady table places cross
   begins places cross l =
       record {
         readable = decode-readable table s good;
@@ -86,35 +98,52 @@ module _ (table : List ℕ) (good : IsTable table) where
         agrees = l .agrees;
       }
 
-  module _ (places₁ places₂ places₃ : List ℕ) (cross₁ cross₂ cross₃ : List (List ℕ)) (l : Loaded table places₁ cross₁)
-      (m : Moved table places₁ places₂ cross₂) (n : Moved table places₂ places₃ cross₃) where
-    cells-between : inTable table places₂ ≡ waiting (between table)
-    unfolding between
-    cells-between =
-        m .cells ∙ ap (λ l. relocated (phase l) l) (l .cells)
-        ∙ sym (waiting-moved (phase (waiting (s .sections))) (s .sections))
+  pub phased-none : (places made : List ℕ) (cross : List (List ℕ)) → Loaded table places cross
+      → Phased table places cross made 0
+  unfolding afterPhases
+  phased-none places made cross l =
+      record { steady = begins places cross l; cells = l .cells; counted = λ k b. absurd (omega arith) }
 
-    cells-settled : inTable table places₃ ≡ waiting (settled table)
-    unfolding settled
-    cells-settled =
-        n .cells ∙ ap (λ l. relocated (phase l) l) cells-between
-        ∙ sym (waiting-moved (phase (waiting (between table))) (between table))
+  pub phased-more : (places places′ made : List ℕ) (cross cross′ : List (List ℕ)) (n r : ℕ)
+      → Phased table places cross made n → n < length made → Moved table places places′ cross′
+      → r ≡ phase (inTable table places) .proposals → Phased table places′ cross′ (set made n r) (n + 1)
+  unfolding afterPhases
+  phased-more places places′ made cross cross′ n r h b m e =
+      record {
+        steady = m .steady;
+        cells =
+            m .cells ∙ ap (λ l. relocated (phase l) l) (h .cells)
+            ∙ sym (waiting-moved (phase (waiting (afterPhases table n))) (afterPhases table n))
+            ∙ ap (λ k. waiting (afterPhases table k)) (sym (add-one n));
+        counted = λ k l. counted k (either (eqb k n)) l;
+      }
+    where
+      counted : (k : ℕ) → (eqb k n ≡ true) ⊎ (eqb k n ≡ false) → k < n + 1
+          → getD (set made n r) k 0 ≡ phase (waiting (afterPhases table k)) .proposals
+      counted k (inl t) l =
+          let q : k ≡ n = eqb-true k n t in
+          ap (λ j. getD (set made n r) j 0) q ∙ getD-set-same made n r 0 b ∙ e
+          ∙ ap (λ l. phase l .proposals) (h .cells)
+          ∙ ap (λ j. phase (waiting (afterPhases table j)) .proposals) (sym q)
+      counted k (inr f) l =
+          let d : k ≢ n = eqb-false k n f in
+          getD-set-other made n k r 0 d ∙ h .counted k (omega arith)
 
-    pub schedules : (one two : ℕ) → one ≡ phase (inTable table places₁) .proposals
-        → two ≡ phase (inTable table places₂) .proposals → Scheduled table places₃ one two
-    schedules one two e f =
-        record {
-          ready =
-              record {
-                good = good;
-                size = n .steady .column;
-                places = n .steady .places-good;
-                orderly = n .steady .orderly;
-              };
-          cells = cells-settled;
-          first = e ∙ ap (λ l. phase l .proposals) (l .cells);
-          second = f ∙ ap (λ l. phase l .proposals) cells-between;
-        }
+  pub schedules : (places made : List ℕ) (cross : List (List ℕ)) → Phased table places cross made 2
+      → Scheduled table places (getD made 0 0) (getD made 1 0)
+  schedules places made cross h =
+      record {
+        ready =
+            record {
+              good = good;
+              size = h .steady .column;
+              places = h .steady .places-good;
+              orderly = h .steady .orderly;
+            };
+        cells = h .cells;
+        first = h .counted 0 (omega arith);
+        second = h .counted 1 (omega arith);
+      }
 
   -- the column that the table itself has
   abbrev own : List ℕ
@@ -136,13 +165,17 @@ module _ (table : List ℕ) (good : IsTable table) where
       (upTo (portsIn table))
       ∙ ap (map length) (sectionsPlaced-same table s good own own-at)
 
-  placed : (places : List ℕ) (one two : ℕ) → Scheduled table places one two → sectionsPlaced table places ≡ settled table
-  unfolding settled between
+  lengths-after : (n : ℕ) → map length (afterPhases table n) ≡ map length (s .sections)
+  unfolding afterPhases
+  lengths-after zero = refl
+  lengths-after (suc n) =
+      lengths-moved (phase (waiting (afterPhases table n))) (afterPhases table n) ∙ lengths-after n
+
+  placed : (places : List ℕ) (one two : ℕ) → Scheduled table places one two
+      → sectionsPlaced table places ≡ afterPhases table 2
   placed places one two h =
-      waiting-injective (sectionsPlaced table places) (settled table)
-      (lengths-placed places
-      ∙ sym (lengths-moved (phase (waiting (s .sections))) (s .sections))
-      ∙ sym (lengths-moved (phase (waiting (between table))) (between table)))
+      waiting-injective (sectionsPlaced table places) (afterPhases table 2)
+      (lengths-placed places ∙ sym (lengths-after 2))
       (inTable-waiting table places ∙ h .cells)
 
 ------------------------------------------------------------------------
@@ -161,8 +194,8 @@ module _ (table arrivals : List ℕ) (t : IsTable table) (clear : faultIn table 
       decode-encode (arrived table arrivals) (arrived-sound table arrivals t clear early bytes) ∙ ap some (sym came-state)
 
   module _ (places : List ℕ) (one two : ℕ) (h : Scheduled came places one two) where
-    settled-is : settled came ≡ courseIn table arrivals .settled
-    unfolding settled between courseIn run arrived
+    settled-is : afterPhases came 2 ≡ courseIn table arrivals .settled
+    unfolding afterPhases courseIn run arrived
     settled-is =
         ap (λ ss. moved (phase (waiting (moved (phase (waiting ss)) ss))) (moved (phase (waiting ss)) ss))
         (ap (λ s. s .sections) came-state)
@@ -186,11 +219,11 @@ module _ (table arrivals : List ℕ) (t : IsTable table) (clear : faultIn table 
     answers = ap₂ departuresOf (decode-ports came (stateOf came) came-table ∙ ap (λ s. s .ports) came-state) out-is
 
     pub first-is : one ≡ courseIn table arrivals .one .proposals
-    unfolding courseIn run arrived
+    unfolding afterPhases courseIn run arrived
     first-is = h .first ∙ ap (λ s. phase (waiting (s .sections)) .proposals) came-state
 
     pub second-is : two ≡ courseIn table arrivals .two .proposals
-    unfolding courseIn run arrived between
+    unfolding afterPhases courseIn run arrived
     second-is =
         h .second
         ∙ ap (λ s. phase (waiting (moved (phase (waiting (s .sections))) (s .sections))) .proposals) came-state

@@ -1,7 +1,7 @@
 -- Document 01, "One slot": a slot on the bytes of a sound table and of whole records.
 use mathlib.Core.List.{List}
 use mathlib.Core.Path.{_≡_}
-use Prim.Native.Nat.{ℕ}
+use Prim.Native.Nat.{ℕ, zero, suc}
 use Rattle.model.specs.State.{Entry}
 use Rattle.model.specs.Phase.{waiting, phase, moved}
 use Rattle.model.specs.Checks.{Outcome, done, refused}
@@ -17,19 +17,17 @@ use Rattle.departure.specs.Departing.{Ready}
 unfoldable pub courseIn : List ℕ → List ℕ → Course
 courseIn table arrivals = run (stateOf table) (coming table arrivals)
 
--- the sections after the first phase and after the second, from those of the table
-unfoldable pub between : List ℕ → List (List Entry)
-between table = moved (phase (waiting (stateOf table .sections))) (stateOf table .sections)
-
-unfoldable pub settled : List ℕ → List (List Entry)
-settled table = moved (phase (waiting (between table))) (between table)
+-- the sections after so many phases, from those of the table
+unfoldable pub afterPhases : List ℕ → ℕ → List (List Entry)
+afterPhases table zero = stateOf table .sections
+afterPhases table (suc n) = moved (phase (waiting (afterPhases table n))) (afterPhases table n)
 
 -- what the two phases leave: the column has the places after them, and the proposals are counted
 pub record Scheduled (table places : List ℕ) (one two : ℕ) : Type 0 where
   pub ready : Ready table places
-  pub cells : inTable table places ≡ waiting (settled table)
-  pub first : one ≡ phase (waiting (stateOf table .sections)) .proposals
-  pub second : two ≡ phase (waiting (between table)) .proposals
+  pub cells : inTable table places ≡ waiting (afterPhases table 2)
+  pub first : one ≡ phase (waiting (afterPhases table 0)) .proposals
+  pub second : two ≡ phase (waiting (afterPhases table 1)) .proposals
 
 -- the refusal of an outcome, if it is one
 unfoldable pub refusalOf : {A : Type 0} → Outcome A → Fault

@@ -18,6 +18,9 @@ ghost use Rattle.layout.specs.Table.{IsTable, encode};
 ghost use Rattle.arrival.specs.Fault.{faultIn};
 ghost use Rattle.fabric.specs.Slot.{courseIn, Scheduled};
 
+// Scheduling is done twice.
+const PHASES: usize = 2;
+
 // The proposals made in the two phases.
 struct Proposals {
     first: u32,
@@ -51,24 +54,22 @@ fn schedule(table: &[u8], places: &mut [u8]) -> Proposals
     let mut ranks = [0u32; 1024];
     let mut slots = [0u32; 1024];
     let mut cross = load(table, places);
-    let first = phase(
-        table,
-        places,
-        &mut cross,
-        &mut numbers,
-        &mut outputs,
-        &mut ranks,
-        &mut slots,
-    );
-    let second = phase(
-        table,
-        places,
-        &mut cross,
-        &mut numbers,
-        &mut outputs,
-        &mut ranks,
-        &mut slots,
-    );
+    let mut made = [0u32; PHASES];
+    let mut n = 0;
+    while n < PHASES {
+        made[n] = phase(
+            table,
+            places,
+            &mut cross,
+            &mut numbers,
+            &mut outputs,
+            &mut ranks,
+            &mut slots,
+        );
+        n += 1;
+    }
+    let first = made[0];
+    let second = made[1];
     Proposals { first, second }
 }
 
