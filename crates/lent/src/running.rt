@@ -42,7 +42,7 @@ pub fn run_checked(table: &mut [u8], answer: &mut [u8], checked: Checked, count:
 }
 
 // How many departures an answer has.
-pub fn departures_in(answer: &[u8]) -> u64
+fn departures_in(answer: &[u8]) -> u64
     requires { ⌜ answerSize ≤ length (now answer) ⌝ }
     ensures { λ r. ⌜ r ≡ sentIn (now (answer .entry)) ⌝ }
 {
