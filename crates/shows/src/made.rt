@@ -7,7 +7,7 @@ type Rows = [[u32; 6]; 1600];
 
 const NEVER: u32 = 4294967295;
 
-pub fn crowd_and_load() {
+pub(crate) fn crowd_and_load() {
     let mut rows = [[NEVER; 6]; 1600];
     crowd_rows(&mut rows);
     show_made(b"64th cell: ", 2, 64, &rows);

@@ -5,14 +5,14 @@ ghost use Prim.Native.Nat.{_+_, _≤_};
 ghost use lib.ListN.{length};
 
 // The number of a refusal, and the record's place.
-pub fn say_refusal(result: u64) {
+pub(crate) fn say_refusal(result: u64) {
     tell(b"", result % 256);
     tell(b" at record ", result / 256);
     say(b", ");
 }
 
 // The departures and, if the first phase made any, the proposals of the two phases.
-pub fn say_answer(answer: &[u8; 456]) {
+pub(crate) fn say_answer(answer: &[u8; 456]) {
     if !say_departures(answer) {
         say(b"none");
     }
@@ -50,14 +50,14 @@ fn say_departure(answer: &[u8; 456], at: usize, after: bool)
 }
 
 // The tally's cells.
-pub fn say_cells(tally: &[u8; 32]) {
+pub(crate) fn say_cells(tally: &[u8; 32]) {
     tell_word(b"cells in ", tally, 16);
     tell_word(b", out ", tally, 24);
     say(b", ");
 }
 
 // The end of a line.
-pub fn say_verdict(same: bool, text: &[u8]) {
+pub(crate) fn say_verdict(same: bool, text: &[u8]) {
     if same {
         say(text);
     } else {
@@ -73,11 +73,11 @@ fn tell_word(text: &[u8], bytes: &[u8], at: usize)
 }
 
 // A text and a number.
-pub fn tell(text: &[u8], n: u64) {
+pub(crate) fn tell(text: &[u8], n: u64) {
     say(text);
     io::print_decimal(STDOUT_FILENO, n);
 }
 
-pub fn say(text: &[u8]) {
+pub(crate) fn say(text: &[u8]) {
     io::write_all(STDOUT_FILENO, text);
 }

@@ -4,7 +4,7 @@ ghost use Prim.Native.Nat.{_<_};
 
 // A shadow switch has 2,048 places for cells, its number of ports, its clock, and how many places have been taken. A cell that has left
 // leaves its place unused.
-pub type Shadow = [u32; 14339];
+pub(crate) type Shadow = [u32; 14339];
 
 const PLACES: usize = 2048;
 
@@ -28,7 +28,7 @@ const RANK: usize = 4;
 const SLOT: usize = 6;
 
 // A switch in which no cell waits.
-pub fn fresh(ports: u32, first: u32) -> Shadow {
+pub(crate) fn fresh(ports: u32, first: u32) -> Shadow {
     let mut shadow = [0; 14339];
     shadow[PORTS] = ports;
     shadow[CLOCK] = first;
@@ -38,7 +38,7 @@ pub fn fresh(ports: u32, first: u32) -> Shadow {
 // Takes a slot. A record is the number of the call, which is not looked at, then input, output, flow, rank and tag. The result is 0, or
 // the number of the refusal and 16 times the record's place. What each of sixteen outputs sends goes into `sent`, in the seven
 // numbers of a place.
-pub fn slot(shadow: &mut Shadow, records: &[[u32; 6]], sent: &mut [u32; 112]) -> u64 {
+pub(crate) fn slot(shadow: &mut Shadow, records: &[[u32; 6]], sent: &mut [u32; 112]) -> u64 {
     let clock = shadow[CLOCK];
     if 4294967295 <= clock {
         return 3;

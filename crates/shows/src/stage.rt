@@ -11,13 +11,20 @@ ghost use Prim.Native.Nat.{_≤_};
 ghost use lib.ListN.{length};
 
 // The bytes of a table and of a tally.
-pub type Table = [u8; 16416];
+pub(crate) type Table = [u8; 16416];
 
-pub type Tally = [u8; 32];
+pub(crate) type Tally = [u8; 32];
 
 // A show of so many slot calls on a fresh switch. A row is an arrival: the number of its call, counted from 0, then input, output,
 // flow, rank and tag. A show that is not told aloud tells its refusals, and its cells at the end.
-pub fn show(name: &[u8], ports: u32, first: u32, calls: u32, rows: &[[u32; 6]], aloud: bool) {
+pub(crate) fn show(
+    name: &[u8],
+    ports: u32,
+    first: u32,
+    calls: u32,
+    rows: &[[u32; 6]],
+    aloud: bool,
+) {
     let mut table = [0u8; 16416];
     let mut tally = [0u8; 32];
     let mut shadow = shadow::fresh(ports, first);
@@ -31,7 +38,7 @@ pub fn show(name: &[u8], ports: u32, first: u32, calls: u32, rows: &[[u32; 6]], 
 }
 
 // So many calls. Whether the two switches agree.
-pub fn play(
+pub(crate) fn play(
     table: &mut Table,
     tally: &mut Tally,
     shadow: &mut Shadow,

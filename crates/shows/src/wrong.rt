@@ -8,7 +8,7 @@ use crate::stage::play;
 ghost use Prim.Native.Nat.{_≤_};
 
 // A start that is turned back keeps the buffer.
-pub fn show_start(name: &[u8], ports: u32, length: usize)
+pub(crate) fn show_start(name: &[u8], ports: u32, length: usize)
     requires { ⌜ length ≤ 16416 ⌝ }
 {
     let mut buffer = [7u8; 16416];
@@ -30,7 +30,7 @@ fn untouched(buffer: &Table) -> bool {
 
 // A slot call that is turned back between good ones: with `ports` in the table where 2 is right, and so many bytes of arrivals, answer
 // and tally.
-pub fn show_slot(name: &[u8], ports: u8, arrivals: usize, answer: usize, tally: usize)
+pub(crate) fn show_slot(name: &[u8], ports: u8, arrivals: usize, answer: usize, tally: usize)
     requires { ⌜ arrivals ≤ 20 ⌝ }
     requires { ⌜ answer ≤ 456 ⌝ }
     requires { ⌜ tally ≤ 32 ⌝ }
