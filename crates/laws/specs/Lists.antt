@@ -4,6 +4,7 @@
 --     count p l         how many of l pass
 --     least lt l        those of l that no other of l is before
 --     pairwise r l      every one of l stands in r to every later one
+--     sameList same l m as many in l as in m, each the same as the one at its place
 --     update i f l      l with f applied to its element i; l itself where it has none
 --     upTo n            0, 1, .. n - 1
 --     first? l          the first of l, if it has one
@@ -39,6 +40,12 @@ module _ {A : Type 0} where
   unfoldable pub pairwise : (A → A → Bool) → List A → Bool
   pairwise r [] = true
   pairwise r (x ∷ l) = all? (r x) l && pairwise r l
+
+  unfoldable pub sameList : (A → A → Bool) → List A → List A → Bool
+  sameList same [] [] = true
+  sameList same [] (y ∷ m) = false
+  sameList same (x ∷ l) [] = false
+  sameList same (x ∷ l) (y ∷ m) = same x y && sameList same l m
 
   unfoldable pub update : ℕ → (A → A) → List A → List A
   update i f [] = []

@@ -1,3 +1,4 @@
+pub mod Accord
 pub mod Proposed
 pub mod Refusing
 pub mod Rounds

@@ -3,3 +3,4 @@ pub mod Stable
 pub mod Positions
 pub mod Found
 pub mod Asking
+pub mod Shows
