@@ -5,7 +5,7 @@ use mathlib.Core.List.{flatten}
 use mathlib.Core.Option.{bind}
 use mathlib.Core.Path.{_≡_, refl}
 use Rattle.laws.specs.Lists.{keep, some?, none?, all?, count, least, pairwise, update, first?, numbersFrom}
-use Rattle.laws.specs.Lists.{upTo}
+use Rattle.laws.specs.Lists.{upTo, sameList}
 use Rattle.cell.specs.Flow.{sameFlow}
 use Rattle.cell.specs.Limits.{fits32, portsInRange}
 use Rattle.cell.specs.Order.{over}
@@ -30,8 +30,10 @@ use Rattle.trace.specs.Reader.{give, _>>=_, number, exactly, begins, arrival as
 use Rattle.trace.specs.Reader.{arrivals as read-arrivals, block, afterEnd, next, header}
 use Rattle.play.specs.Player.{departureText, departuresText, refusalText, lineOf, playFrom, play, crossbar}
 use Rattle.play.specs.Player.{pifo, playCrossbar, playPifo}
-use Rattle.starred.specs.Shows.{sameDeparture, sameDepartures, crossbarAnswers, pifoAnswers, crossbarRuns, pifoRuns, startAnswers, given, arrival, cell, call, starred}
+use Rattle.model.specs.Calls.{sameDeparture, crossbarAnswers, pifoAnswers, crossbarRuns, pifoRuns, bothRun}
+use Rattle.model.specs.Calls.{arrival, cell, call}
+use Rattle.starred.specs.Shows.{startAnswers, given, starred}
 
 pub starred-shows : all? given starred ≡ true
-unfolding bind flatten keep some? none? all? count least pairwise update first? numbersFrom upTo sameFlow fits32 portsInRange over accepted sameCell proposed round rounds settled matched proposals fresh isListed isCrossed isBuffered cells noSuchPort noSuchFlow outOfTurn fallingRank full fault faultFrom firstFault numberFrom numberSections numbered waiting lists crosspoints sameInput sameOutput ahead beats among sameCrosspoint heads blocked crosspointEmpty ready scheduled isUrgent urgent takesPart candidates straight sent pulled phase placeSent placeAfter placedBy moved inListOf newEntry enterAfter enter arrive leaving departuresOf without run slot switchAfter start freshPifo queued join best rest runPifo slotPifo pifoAfter sameBytes ascii keyName keyText digitsWithin decimal line after upToLineFeed isDigit valueAfter noLeadingZero readNumber readLine give _>>=_ number exactly begins read-arrival read-arrivals block afterEnd next header departureText departuresText refusalText lineOf playFrom play crossbar pifo playCrossbar playPifo sameDeparture sameDepartures crossbarAnswers pifoAnswers crossbarRuns pifoRuns startAnswers given arrival cell call starred
+unfolding bind flatten keep some? none? all? count least pairwise update first? numbersFrom upTo sameFlow fits32 portsInRange over accepted sameCell proposed round rounds settled matched proposals fresh isListed isCrossed isBuffered cells noSuchPort noSuchFlow outOfTurn fallingRank full fault faultFrom firstFault numberFrom numberSections numbered waiting lists crosspoints sameInput sameOutput ahead beats among sameCrosspoint heads blocked crosspointEmpty ready scheduled isUrgent urgent takesPart candidates straight sent pulled phase placeSent placeAfter placedBy moved inListOf newEntry enterAfter enter arrive leaving departuresOf without run slot switchAfter start freshPifo queued join best rest runPifo slotPifo pifoAfter sameBytes ascii keyName keyText digitsWithin decimal line after upToLineFeed isDigit valueAfter noLeadingZero readNumber readLine give _>>=_ number exactly begins read-arrival read-arrivals block afterEnd next header departureText departuresText refusalText lineOf playFrom play crossbar pifo playCrossbar playPifo sameDeparture sameList crossbarAnswers pifoAnswers crossbarRuns pifoRuns bothRun arrival cell call startAnswers given starred
 starred-shows = refl

@@ -2,33 +2,18 @@
 -- that the PIFO switch can answer are tested for it too.
 use Prim.Native.Nat.{ℕ}
 use Prim.Native.String.{String}
-use mathlib.Core.Bool.{Bool, true, false, _&&_}
+use mathlib.Core.Bool.{Bool, _&&_}
 use mathlib.Core.List.{List, [], _∷_}
-use mathlib.Core.Option.{Option, none, some}
+use mathlib.Core.Option.{none, some}
 use lib.Dec.{eqb}
-use lib.ListN.{replicate}
-use Rattle.laws.specs.Lists.{all?}
-use Rattle.cell.specs.declared.Arrival.{Arrival}
-use Rattle.cell.specs.declared.Cell.{Cell}
-use Rattle.cell.specs.Cell.{sameCell}
 use Rattle.cell.specs.Refusal.{number}
+use Rattle.model.specs.Calls.{Call, call, sends, refuses, bothRun, arrival, cell}
 use Rattle.model.specs.Checks.{Outcome, done, refused}
-use Rattle.model.specs.Crossbar.{Course, slot, switchAfter, start}
-use Rattle.model.specs.Pifo.{Pifo, freshPifo, Sent, slotPifo, pifoAfter}
-use Rattle.model.specs.State.{Switch, fresh}
+use Rattle.model.specs.Crossbar.{start}
+use Rattle.model.specs.State.{Switch}
 use Rattle.play.specs.Player.{playCrossbar, playPifo}
 use Rattle.layout.specs.Number.{sameBytes}
 use Rattle.trace.specs.Ascii.{ascii}
-
--- What a slot call is to answer: the departures, output by output, with the proposals of both phases; or a refusal's
--- number and place.
-pub data Expected : Type 0 where
-  sends : List (Option Cell) → ℕ → ℕ → Expected
-  refuses : ℕ → ℕ → Expected
-
-pub record Call : Type 0 where
-  pub arrivals : List Arrival
-  pub expected : Expected
 
 pub data Show : Type 0 where
   -- a trace and what the player makes of it
@@ -38,44 +23,6 @@ pub data Show : Type 0 where
   -- a fresh switch with N and a first slot, slot calls, and the clock after them
   answers : ℕ → ℕ → List Call → ℕ → Show
 
-unfoldable pub sameDeparture : Option Cell → Option Cell → Bool
-sameDeparture none none = true
-sameDeparture none (some d) = false
-sameDeparture (some c) none = false
-sameDeparture (some c) (some d) = sameCell c d
-
-unfoldable pub sameDepartures : List (Option Cell) → List (Option Cell) → Bool
-sameDepartures [] [] = true
-sameDepartures [] (d ∷ ds) = false
-sameDepartures (c ∷ cs) [] = false
-sameDepartures (c ∷ cs) (d ∷ ds) = sameDeparture c d && sameDepartures cs ds
-
-unfoldable pub crossbarAnswers : Expected → Outcome Course → Bool
-crossbarAnswers (sends ds one two) (done c) =
-    sameDepartures (c .departures) ds && (eqb (c .one .proposals) one && eqb (c .two .proposals) two)
-crossbarAnswers (sends ds one two) (refused r place) = false
-crossbarAnswers (refuses n p) (done c) = false
-crossbarAnswers (refuses n p) (refused r place) = eqb (number r) n && eqb place p
-
-unfoldable pub pifoAnswers : Expected → Outcome Sent → Bool
-pifoAnswers (sends ds one two) (done c) = sameDepartures (c .departures) ds
-pifoAnswers (sends ds one two) (refused r place) = false
-pifoAnswers (refuses n p) (done c) = false
-pifoAnswers (refuses n p) (refused r place) = eqb (number r) n && eqb place p
-
--- call by call, each call getting the switch that the call before returned, or left in refusing; last the clock
-unfoldable pub crossbarRuns : Switch → List Call → ℕ → Bool
-crossbarRuns s [] clock = eqb (s .clock) clock
-crossbarRuns s (c ∷ calls) clock =
-    let o = slot s (some (c .arrivals)) in
-    crossbarAnswers (c .expected) o && crossbarRuns (switchAfter s o) calls clock
-
-unfoldable pub pifoRuns : Pifo → List Call → ℕ → Bool
-pifoRuns s [] clock = eqb (s .clock) clock
-pifoRuns s (c ∷ calls) clock =
-    let o = slotPifo s (some (c .arrivals)) in
-    pifoAnswers (c .expected) o && pifoRuns (pifoAfter s o) calls clock
-
 unfoldable pub startAnswers : ℕ → Outcome Switch → Bool
 startAnswers n (done s) = eqb n 0
 startAnswers n (refused r place) = eqb (number r) n && eqb place 0
@@ -83,19 +30,7 @@ startAnswers n (refused r place) = eqb (number r) n && eqb place 0
 unfoldable pub given : Show → Bool
 given (plays t u) = sameBytes (playCrossbar (ascii t)) (ascii u) && sameBytes (playPifo (ascii t)) (ascii u)
 given (starts n r) = startAnswers r (start n 0)
-given (answers n first calls clock) =
-    crossbarRuns (fresh n first) calls clock && pifoRuns (freshPifo n first) calls clock
-
--- input, output, flow, rank, tag
-unfoldable pub arrival : ℕ → ℕ → ℕ → ℕ → ℕ → Arrival
-arrival i o f r t = record { input = i; output = o; flow = f; rank = r; tag = t }
-
--- the departure of the cell that such a record became in a slot
-unfoldable pub cell : ℕ → ℕ → ℕ → ℕ → ℕ → ℕ → Option Cell
-cell i o f r t s = some (record { input = i; output = o; flow = f; rank = r; tag = t; slot = s })
-
-unfoldable pub call : List Arrival → Expected → Call
-call records e = record { arrivals = records; expected = e }
+given (answers n first calls clock) = bothRun n first calls clock
 
 -- The rows, in the order of document 01.
 unfoldable pub starred : List Show
@@ -107,16 +42,17 @@ starred =
     ∷ answers 2 0 (call [] (sends (none ∷ none ∷ []) 0 0) ∷ []) 1
     -- ranks leave as 1, 0, 2, 9; slot 1 makes 1 proposal, then 0
     ∷ answers 3 0
-    (call (arrival 0 0 0 9 1 ∷ arrival 1 0 0 1 2 ∷ arrival 2 0 0 2 3 ∷ []) (sends (cell 1 0 0 1 2 0 ∷ none ∷ none ∷ []) 0 0)
-    ∷ call (arrival 0 0 1 0 4 ∷ []) (sends (cell 0 0 1 0 4 1 ∷ none ∷ none ∷ []) 1 0)
-    ∷ call [] (sends (cell 2 0 0 2 3 0 ∷ none ∷ none ∷ []) 0 0)
-    ∷ call [] (sends (cell 0 0 0 9 1 0 ∷ none ∷ none ∷ []) 0 0)
+    (call (arrival 0 0 0 9 1 ∷ arrival 1 0 0 1 2 ∷ arrival 2 0 0 2 3 ∷ [])
+    (sends (some (cell 1 0 0 1 2 0) ∷ none ∷ none ∷ []) 0 0)
+    ∷ call (arrival 0 0 1 0 4 ∷ []) (sends (some (cell 0 0 1 0 4 1) ∷ none ∷ none ∷ []) 1 0)
+    ∷ call [] (sends (some (cell 2 0 0 2 3 0) ∷ none ∷ none ∷ []) 0 0)
+    ∷ call [] (sends (some (cell 0 0 0 9 1 0) ∷ none ∷ none ∷ []) 0 0)
     ∷ [])
     4
     -- a tie: input 0 leaves in slot 1, input 1 in slot 2
     ∷ answers 2 1
-    (call (arrival 0 0 0 4 1 ∷ arrival 1 0 0 4 2 ∷ []) (sends (cell 0 0 0 4 1 1 ∷ none ∷ []) 0 0)
-    ∷ call [] (sends (cell 1 0 0 4 2 1 ∷ none ∷ []) 0 0)
+    (call (arrival 0 0 0 4 1 ∷ arrival 1 0 0 4 2 ∷ []) (sends (some (cell 0 0 0 4 1 1) ∷ none ∷ []) 0 0)
+    ∷ call [] (sends (some (cell 1 0 0 4 2 1) ∷ none ∷ []) 0 0)
     ∷ [])
     3
     -- N = 16 starts; 0 and 17 give 1
@@ -124,20 +60,20 @@ starred =
     ∷ starts 0 1
     ∷ starts 17 1
     -- flow 7 passes, 8 gives 5; input 2 with flow 8 at N = 2 gives 4
-    ∷ answers 2 0 (call (arrival 0 0 7 1 1 ∷ []) (sends (cell 0 0 7 1 1 0 ∷ none ∷ []) 0 0) ∷ []) 1
+    ∷ answers 2 0 (call (arrival 0 0 7 1 1 ∷ []) (sends (some (cell 0 0 7 1 1 0) ∷ none ∷ []) 0 0) ∷ []) 1
     ∷ answers 2 0 (call (arrival 0 0 8 1 1 ∷ []) (refuses 5 1) ∷ []) 0
     ∷ answers 2 0 (call (arrival 2 0 8 1 1 ∷ []) (refuses 4 1) ∷ []) 0
     -- two records of input 1 give 6
     ∷ answers 2 0 (call (arrival 1 0 0 1 1 ∷ arrival 1 1 0 1 2 ∷ []) (refuses 6 2) ∷ []) 0
     -- a flow has rank 9 in the switch: 8 gives 7, 9 passes
     ∷ answers 2 0
-    (call (arrival 0 0 0 9 1 ∷ arrival 1 0 0 1 2 ∷ []) (sends (cell 1 0 0 1 2 0 ∷ none ∷ []) 0 0)
+    (call (arrival 0 0 0 9 1 ∷ arrival 1 0 0 1 2 ∷ []) (sends (some (cell 1 0 0 1 2 0) ∷ none ∷ []) 0 0)
     ∷ call (arrival 0 0 0 8 3 ∷ []) (refuses 7 1)
-    ∷ call (arrival 0 0 0 9 4 ∷ []) (sends (cell 0 0 0 9 1 0 ∷ none ∷ []) 0 0)
+    ∷ call (arrival 0 0 0 9 4 ∷ []) (sends (some (cell 0 0 0 9 1 0) ∷ none ∷ []) 0 0)
     ∷ [])
     2
     -- slot 4,294,967,294 runs, the next gives 3
     ∷ answers 1 4294967294
-    (call (arrival 0 0 0 1 1 ∷ []) (sends (cell 0 0 0 1 1 4294967294 ∷ []) 0 0) ∷ call [] (refuses 3 0) ∷ [])
+    (call (arrival 0 0 0 1 1 ∷ []) (sends (some (cell 0 0 0 1 1 4294967294) ∷ []) 0 0) ∷ call [] (refuses 3 0) ∷ [])
     4294967295
     ∷ []
