@@ -1,3 +1,4 @@
+pub mod Accord
 pub mod Admitted
 pub mod Bags
 pub mod Balance

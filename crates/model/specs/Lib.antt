@@ -2,6 +2,7 @@ pub mod Calls
 pub mod Checks
 pub mod Crossbar
 pub mod Emulation
+pub mod Histories
 pub mod Phase
 pub mod Pifo
 pub mod Slackness

@@ -1,0 +1,52 @@
+-- The definitions give every history that was worked out by hand. A check goes through the files by name: here, before
+-- any law, a wrong definition is refused at the rows that it gets wrong. Assumes nothing.
+use mathlib.Core.Bool.{true}
+use mathlib.Core.List.{flatten}
+use mathlib.Core.Path.{_≡_, refl}
+use Rattle.laws.specs.Lists.{keep, some?, none?, all?, count, least, pairwise, update, first?, numbersFrom}
+use Rattle.laws.specs.Lists.{upTo, sameList}
+use Rattle.cell.specs.Flow.{sameFlow}
+use Rattle.cell.specs.Limits.{fits32, portsInRange}
+use Rattle.cell.specs.Order.{over}
+use Rattle.cell.specs.Cell.{accepted, sameCell}
+use Rattle.matching.specs.Matching.{proposed, round, rounds, settled, matched, proposals}
+use Rattle.model.specs.State.{fresh, isListed, isCrossed, isBuffered, cells}
+use Rattle.model.specs.Checks.{noSuchPort, noSuchFlow, outOfTurn, fallingRank, full, fault, faultFrom}
+use Rattle.model.specs.Checks.{firstFault}
+use Rattle.model.specs.Phase.{numberFrom, numberSections, numbered, waiting, sameInput, sameOutput, ahead}
+use Rattle.model.specs.Phase.{beats, among, sameCrosspoint, heads, blocked, crosspointEmpty, scheduled}
+use Rattle.model.specs.Phase.{isUrgent, urgent, takesPart, candidates, straight, sent, pulled, phase}
+use Rattle.model.specs.Phase.{placeAfter, moved}
+use Rattle.model.specs.Crossbar.{inListOf, newEntry, enterAfter, enter, arrive, leaving, departuresOf, without}
+use Rattle.model.specs.Crossbar.{run, slot, switchAfter}
+use Rattle.model.specs.Emulation.{cellsAt}
+use Rattle.model.specs.Pifo.{freshPifo, queued, join, best, rest, runPifo, slotPifo, pifoAfter}
+use Rattle.model.specs.Sound.{soundEntry, together, otherSlot, otherCrosspoint, soundSection, soundSections}
+use Rattle.model.specs.Sound.{sound}
+use Rattle.model.specs.Calls.{sameDeparture, sameCells, stand, coursePasses, crossbarAnswers, pifoAnswers}
+use Rattle.model.specs.Calls.{crossbarRuns, pifoRuns, bothRun, enterAt, sectionsFrom, switchWith, arrival}
+use Rattle.model.specs.Calls.{cell, call, tables}
+use Rattle.model.specs.Histories.{given, recordOf, runs, threeInputs, twoOfPair, behindScheduled, listOrder}
+use Rattle.model.specs.Histories.{notOverAll, scheduledMatched, fullCrosspoint, straightAlone, arrivals}
+use Rattle.model.specs.Histories.{tieOfInputs, tieOfSlots, tieOfUrgent, fallingRanks, fullInput, orderOfChecks}
+use Rattle.model.specs.Histories.{lastSlot}
+
+pub histories-given :
+    (given threeInputs ≡ true)
+    × (given twoOfPair ≡ true)
+    × (given behindScheduled ≡ true)
+    × (given listOrder ≡ true)
+    × (given notOverAll ≡ true)
+    × (given scheduledMatched ≡ true)
+    × (given fullCrosspoint ≡ true)
+    × (given straightAlone ≡ true)
+    × (given arrivals ≡ true)
+    × (given tieOfInputs ≡ true)
+    × (given tieOfSlots ≡ true)
+    × (given tieOfUrgent ≡ true)
+    × (given fallingRanks ≡ true)
+    × (given fullInput ≡ true)
+    × (given orderOfChecks ≡ true)
+    × (given lastSlot ≡ true)
+unfolding flatten keep some? none? all? count least pairwise update first? numbersFrom upTo sameFlow fits32 portsInRange over accepted sameCell proposed round rounds settled matched proposals fresh isListed isCrossed isBuffered cells noSuchPort noSuchFlow outOfTurn fallingRank full fault faultFrom firstFault numberFrom numberSections numbered waiting sameInput sameOutput ahead beats among sameCrosspoint heads blocked crosspointEmpty scheduled isUrgent urgent takesPart candidates straight sent pulled phase placeAfter moved inListOf newEntry enterAfter enter arrive leaving departuresOf without run slot switchAfter cellsAt freshPifo queued join best rest runPifo slotPifo pifoAfter soundEntry together otherSlot otherCrosspoint soundSection soundSections sound sameDeparture sameList sameCells stand coursePasses crossbarAnswers pifoAnswers crossbarRuns pifoRuns bothRun enterAt sectionsFrom switchWith arrival cell call tables given recordOf runs threeInputs twoOfPair behindScheduled listOrder notOverAll scheduledMatched fullCrosspoint straightAlone arrivals tieOfInputs tieOfSlots tieOfUrgent fallingRanks fullInput orderOfChecks lastSlot
+histories-given = (refl, refl, refl, refl, refl, refl, refl, refl, refl, refl, refl, refl, refl, refl, refl, refl)
