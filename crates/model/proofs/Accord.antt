@@ -13,10 +13,10 @@ use Rattle.matching.specs.Matching.{proposed, round, rounds, settled, matched, 
 use Rattle.model.specs.State.{fresh, isListed, isCrossed, isBuffered, cells}
 use Rattle.model.specs.Checks.{noSuchPort, noSuchFlow, outOfTurn, fallingRank, full, fault, faultFrom}
 use Rattle.model.specs.Checks.{firstFault}
-use Rattle.model.specs.Phase.{numberFrom, numberSections, numbered, waiting, sameInput, sameOutput, ahead}
-use Rattle.model.specs.Phase.{beats, among, sameCrosspoint, heads, blocked, crosspointEmpty, scheduled}
-use Rattle.model.specs.Phase.{isUrgent, urgent, takesPart, candidates, straight, sent, pulled, phase}
-use Rattle.model.specs.Phase.{placeAfter, moved}
+use Rattle.model.specs.Phase.{numberFrom, numberSections, numbered, waiting, lists, crosspoints, sameInput}
+use Rattle.model.specs.Phase.{sameOutput, ahead, beats, among, sameCrosspoint, heads, blocked, crosspointEmpty}
+use Rattle.model.specs.Phase.{ready, scheduled, isUrgent, urgent, takesPart, candidates, straight, sent, pulled}
+use Rattle.model.specs.Phase.{phase, placeSent, placeAfter, placedBy, moved}
 use Rattle.model.specs.Crossbar.{inListOf, newEntry, enterAfter, enter, arrive, leaving, departuresOf, without}
 use Rattle.model.specs.Crossbar.{run, slot, switchAfter}
 use Rattle.model.specs.Emulation.{cellsAt}
@@ -48,5 +48,5 @@ pub histories-given :
     × (given fullInput ≡ true)
     × (given orderOfChecks ≡ true)
     × (given lastSlot ≡ true)
-unfolding flatten keep some? none? all? count least pairwise update first? numbersFrom upTo sameFlow fits32 portsInRange over accepted sameCell proposed round rounds settled matched proposals fresh isListed isCrossed isBuffered cells noSuchPort noSuchFlow outOfTurn fallingRank full fault faultFrom firstFault numberFrom numberSections numbered waiting sameInput sameOutput ahead beats among sameCrosspoint heads blocked crosspointEmpty scheduled isUrgent urgent takesPart candidates straight sent pulled phase placeAfter moved inListOf newEntry enterAfter enter arrive leaving departuresOf without run slot switchAfter cellsAt freshPifo queued join best rest runPifo slotPifo pifoAfter soundEntry together otherSlot otherCrosspoint soundSection soundSections sound sameDeparture sameList sameCells stand coursePasses crossbarAnswers pifoAnswers crossbarRuns pifoRuns bothRun enterAt sectionsFrom switchWith arrival cell call tables given recordOf runs threeInputs twoOfPair behindScheduled listOrder notOverAll scheduledMatched fullCrosspoint straightAlone arrivals tieOfInputs tieOfSlots tieOfUrgent fallingRanks fullInput orderOfChecks lastSlot
+unfolding flatten keep some? none? all? count least pairwise update first? numbersFrom upTo sameFlow fits32 portsInRange over accepted sameCell proposed round rounds settled matched proposals fresh isListed isCrossed isBuffered cells noSuchPort noSuchFlow outOfTurn fallingRank full fault faultFrom firstFault numberFrom numberSections numbered waiting lists crosspoints sameInput sameOutput ahead beats among sameCrosspoint heads blocked crosspointEmpty ready scheduled isUrgent urgent takesPart candidates straight sent pulled phase placeSent placeAfter placedBy moved inListOf newEntry enterAfter enter arrive leaving departuresOf without run slot switchAfter cellsAt freshPifo queued join best rest runPifo slotPifo pifoAfter soundEntry together otherSlot otherCrosspoint soundSection soundSections sound sameDeparture sameList sameCells stand coursePasses crossbarAnswers pifoAnswers crossbarRuns pifoRuns bothRun enterAt sectionsFrom switchWith arrival cell call tables given recordOf runs threeInputs twoOfPair behindScheduled listOrder notOverAll scheduledMatched fullCrosspoint straightAlone arrivals tieOfInputs tieOfSlots tieOfUrgent fallingRanks fullInput orderOfChecks lastSlot
 histories-given = (refl, refl, refl, refl, refl, refl, refl, refl, refl, refl, refl, refl, refl, refl, refl, refl)
