@@ -73,8 +73,9 @@ uint32_t check(const uint8_t *table, size_t table_bytes);
      CROSSBAR_CLOCK_END
      record by record: CROSSBAR_NO_SUCH_PORT, CROSSBAR_NO_SUCH_FLOW, CROSSBAR_INPUT_ORDER, CROSSBAR_RANK_ORDER,
                        CROSSBAR_FULL, the last two by the cells in the switch before the slot
-   It changes nothing but the tally's count of refused slots, and not even that where tally_bytes is wrong. So the host
-   can mend the arrivals and call again. */
+   A refused slot has no departures and proposal counts 0, and nothing of that is written: answer keeps its bytes, so
+   read it only where the result is 0. A refusal changes nothing but the tally's count of refused slots, and not even
+   that where tally_bytes is wrong. So the host can mend the arrivals and call again. */
 uint64_t slot(uint8_t *table, size_t table_bytes, const uint8_t *arrivals, size_t arrivals_bytes, uint8_t *answer,
               size_t answer_bytes, uint8_t *tally, size_t tally_bytes);
 

@@ -16,7 +16,7 @@ use Rattle.laws.proofs.Tests.{and-l, and-r}
 use Rattle.cell.specs.declared.Arrival.{Arrival}
 use Rattle.cell.specs.Limits.{portLimit, portsInRange, fits32}
 use Rattle.model.specs.Checks.{Outcome, done, refused}
-use Rattle.model.specs.Crossbar.{Course, answerOf, slot, switchAfter}
+use Rattle.model.specs.Crossbar.{Course, answerOf, slotAnswer, slot, switchAfter}
 use Rattle.model.specs.Emulation.{lent, Within}
 use Rattle.model.specs.Emulation as Model
 use Rattle.model.specs.Pifo.{Pifo, freshPifo, Sent, slotPifo, pifoAfter}
@@ -27,13 +27,13 @@ use Rattle.model.proofs.Related.{related-same-waiting}
 use Rattle.layout.specs.Answer.{departuresBytes, answerBytes, answerSize}
 use Rattle.layout.specs.Arrivals.{recordsOf}
 use Rattle.layout.specs.Number.{bytesOf}
-use Rattle.layout.specs.Host.{startCall, bufferAfter, slotCall, tableAfter, answerAfter, filled}
+use Rattle.layout.specs.Host.{resultOf, startCall, bufferAfter, slotCall, tableAfter, answerAfter, filled}
 use Rattle.layout.specs.Table.{decode, encode, tableSize}
 use Rattle.layout.specs.TallyBytes.{tallySize}
 use Rattle.layout.proofs.Answer.{length-departuresBytes}
 use Rattle.layout.proofs.Arrivals.{recordsOf-fits}
 use Rattle.layout.proofs.Number.{isByte, bytes?}
-use Rattle.layout.proofs.Host.{startCall-done, slotCall-arrivals, slotCall-slot, take-filled}
+use Rattle.layout.proofs.Host.{startCall-done, slotCall-arrivals, slotCall-slot, take-filled, result-refused}
 use Rattle.layout.proofs.Table.{decode-encode, length-encode}
 use Rattle.crossbar.specs.HostCalls.{Call, lendable, outcome, shadow, AnswersAlike, SameState, Alike, Demand3}
 
@@ -86,26 +86,31 @@ decode-after table s (done c) t h = decode-encode (c .switch) h
 decode-after table s (refused r place) t h = t
 
 -- both answer alike on the bytes where they do on the definitions
-answers : (answer : List ℕ) (o : Outcome Course) (p : Outcome Sent) → Model.AnswersAlike o p → AnswersAlike answer o p
-unfolding answerAfter
-answers answer (done c) (done d) h = answer-departures answer c ∙ ap (departuresBytes portLimit) h
-answers answer (done c) (refused r place) h = h
-answers answer (refused r place) (done d) h = h
-answers answer (refused r place) (refused r′ place′) h = (h .0, h .1, refl)
+answers : (ports : ℕ) (answer : List ℕ) (o : Outcome Course) (p : Outcome Sent) → Model.AnswersAlike ports o p
+    → AnswersAlike ports answer o p
+unfolding resultOf answerAfter answerOf slotAnswer
+answers ports answer (done c) p h =
+    record {
+      refusals = h .refusals;
+      bytes = λ _. answer-departures answer c ∙ ap (departuresBytes portLimit) (h .departures);
+      kept = λ n. absurd (n refl);
+    }
+answers ports answer (refused r place) p h =
+    record { refusals = h .refusals; bytes = λ e. absurd (result-refused r place e); kept = λ _. refl }
 
-pub alike : (table : List ℕ) (s : Switch) (q : Pifo) → decode table ≡ some s → Kept s q → (calls : List Call)
-    → all? lendable calls ≡ true → Alike table q calls
-alike table s q t kept [] h = (s, t, related-same-waiting s q (kept .related))
-alike table s q t kept (c ∷ calls) h =
+pub alike : (ports : ℕ) (table : List ℕ) (s : Switch) (q : Pifo) → decode table ≡ some s → Kept s q
+    → (calls : List Call) → all? lendable calls ≡ true → Alike ports table q calls
+alike ports table s q t kept [] h = (s, t, related-same-waiting s q (kept .related))
+alike ports table s q t kept (c ∷ calls) h =
     let both = rw (all?-cons lendable c calls) at h in
     let mine = and-l (lendable c) (all? lendable calls) both in
     let a : Option (List Arrival) = recordsOf (c .arrivals) in
     let e = call-slot table s c t mine in
     let r : Step s q (outcome table c) (shadow q c) =
     subst (λ o. Step s q o (shadow q c)) (sym e) (step s q kept a (call-lent c mine)) in (
-      answers (c .answer) (outcome table c) (shadow q c) (r .answers),
+      answers ports (c .answer) (outcome table c) (shadow q c) (r .answers ports),
       r .limits,
-      alike (tableAfter table (outcome table c)) (switchAfter s (outcome table c)) (pifoAfter q (shadow q c))
+      alike ports (tableAfter table (outcome table c)) (switchAfter s (outcome table c)) (pifoAfter q (shadow q c))
           (decode-after table s (outcome table c) t (r .kept .table))
           (r .kept) calls (and-r (lendable c) (all? lendable calls) both),
     )
@@ -123,4 +128,5 @@ started ports first buffer p f room =
 
 pub demand-3 : Demand3
 demand-3 ports first buffer calls p f room h =
-    alike _ (fresh ports first) (freshPifo ports first) (started ports first buffer p f room) (kept-fresh ports first p f) calls h
+    alike ports _ (fresh ports first) (freshPifo ports first) (started ports first buffer p f room)
+    (kept-fresh ports first p f) calls h

@@ -10,14 +10,14 @@ use lib.Dec.{ltb, leb, eqb}
 use lib.ListN.{length, take}
 use Rattle.laws.specs.Lists.{all?}
 use Rattle.cell.specs.Limits.{portLimit, portsInRange, fits32}
-use Rattle.model.specs.Checks.{Outcome, done, refused}
+use Rattle.model.specs.Checks.{Outcome, refusal}
 use Rattle.model.specs.Crossbar.{Course}
 use Rattle.model.specs.Emulation.{Within, SameWaiting}
-use Rattle.model.specs.Pifo.{Pifo, freshPifo, Sent, slotPifo, pifoAfter}
+use Rattle.model.specs.Pifo.{Pifo, freshPifo, Sent, sentDepartures, slotPifo, pifoAfter}
 use Rattle.model.specs.State.{Switch}
 use Rattle.layout.specs.Answer.{departuresBytes, answerSize}
 use Rattle.layout.specs.Arrivals.{recordsOf}
-use Rattle.layout.specs.Host.{startCall, bufferAfter, slotCall, tableAfter, answerAfter}
+use Rattle.layout.specs.Host.{resultOf, startCall, bufferAfter, slotCall, tableAfter, answerAfter}
 use Rattle.layout.specs.Table.{decode, tableSize}
 use Rattle.layout.specs.TallyBytes.{tallySize}
 
@@ -38,29 +38,27 @@ outcome table c = slotCall table (c .arrivals) (c .answer) (c .tally)
 abbrev pub shadow : Pifo → Call → Outcome Sent
 shadow q c = slotPifo q (recordsOf (c .arrivals))
 
--- the answer's bytes hold for each output the cell that the PIFO switch sends, or none exactly where it sends none; or both
--- refuse, with the same number and the same place, and the buffer is kept
-abbrev pub AnswersAlike : List ℕ → Outcome Course → Outcome Sent → Type 0
-AnswersAlike answer (done c) (done d) =
-    take 448 (answerAfter answer (done c)) ≡ departuresBytes portLimit (d .departures)
-AnswersAlike answer (done c) (refused r place) = ⊥
-AnswersAlike answer (refused r place) (done d) = ⊥
-AnswersAlike answer (refused r place) (refused r′ place′) =
-    (r ≡ r′) × (place ≡ place′) × (answerAfter answer (refused r place) ≡ answer)
+-- a slot call of two switches of so many ports, lent this buffer: refused exactly when the other refuses, with the same
+-- number and the same place. Done, the answer's bytes hold for each output the cell that the PIFO switch sends, or none
+-- exactly where it sends none; refused, the buffer is kept.
+pub record AnswersAlike (ports : ℕ) (answer : List ℕ) (o : Outcome Course) (o′ : Outcome Sent) : Type 0 where
+  pub refusals : refusal o ≡ refusal o′
+  pub bytes : resultOf o ≡ 0 → take 448 (answerAfter answer o) ≡ departuresBytes portLimit (sentDepartures ports o′)
+  pub kept : (resultOf o ≡ 0 → ⊥) → answerAfter answer o ≡ answer
 
 -- after the list the table is that of a state in which the same cells wait as in the PIFO switch
 abbrev pub SameState : List ℕ → Pifo → Type 0
 SameState table q = (s : Switch) × (decode table ≡ some s) × SameWaiting s q
 
 -- call by call both answer alike, all along the limits are kept
-abbrev pub Alike : List ℕ → Pifo → List Call → Type 0
-Alike table q [] = SameState table q
-Alike table q (c ∷ calls) =
-    AnswersAlike (c .answer) (outcome table c) (shadow q c)
+abbrev pub Alike : ℕ → List ℕ → Pifo → List Call → Type 0
+Alike ports table q [] = SameState table q
+Alike ports table q (c ∷ calls) =
+    AnswersAlike ports (c .answer) (outcome table c) (shadow q c)
     × Within (outcome table c)
-    × Alike (tableAfter table (outcome table c)) (pifoAfter q (shadow q c)) calls
+    × Alike ports (tableAfter table (outcome table c)) (pifoAfter q (shadow q c)) calls
 
 abbrev pub Demand3 : Type 0
 Demand3 = (ports first : ℕ) (buffer : List ℕ) (calls : List Call)
     → portsInRange ports ≡ true → fits32 first ≡ true → tableSize ≤ length buffer → all? lendable calls ≡ true
-    → Alike (take tableSize (bufferAfter buffer (startCall ports first buffer))) (freshPifo ports first) calls
+    → Alike ports (take tableSize (bufferAfter buffer (startCall ports first buffer))) (freshPifo ports first) calls

@@ -21,9 +21,9 @@ use Rattle.cell.specs.declared.Refusal.{Refusal}
 use Rattle.cell.specs.Cell.{accepted, arrivalFits}
 use Rattle.cell.specs.Limits.{portsInRange, fits32, clockEnd}
 use Rattle.model.specs.State.{Switch, fresh, cells}
-use Rattle.model.specs.Checks.{Outcome, done, refused, firstFault}
-use Rattle.model.specs.Crossbar.{Course, run, slot, switchAfter}
-use Rattle.model.specs.Pifo.{Pifo, freshPifo, Sent, runPifo, slotPifo, pifoAfter}
+use Rattle.model.specs.Checks.{Outcome, done, refused, refusal, firstFault}
+use Rattle.model.specs.Crossbar.{Course, answerOf, refusedAnswer, slotAnswer, run, slot, switchAfter}
+use Rattle.model.specs.Pifo.{Pifo, freshPifo, Sent, sentDepartures, runPifo, slotPifo, pifoAfter}
 use Rattle.model.specs.Phase.{waiting}
 use Rattle.model.specs.Sound.{sound}
 use Rattle.model.specs.Slackness.{Slack}
@@ -66,34 +66,42 @@ module _ (s : Switch) (q : Pifo) (kept : Kept s q) (records : List Arrival) (fit
 
 -- What a call comes to: both answer alike, the limits are kept, and the switches stay so related.
 pub record Step (s : Switch) (q : Pifo) (o : Outcome Course) (o′ : Outcome Sent) : Type 0 where
-  pub answers : AnswersAlike o o′
+  pub answers : (ports : ℕ) → AnswersAlike ports o o′
   pub limits : Within o
   pub kept : Kept (switchAfter s o) (pifoAfter q o′)
 
 pub step : (s : Switch) (q : Pifo) → Kept s q → (a : Option (List Arrival)) → lent a ≡ true
     → Step s q (slot s a) (slotPifo q a)
-unfolding switchAfter pifoAfter lent
+unfolding switchAfter pifoAfter lent refusal answerOf refusedAnswer slotAnswer sentDepartures
 step s q kept a fits = go (related-refused s q (kept .related) a)
   where
     go : SameCall s q a → Step s q (slot s a) (slotPifo q a)
     go (both-refuse r place e f) =
-        rw (e, f) (record { answers = (refl, refl); limits = tt; kept = kept })
+        let same : (ports : ℕ) → AnswersAlike ports (refused r place) (refused r place) =
+        λ ports. record { refusals = refl; departures = refl } in
+        rw (e, f) (record { answers = same; limits = tt; kept = kept })
     go (both-run records p ticks clear e f) =
         let fit : all? arrivalFits records ≡ true = subst (λ x. lent x ≡ true) p fits in
         rw (e, f)
         (record {
-          answers = related-departures s q (kept .related) (arriving s records) clear (settled s q kept records fit ticks clear);
+          answers = λ ports.
+              record {
+                refusals = refl;
+                departures =
+                    related-departures s q (kept .related) (arriving s records) clear
+                    (settled s q kept records fit ticks clear);
+              };
           limits = within-limits s records (kept .table) fit ticks clear;
           kept = kept-run s q kept records fit ticks clear;
         })
 
-pub alike : (s : Switch) (q : Pifo) → Kept s q → (calls : List (Option (List Arrival))) → all? lent calls ≡ true
-    → Alike s q calls
-alike s q kept [] h = related-same-waiting s q (kept .related)
-alike s q kept (a ∷ calls) h =
+pub alike : (ports : ℕ) (s : Switch) (q : Pifo) → Kept s q → (calls : List (Option (List Arrival)))
+    → all? lent calls ≡ true → Alike ports s q calls
+alike ports s q kept [] h = related-same-waiting s q (kept .related)
+alike ports s q kept (a ∷ calls) h =
     let both = rw (all?-cons lent a calls) at h in
     let t = step s q kept a (and-l (lent a) (all? lent calls) both) in
-    (t .answers, t .limits, alike _ _ (t .kept) calls (and-r (lent a) (all? lent calls) both))
+    (t .answers ports, t .limits, alike ports _ _ (t .kept) calls (and-r (lent a) (all? lent calls) both))
 
 pub kept-fresh : (ports first : ℕ) → portsInRange ports ≡ true → fits32 first ≡ true
     → Kept (fresh ports first) (freshPifo ports first)
@@ -106,7 +114,7 @@ kept-fresh ports first p f =
 
 pub demand-3 : Demand3
 demand-3 ports first calls p f h =
-    alike (fresh ports first) (freshPifo ports first) (kept-fresh ports first p f) calls h
+    alike ports (fresh ports first) (freshPifo ports first) (kept-fresh ports first p f) calls h
 
 ------------------------------------------------------------------------
 -- corollaries

@@ -16,6 +16,7 @@ pub mod PhasePlaces
 pub mod PhaseSlack
 pub mod PifoLaws
 pub mod PifoRest
+pub mod Refused
 pub mod Related
 pub mod SameDeparture
 pub mod Sections

@@ -5,6 +5,7 @@ use mathlib.Core.Bool.{Bool, true, false, cond, not, _&&_, _||_}
 use mathlib.Core.List.{List, [], _∷_}
 use mathlib.Core.Option.{Option, none, some}
 use lib.Dec.{ltb, leb, eqb}
+use lib.ListN.{replicate}
 use Rattle.laws.specs.Lists.{some?, count}
 use Rattle.cell.specs.declared.Cell.{Cell}
 use Rattle.cell.specs.declared.Refusal.{Refusal}
@@ -16,6 +17,15 @@ use Rattle.cell.specs.Limits.{flowInRange, inputFull}
 pub data Outcome (A : Type 0) : Type 0 where
   done : A → Outcome A
   refused : Refusal → ℕ → Outcome A
+
+-- the refusal and its place, none where the call is done
+unfoldable pub refusal : {A : Type 0} → Outcome A → Option (Refusal × ℕ)
+refusal (done a) = none
+refusal (refused r place) = some (r, place)
+
+-- the departures of a refused slot: none at each of so many outputs
+unfoldable pub noDepartures : ℕ → List (Option Cell)
+noDepartures ports = replicate ports none
 
 -- 4: an input or output is N or more
 unfoldable pub noSuchPort : ℕ → Cell → Bool

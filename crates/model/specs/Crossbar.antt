@@ -12,7 +12,7 @@ use Rattle.cell.specs.Cell.{accepted}
 use Rattle.cell.specs.Flow.{sameFlow}
 use Rattle.cell.specs.Limits.{clockEnd, portsInRange}
 use Rattle.model.specs.State.{Place, listed, Entry, Switch, fresh, cells, isListed, isBuffered}
-use Rattle.model.specs.Checks.{Outcome, done, refused, firstFault}
+use Rattle.model.specs.Checks.{Outcome, done, refused, noDepartures, firstFault}
 use Rattle.model.specs.Phase.{Waiting, numbered, waiting, beats, among, Phase, phase, moved}
 
 -- Arrival.
@@ -87,6 +87,15 @@ pub record Answer : Type 0 where
 
 unfoldable pub answerOf : Course → Answer
 answerOf c = record { departures = c .departures; first = c .one .proposals; second = c .two .proposals }
+
+-- A refused slot has no departures and proposal counts 0.
+unfoldable pub refusedAnswer : ℕ → Answer
+refusedAnswer ports = record { departures = noDepartures ports; first = 0; second = 0 }
+
+-- the answer of a slot call of a switch of so many ports, whatever its outcome
+unfoldable pub slotAnswer : ℕ → Outcome Course → Answer
+slotAnswer ports (done c) = answerOf c
+slotAnswer ports (refused r place) = refusedAnswer ports
 
 -- One slot. The arrivals are lent as records, or are no whole number of records. For 7 and 8 the cells in the switch
 -- are those before the slot.

@@ -14,23 +14,21 @@ use Rattle.cell.specs.declared.Cell.{Cell}
 use Rattle.cell.specs.Cell.{sameCell, arrivalFits}
 use Rattle.cell.specs.Limits.{portsInRange, fits32}
 use Rattle.model.specs.State.{Place, Entry, Switch, fresh, cells, isListed, isCrossed, isBuffered}
-use Rattle.model.specs.Checks.{Outcome, done, refused}
+use Rattle.model.specs.Checks.{Outcome, done, refused, refusal}
 use Rattle.model.specs.Phase.{afterSending}
-use Rattle.model.specs.Crossbar.{Course, slot, switchAfter}
-use Rattle.model.specs.Pifo.{Pifo, freshPifo, Sent, slotPifo, pifoAfter}
+use Rattle.model.specs.Crossbar.{Course, slotAnswer, slot, switchAfter}
+use Rattle.model.specs.Pifo.{Pifo, freshPifo, Sent, sentDepartures, slotPifo, pifoAfter}
 
 -- The arrivals of a call: any number of records of any 32-bit values, or no whole number of records.
 unfoldable pub lent : Option (List Arrival) → Bool
 lent none = true
 lent (some records) = all? arrivalFits records
 
--- each output the same cell in all six fields, or none exactly when the other sends none; refused exactly when the
--- other refuses, with the same number and the same place
-abbrev pub AnswersAlike : Outcome Course → Outcome Sent → Type 0
-AnswersAlike (done c) (done d) = c .departures ≡ d .departures
-AnswersAlike (done c) (refused r place) = ⊥
-AnswersAlike (refused r place) (done d) = ⊥
-AnswersAlike (refused r place) (refused r′ place′) = (r ≡ r′) × (place ≡ place′)
+-- a slot call of two switches of so many ports: refused exactly when the other refuses, with the same number and the
+-- same place; each output the same cell in all six fields, or none exactly when the other sends none
+pub record AnswersAlike (ports : ℕ) (o : Outcome Course) (o′ : Outcome Sent) : Type 0 where
+  pub refusals : refusal o ≡ refusal o′
+  pub departures : slotAnswer ports o .departures ≡ sentDepartures ports o′
 
 -- the cells of the sections whose place passes a test
 unfoldable pub cellsAt : (Place → Bool) → List (List Entry) → List Cell
@@ -73,15 +71,15 @@ pub record SameWaiting (s : Switch) (q : Pifo) : Type 0 where
       → count (sameCell c) (keep (λ d. eqb (d .output) output) (cells s)) ≡ count (sameCell c) (getD (q .queues) output [])
 
 -- call by call both answer alike, all along the limits are kept, and after the list the same cells wait
-abbrev pub Alike : Switch → Pifo → List (Option (List Arrival)) → Type 0
-Alike s q [] = SameWaiting s q
-Alike s q (arrivals ∷ calls) =
-    AnswersAlike (slot s arrivals) (slotPifo q arrivals)
+abbrev pub Alike : ℕ → Switch → Pifo → List (Option (List Arrival)) → Type 0
+Alike ports s q [] = SameWaiting s q
+Alike ports s q (arrivals ∷ calls) =
+    AnswersAlike ports (slot s arrivals) (slotPifo q arrivals)
     × Within (slot s arrivals)
-    × Alike (switchAfter s (slot s arrivals)) (pifoAfter q (slotPifo q arrivals)) calls
+    × Alike ports (switchAfter s (slot s arrivals)) (pifoAfter q (slotPifo q arrivals)) calls
 
 -- for every N from 1 to 16, every first slot of 32 bits and every list of slot calls
 abbrev pub Demand3 : Type 0
 Demand3 = (ports first : ℕ) (calls : List (Option (List Arrival)))
     → portsInRange ports ≡ true → fits32 first ≡ true → all? lent calls ≡ true
-    → Alike (fresh ports first) (freshPifo ports first) calls
+    → Alike ports (fresh ports first) (freshPifo ports first) calls

@@ -13,7 +13,7 @@ use Rattle.cell.specs.declared.Refusal.the-variants.{BrokenTable, ClockEnd}
 use Rattle.cell.specs.Cell.{accepted}
 use Rattle.cell.specs.Limits.{clockEnd}
 use Rattle.cell.specs.Order.{over}
-use Rattle.model.specs.Checks.{Outcome, done, refused, firstFault}
+use Rattle.model.specs.Checks.{Outcome, done, refused, noDepartures, firstFault}
 
 pub record Pifo : Type 0 where
   pub ports : ℕ
@@ -65,6 +65,11 @@ slotPifo s (some records) =
           let cs = map (accepted (s .clock)) records in
           elim (firstFault (s .ports) (queued s) cs) [ some f ↦ refused (f .0) (f .1) | none ↦ done (runPifo s cs) ]
     ]
+
+-- the departures of a slot call of a switch of so many ports, whatever its outcome
+unfoldable pub sentDepartures : ℕ → Outcome Sent → List (Option Cell)
+sentDepartures ports (done d) = d .departures
+sentDepartures ports (refused r place) = noDepartures ports
 
 -- a refused slot leaves clock and queues as they were
 unfoldable pub pifoAfter : Pifo → Outcome Sent → Pifo

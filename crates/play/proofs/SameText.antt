@@ -7,16 +7,16 @@
 use Prim.Native.Nat.{ℕ, zero, suc, _+_}
 use mathlib.Core.Bool.{Bool, true, false}
 use mathlib.Core.List.{List, _++_}
-use mathlib.Core.Option.{some}
+use mathlib.Core.Option.{some, Option·none-ne-some, Option·some-injective}
 use mathlib.Core.Path.{_≡_, refl, sym, ap, _∙_}
 use lib.ListN.{length}
 use Rattle.cell.specs.declared.Arrival.{Arrival}
 use Rattle.cell.specs.declared.Refusal.{Refusal}
 use Rattle.cell.specs.Limits.{fits32, portsInRange}
-use Rattle.model.specs.Checks.{Outcome, done, refused}
-use Rattle.model.specs.Crossbar.{Course, slot, switchAfter}
+use Rattle.model.specs.Checks.{Outcome, done, refused, refusal}
+use Rattle.model.specs.Crossbar.{Course, answerOf, slotAnswer, slot, switchAfter}
 use Rattle.model.specs.Emulation.{lent, AnswersAlike}
-use Rattle.model.specs.Pifo.{Pifo, freshPifo, Sent, slotPifo, pifoAfter}
+use Rattle.model.specs.Pifo.{Pifo, freshPifo, Sent, sentDepartures, slotPifo, pifoAfter}
 use Rattle.model.specs.State.{Switch, fresh}
 use Rattle.model.proofs.Demand3.{Kept, step, kept-fresh}
 use Rattle.trace.specs.declared.Key.the-variants.{Ports, First, Slot}
@@ -65,20 +65,21 @@ Same most clock =
 module _ (most clock : ℕ) (s : Switch) (q : Pifo) (c : Cursor) (records : List Arrival) (d : Cursor)
     (ahead : next clock c ≡ slotAhead records d) (rest : Same most (clock + 1)) where
   same-slot : (o : Outcome Course) (p : Outcome Sent) → slot s (some records) ≡ o → slotPifo q (some records) ≡ p
-      → AnswersAlike o p → Kept (switchAfter s o) (pifoAfter q p)
+      → AnswersAlike (s .ports) o p → Kept (switchAfter s o) (pifoAfter q p)
       → playFrom crossbar (suc most) clock s c ≡ playFrom pifo (suc most) clock q c
-  unfolding switchAfter pifoAfter
+  unfolding switchAfter pifoAfter refusal slotAnswer answerOf sentDepartures
   same-slot (done x) (done y) e f alike kept =
       play-done crossbar most clock s c ahead (crossbar-done s records e)
       ∙ ap (λ t. line Slot clock ++ (departuresText (x .departures) ++ t)) (rest (x .switch) (y .pifo) d kept)
-      ∙ ap (λ ds. line Slot clock ++ (departuresText ds ++ playFrom pifo most (clock + 1) (y .pifo) d)) alike
+      ∙ ap (λ ds. line Slot clock ++ (departuresText ds ++ playFrom pifo most (clock + 1) (y .pifo) d))
+      (alike .departures)
       ∙ sym (play-done pifo most clock q c ahead (pifo-done q records f))
-  same-slot (done x) (refused r place) e f alike kept = absurd alike
-  same-slot (refused r place) (done y) e f alike kept = absurd alike
+  same-slot (done x) (refused r place) e f alike kept = absurd (Option·none-ne-some (r, place) (alike .refusals))
+  same-slot (refused r place) (done y) e f alike kept = absurd (Option·none-ne-some (r, place) (sym (alike .refusals)))
   same-slot (refused r place) (refused r′ place′) e f alike kept =
       play-refused crossbar most clock s c ahead (crossbar-refused s records e)
-      ∙ ap (λ x. refusalText x (lineOf (c .line) place)) (alike .0)
-      ∙ ap (λ x. refusalText r′ (lineOf (c .line) x)) (alike .1)
+      ∙ ap (λ x. refusalText (x .0) (lineOf (c .line) (x .1)))
+      (Option·some-injective (r, place) (r′, place′) (alike .refusals))
       ∙ sym (play-refused pifo most clock q c ahead (pifo-refused q records f))
 
 pub same-from : (most clock : ℕ) (s : Switch) (q : Pifo) (c : Cursor) → Kept s q
@@ -94,7 +95,7 @@ same-from (suc most) clock s q c kept = go (next clock c) refl (next-exact clock
     go (slotAhead records d) n stands rest =
         let (i, j) = rw n at stands in
         let t = step s q kept (some records) (blockFits-e records j .1) in
-        same-slot most clock s q c records d n rest _ _ refl refl (t .answers) (t .kept)
+        same-slot most clock s q c records d n rest _ _ refl refl (t .answers (s .ports)) (t .kept)
 
 ------------------------------------------------------------------------
 -- whole texts
