@@ -1,6 +1,7 @@
--- Demand 3 on the bytes: by induction over the list, with demand 3's step on the definitions and the laws of the bytes. What
--- is kept between calls: the table is that of a state which the model's induction keeps beside the PIFO switch.
-use Prim.Native.Nat.{ℕ, _≤_}
+-- Demand 3 on the bytes: by induction over the list, with demand 3's step on the definitions and the laws of the bytes.
+-- What is kept between calls: the table is that of a state with N ports, which the model's induction keeps beside the
+-- PIFO switch.
+use Prim.Native.Nat.{ℕ, _-_, _≤_}
 use native.Mathlib.Omega.{arith}
 use mathlib.Core.Bool.{Bool, true, false, _&&_}
 use mathlib.Core.List.{List, [], _∷_, _++_, append-assoc}
@@ -15,7 +16,7 @@ use Rattle.laws.proofs.Lists.{all?-cons}
 use Rattle.laws.proofs.Tests.{and-l, and-r}
 use Rattle.cell.specs.declared.Arrival.{Arrival}
 use Rattle.cell.specs.Limits.{portLimit, portsInRange, fits32}
-use Rattle.model.specs.Checks.{Outcome, done, refused}
+use Rattle.model.specs.Checks.{Outcome, done, refused, noDepartures}
 use Rattle.model.specs.Crossbar.{Course, answerOf, slotAnswer, slot, switchAfter}
 use Rattle.model.specs.Emulation.{lent, Within}
 use Rattle.model.specs.Emulation as Model
@@ -24,6 +25,7 @@ use Rattle.model.specs.Sound.{sound}
 use Rattle.model.specs.State.{Switch, fresh}
 use Rattle.model.proofs.Demand3.{Kept, Step, step, kept-fresh}
 use Rattle.model.proofs.Related.{related-same-waiting}
+use Rattle.model.proofs.SoundSlot.{after-ports}
 use Rattle.layout.specs.Answer.{departuresBytes, answerBytes, answerSize}
 use Rattle.layout.specs.Arrivals.{recordsOf}
 use Rattle.layout.specs.Number.{bytesOf}
@@ -34,6 +36,7 @@ use Rattle.layout.proofs.Answer.{length-departuresBytes}
 use Rattle.layout.proofs.Arrivals.{recordsOf-fits}
 use Rattle.layout.proofs.Number.{isByte, bytes?}
 use Rattle.layout.proofs.Host.{startCall-done, slotCall-arrivals, slotCall-slot, take-filled, result-refused}
+use Rattle.layout.proofs.Read.{answer-read, outputs-read}
 use Rattle.layout.proofs.Table.{decode-encode, length-encode}
 use Rattle.crossbar.specs.HostCalls.{Call, lendable, outcome, shadow, AnswersAlike, SameState, Alike, Demand3}
 
@@ -86,32 +89,47 @@ decode-after table s (done c) t h = decode-encode (c .switch) h
 decode-after table s (refused r place) t h = t
 
 -- both answer alike on the bytes where they do on the definitions
-answers : (ports : ℕ) (answer : List ℕ) (o : Outcome Course) (p : Outcome Sent) → Model.AnswersAlike ports o p
-    → AnswersAlike ports answer o p
-unfolding resultOf answerAfter answerOf slotAnswer
-answers ports answer (done c) p h =
-    record {
-      refusals = h .refusals;
-      bytes = λ _. answer-departures answer c ∙ ap (departuresBytes portLimit) (h .departures);
-      kept = λ n. absurd (n refl);
-    }
-answers ports answer (refused r place) p h =
-    record { refusals = h .refusals; bytes = λ e. absurd (result-refused r place e); kept = λ _. refl }
+module _ (s : Switch) (a : Option (List Arrival)) (good : sound s ≡ true) (l : lent a ≡ true) (answer : List ℕ) where
+  answers : (o : Outcome Course) (p : Outcome Sent) → slot s a ≡ o → Model.AnswersAlike (s .ports) o p
+      → AnswersAlike (s .ports) answer o p
+  unfolding resultOf answerAfter answerOf slotAnswer
+  answers (done c) p e h =
+      record {
+        refusals = h .refusals;
+        departures = ap (λ x. x .departures) (answer-read s a good l answer (done c) e) ∙ h .departures;
+        outputs = λ _.
+            outputs-read s a good l answer c e
+            ∙ ap (λ ds. ds ++ noDepartures (portLimit - s .ports)) (h .departures);
+        bytes = λ _. answer-departures answer c ∙ ap (departuresBytes portLimit) (h .departures);
+        kept = λ n. absurd (n refl);
+      }
+  answers (refused r place) p e h =
+      record {
+        refusals = h .refusals;
+        departures = ap (λ x. x .departures) (answer-read s a good l answer (refused r place) e) ∙ h .departures;
+        outputs = λ z. absurd (result-refused r place z);
+        bytes = λ z. absurd (result-refused r place z);
+        kept = λ _. refl;
+      }
 
-pub alike : (ports : ℕ) (table : List ℕ) (s : Switch) (q : Pifo) → decode table ≡ some s → Kept s q
+pub alike : (ports : ℕ) (table : List ℕ) (s : Switch) (q : Pifo) → decode table ≡ some s → s .ports ≡ ports → Kept s q
     → (calls : List Call) → all? lendable calls ≡ true → Alike ports table q calls
-alike ports table s q t kept [] h = (s, t, related-same-waiting s q (kept .related))
-alike ports table s q t kept (c ∷ calls) h =
+alike ports table s q t n kept [] h = (s, t, related-same-waiting s q (kept .related))
+alike ports table s q t n kept (c ∷ calls) h =
     let both = rw (all?-cons lendable c calls) at h in
     let mine = and-l (lendable c) (all? lendable calls) both in
     let a : Option (List Arrival) = recordsOf (c .arrivals) in
     let e = call-slot table s c t mine in
+    let l = call-lent c mine in
     let r : Step s q (outcome table c) (shadow q c) =
-    subst (λ o. Step s q o (shadow q c)) (sym e) (step s q kept a (call-lent c mine)) in (
-      answers ports (c .answer) (outcome table c) (shadow q c) (r .answers ports),
+    subst (λ o. Step s q o (shadow q c)) (sym e) (step s q kept a l) in
+    let same : AnswersAlike (s .ports) (c .answer) (outcome table c) (shadow q c) =
+    answers s a (kept .table) l (c .answer) (outcome table c) (shadow q c) (sym e) (r .answers (s .ports)) in (
+      subst (λ k. AnswersAlike k (c .answer) (outcome table c) (shadow q c)) n same,
       r .limits,
       alike ports (tableAfter table (outcome table c)) (switchAfter s (outcome table c)) (pifoAfter q (shadow q c))
           (decode-after table s (outcome table c) t (r .kept .table))
+          (ap (λ o. switchAfter s o .ports) e ∙ after-ports s a ∙ n)
           (r .kept) calls (and-r (lendable c) (all? lendable calls) both),
     )
 
@@ -127,6 +145,7 @@ started ports first buffer p f room =
     ∙ decode-encode (fresh ports first) sure
 
 pub demand-3 : Demand3
+unfolding fresh
 demand-3 ports first buffer calls p f room h =
-    alike ports _ (fresh ports first) (freshPifo ports first) (started ports first buffer p f room)
+    alike ports _ (fresh ports first) (freshPifo ports first) (started ports first buffer p f room) refl
     (kept-fresh ports first p f) calls h

@@ -1,21 +1,21 @@
 -- Demand 3 on the bytes: for every list of slot calls of the host, from the table that start gives, the crossbar answers as
 -- the PIFO switch does. The table's bytes are handed from call to call; each call lends any arrivals, any buffer that an
 -- answer fits into, and any tally.
-use Prim.Native.Nat.{ℕ, _≤_}
+use Prim.Native.Nat.{ℕ, _-_, _≤_}
 use mathlib.Core.Bool.{Bool, true, false, _&&_}
-use mathlib.Core.List.{List, [], _∷_}
+use mathlib.Core.List.{List, [], _∷_, _++_}
 use mathlib.Core.Option.{Option, some}
 use mathlib.Core.Path.{_≡_}
 use lib.Dec.{ltb, leb, eqb}
 use lib.ListN.{length, take}
 use Rattle.laws.specs.Lists.{all?}
 use Rattle.cell.specs.Limits.{portLimit, portsInRange, fits32}
-use Rattle.model.specs.Checks.{Outcome, refusal}
+use Rattle.model.specs.Checks.{Outcome, refusal, noDepartures}
 use Rattle.model.specs.Crossbar.{Course}
 use Rattle.model.specs.Emulation.{Within, SameWaiting}
 use Rattle.model.specs.Pifo.{Pifo, freshPifo, Sent, sentDepartures, slotPifo, pifoAfter}
 use Rattle.model.specs.State.{Switch}
-use Rattle.layout.specs.Answer.{departuresBytes, answerSize}
+use Rattle.layout.specs.Answer.{departuresBytes, answerSize, departuresIn, answerRead}
 use Rattle.layout.specs.Arrivals.{recordsOf}
 use Rattle.layout.specs.Host.{resultOf, startCall, bufferAfter, slotCall, tableAfter, answerAfter}
 use Rattle.layout.specs.Table.{decode, tableSize}
@@ -38,12 +38,17 @@ outcome table c = slotCall table (c .arrivals) (c .answer) (c .tally)
 abbrev pub shadow : Pifo → Call → Outcome Sent
 shadow q c = slotPifo q (recordsOf (c .arrivals))
 
--- a slot call of two switches of so many ports, lent this buffer: refused exactly when the other refuses, with the same
--- number and the same place. Done, the answer's bytes hold for each output the cell that the PIFO switch sends, or none
--- exactly where it sends none; refused, the buffer is kept.
+-- a slot call of two switches of so many ports, lent this buffer
 pub record AnswersAlike (ports : ℕ) (answer : List ℕ) (o : Outcome Course) (o′ : Outcome Sent) : Type 0 where
+  -- refused exactly when the other refuses, with the same number and the same place
   pub refusals : refusal o ≡ refusal o′
+  -- the host reads at each output the cell that the PIFO switch sends, or none exactly where it sends none
+  pub departures : answerRead ports (resultOf o) (answerAfter answer o) .departures ≡ sentDepartures ports o′
+  -- done, it reads none at the outputs from N to 15, and the answer's bytes are the bytes of these departures
+  pub outputs : resultOf o ≡ 0
+      → departuresIn portLimit (answerAfter answer o) ≡ sentDepartures ports o′ ++ noDepartures (portLimit - ports)
   pub bytes : resultOf o ≡ 0 → take 448 (answerAfter answer o) ≡ departuresBytes portLimit (sentDepartures ports o′)
+  -- refused, the buffer is kept
   pub kept : (resultOf o ≡ 0 → ⊥) → answerAfter answer o ≡ answer
 
 -- after the list the table is that of a state in which the same cells wait as in the PIFO switch

@@ -1,8 +1,8 @@
--- Laws of the answer as bytes: it has 456 of them, and a reader who knows N reads the answer back.
-use Prim.Native.Nat.{ℕ, zero, suc, _+_, _*_, _≤_}
+-- Laws of the answer as bytes: it has 456 of them, and a reader who knows N reads the answer back, whatever follows it.
+use Prim.Native.Nat.{ℕ, zero, suc, _+_, _*_, _-_, _≤_}
 use mathlib.Core.Bool.{Bool, true, _&&_}
-use mathlib.Core.Path.{_≡_, refl, sym, _∙_, ap, ap₂}
-use mathlib.Core.List.{List, [], _∷_, _++_, append-nil}
+use mathlib.Core.Path.{_≡_, refl, _∙_, ap, ap₂}
+use mathlib.Core.List.{List, [], _∷_, _++_, append-assoc}
 use mathlib.Core.Option.{Option, none, some}
 use native.Mathlib.Omega.{arith}
 use lib.ListN.{length, length-append, length-replicate}
@@ -10,6 +10,7 @@ use Rattle.laws.specs.Lists.{all?}
 use Rattle.laws.proofs.Tests.{and-l, and-r}
 use Rattle.cell.specs.declared.Cell.{Cell}
 use Rattle.cell.specs.Limits.{fits32, portLimit}
+use Rattle.model.specs.Checks.{noDepartures}
 use Rattle.model.specs.Crossbar.{Answer}
 use Rattle.layout.specs.Number.{bytesOf, numberAt, numberOf, word}
 use Rattle.layout.specs.Answer.{departureSize, answerSize, departureBytes, departuresBytes, answerBytes}
@@ -101,6 +102,33 @@ departuresIn-departuresBytes (suc n) (d ∷ ds) bs h room =
     (drop-first (departureBytes d) (departuresBytes n ds) bs departureSize (length-departureBytes d))
     ∙ departuresIn-departuresBytes n ds bs later less)
 
+-- none is read where none was sent
+nothing-sent : (k : ℕ) (bs : List ℕ) → departuresIn k (departuresBytes k [] ++ bs) ≡ noDepartures k
+unfolding departuresIn departuresBytes departureFits noDepartures
+nothing-sent zero bs = refl
+nothing-sent (suc k) bs =
+    ap₂ _∷_
+    (ap departureIn
+    (take-first (departureBytes none) (departuresBytes k []) bs departureSize (length-departureBytes none))
+    ∙ departureIn-departureBytes none refl)
+    (ap (departuresIn k)
+    (drop-first (departureBytes none) (departuresBytes k []) bs departureSize (length-departureBytes none))
+    ∙ nothing-sent k bs)
+
+-- the departures, and none at so many outputs more
+departuresIn-all : (n : ℕ) (ds : List (Option Cell)) (k : ℕ) (bs : List ℕ) → all? departureFits ds ≡ true
+    → n ≡ length ds + k → departuresIn n (departuresBytes n ds ++ bs) ≡ ds ++ noDepartures k
+unfolding departuresIn departuresBytes all?
+departuresIn-all n [] k bs h e = nothing-sent n bs ∙ ap noDepartures (omega arith)
+departuresIn-all zero (d ∷ ds) k bs h e = absurd (omega arith)
+departuresIn-all (suc n) (d ∷ ds) k bs h e =
+    ap₂ _∷_
+    (ap departureIn (take-first (departureBytes d) (departuresBytes n ds) bs departureSize (length-departureBytes d))
+    ∙ departureIn-departureBytes d (and-l (departureFits d) (all? departureFits ds) h))
+    (ap (departuresIn n)
+    (drop-first (departureBytes d) (departuresBytes n ds) bs departureSize (length-departureBytes d))
+    ∙ departuresIn-all n ds k bs (and-r (departureFits d) (all? departureFits ds) h) (omega arith))
+
 ------------------------------------------------------------------------
 -- the answer
 
@@ -112,33 +140,50 @@ pub answerBytes-bytes : (a : Answer) → bytes? (answerBytes a) ≡ true
 unfolding answerBytes
 answerBytes-bytes a = search (bytes?-append, bytesOf-bytes, departuresBytes-bytes)
 
-pub answerBytes-departures : (a : Answer) → length (a .departures) ≤ portLimit
-    → all? departureFits (a .departures) ≡ true → departuresIn (length (a .departures)) (answerBytes a) ≡ a .departures
+-- the departures, then the proposals of both phases, then what follows
+answer-parts : (a : Answer) (bs : List ℕ)
+    → answerBytes a ++ bs
+    ≡ departuresBytes portLimit (a .departures) ++ (bytesOf 4 (a .first) ++ (bytesOf 4 (a .second) ++ bs))
 unfolding answerBytes
-answerBytes-departures a room h = departuresIn-departuresBytes portLimit (a .departures) _ h room
+answer-parts a bs = simp append-assoc
 
--- the proposals of the first phase and of the second
-pub answerBytes-first : (a : Answer) → fits32 (a .first) ≡ true → word (answerBytes a) 448 ≡ a .first
-unfolding answerBytes
-answerBytes-first a h =
-    word-past (departuresBytes portLimit (a .departures)) _ 448 0 (length-departuresBytes portLimit (a .departures))
-    ∙ word-here (a .first) (bytesOf 4 (a .second)) h
+module _ (a : Answer) (bs : List ℕ) where
+  pub answerBytes-departures : length (a .departures) ≤ portLimit → all? departureFits (a .departures) ≡ true
+      → departuresIn (length (a .departures)) (answerBytes a ++ bs) ≡ a .departures
+  answerBytes-departures room h =
+      ap (departuresIn (length (a .departures))) (answer-parts a bs)
+      ∙ departuresIn-departuresBytes portLimit (a .departures) _ h room
 
-pub answerBytes-second : (a : Answer) → fits32 (a .second) ≡ true → word (answerBytes a) 452 ≡ a .second
-unfolding answerBytes
-answerBytes-second a h =
-    word-past (departuresBytes portLimit (a .departures)) _ 448 4 (length-departuresBytes portLimit (a .departures))
-    ∙ word-past (bytesOf 4 (a .first)) (bytesOf 4 (a .second)) 4 0 (length-bytesOf 4 (a .first))
-    ∙ ap (λ bs. word bs 0) (sym (append-nil (bytesOf 4 (a .second))))
-    ∙ word-here (a .second) [] h
+  -- all sixteen: none past those that the answer has
+  pub answerBytes-outputs : length (a .departures) ≤ portLimit → all? departureFits (a .departures) ≡ true
+      → departuresIn portLimit (answerBytes a ++ bs)
+      ≡ a .departures ++ noDepartures (portLimit - length (a .departures))
+  answerBytes-outputs room h =
+      ap (departuresIn portLimit) (answer-parts a bs)
+      ∙ departuresIn-all portLimit (a .departures) (portLimit - length (a .departures)) _ h (omega arith)
 
-pub answerIn-answerBytes : (a : Answer) → length (a .departures) ≤ portLimit → all? departureFits (a .departures) ≡ true
-    → fits32 (a .first) ≡ true → fits32 (a .second) ≡ true → answerIn (length (a .departures)) (answerBytes a) ≡ a
-unfolding answerIn
-answerIn-answerBytes a room h one two =
-    λ k.
-    record {
-      departures = answerBytes-departures a room h k;
-      first = answerBytes-first a one k;
-      second = answerBytes-second a two k;
-    }
+  -- the proposals of the first phase and of the second
+  pub answerBytes-first : fits32 (a .first) ≡ true → word (answerBytes a ++ bs) 448 ≡ a .first
+  answerBytes-first h =
+      ap (λ l. word l 448) (answer-parts a bs)
+      ∙ word-past (departuresBytes portLimit (a .departures)) _ 448 0 (length-departuresBytes portLimit (a .departures))
+      ∙ word-here (a .first) _ h
+
+  pub answerBytes-second : fits32 (a .second) ≡ true → word (answerBytes a ++ bs) 452 ≡ a .second
+  answerBytes-second h =
+      ap (λ l. word l 452) (answer-parts a bs)
+      ∙ word-past (departuresBytes portLimit (a .departures)) _ 448 4 (length-departuresBytes portLimit (a .departures))
+      ∙ word-past (bytesOf 4 (a .first)) (bytesOf 4 (a .second) ++ bs) 4 0 (length-bytesOf 4 (a .first))
+      ∙ word-here (a .second) bs h
+
+  pub answerIn-answerBytes : length (a .departures) ≤ portLimit → all? departureFits (a .departures) ≡ true
+      → fits32 (a .first) ≡ true → fits32 (a .second) ≡ true
+      → answerIn (length (a .departures)) (answerBytes a ++ bs) ≡ a
+  unfolding answerIn
+  answerIn-answerBytes room h one two =
+      λ k.
+      record {
+        departures = answerBytes-departures room h k;
+        first = answerBytes-first one k;
+        second = answerBytes-second two k;
+      }

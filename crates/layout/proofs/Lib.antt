@@ -2,8 +2,10 @@ pub mod Answer
 pub mod Arrivals
 pub mod Halves
 pub mod Host
+pub mod Limits
 pub mod Number
 pub mod Put
+pub mod Read
 pub mod Records
 pub mod Table
 pub mod Tally

@@ -8,7 +8,7 @@ use mathlib.Core.Bool.{true, false}
 use lib.ListN.{take, drop, replicate}
 use Rattle.cell.specs.declared.Cell.{Cell}
 use Rattle.cell.specs.Limits.{portLimit}
-use Rattle.model.specs.Crossbar.{Answer}
+use Rattle.model.specs.Crossbar.{Answer, refusedAnswer}
 use Rattle.layout.specs.Number.{bytesOf, word}
 
 abbrev pub departureSize : ℕ
@@ -57,3 +57,8 @@ departuresIn (suc n) bs = departureIn (take departureSize bs) ∷ departuresIn n
 -- the answer of a switch of so many ports that bytes stand for
 unfoldable pub answerIn : ℕ → List ℕ → Answer
 answerIn ports bs = record { departures = departuresIn ports bs; first = word bs 448; second = word bs 452 }
+
+-- the answer that a host reads by the result of its slot call: from the bytes where it is 0; a refused slot's is not
+-- written
+unfoldable pub answerRead : ℕ → ℕ → List ℕ → Answer
+answerRead ports result bs = elim (eqb result 0) [ true ↦ answerIn ports bs | false ↦ refusedAnswer ports ]

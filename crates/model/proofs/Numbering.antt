@@ -6,6 +6,7 @@
 --     waiting-cells, cells-waiting, count-waiting   the waiting cells are the entries of the sections
 --     waiting-placed, waiting-moved, moved-   what a phase makes of them
 --     flatten-without, without-        what a departure makes of them
+--     waiting-few                      at most 64 of an input
 --     numbers-rise, numbers-differ     no two waiting cells have one number
 --     ahead-prefix                     the listed cells ahead of one are those that stand before it in its section
 use Prim.Native.Nat.{ℕ, zero, suc, _+_, _*_, _≤_, _<_}
@@ -328,6 +329,23 @@ length-without out sections =
 -- no section has over 64 entries
 abbrev pub Short : List (List Entry) → Type 0
 Short sections = (k : ℕ) → length (getD sections k []) ≤ cellLimit
+
+-- so the switch has at most 64 for each input
+flatten-few : (sections : List (List Entry)) → Short sections → length (flatten sections) ≤ cellLimit * length sections
+unfolding flatten
+flatten-few [] short = omega arith
+flatten-few (es ∷ sections) short =
+    omega (arith, length-append es (flatten sections), short 0, flatten-few sections (λ k. short (suc k)))
+
+pub waiting-few : (sections : List (List Entry)) → Short sections
+    → length (waiting sections) ≤ cellLimit * length sections
+waiting-few sections short =
+    omega (
+      arith,
+      length-map (waiting sections) entryOf,
+      ap length (waiting-cells sections),
+      flatten-few sections short,
+    )
 
 pub otherNumber-i : (v w : Waiting) → v .at < w .at → otherNumber v w ≡ true
 unfolding otherNumber

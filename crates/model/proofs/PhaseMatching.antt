@@ -1,10 +1,11 @@
 -- Rule 4 of a phase, the matching, and the straight cells of rule 5.
---     candidate-       what is a candidate
+--     candidate-       what is a candidate; candidates-few, how many there are
 --     phase-stable, phase-best, phase-proposals   what the laws of the matching say of it
 --     head-all, ..     the members of each step are waiting cells
 --     match-           a match is urgent or scheduled, and an input and an output have one
 --     straight-        a straight cell is an urgent match
 use Prim.Native.Nat.{_≤_}
+use native.Mathlib.Omega.{arith}
 use mathlib.Core.Bool.{Bool, true, _&&_}
 use mathlib.Core.Path.{_≡_}
 use mathlib.Core.Logic.{_⊎_, inl, inr}
@@ -12,9 +13,11 @@ use mathlib.Core.List.{List, List·Memᴰ, [], _∷_, List·Memᴰ·not-nil}
 use lib.ListN.{length}
 use Rattle.laws.specs.Lists.{keep, none?}
 use Rattle.laws.proofs.Tests.{clash, and-i, and-l, or-l, or-r, or-cases}
+use Rattle.laws.proofs.Count.{length-keep, count-le-length}
 use Rattle.laws.proofs.Lists.{keep-mem, mem-keep-in, mem-keep-passes}
 use Rattle.matching.specs.Stable.{Stable, BestForInputs}
 use Rattle.matching.proofs.Matching.{matched-stable, matched-best, proposals-bound}
+use Rattle.model.specs.State.{isListed}
 use Rattle.model.specs.Phase.{Waiting, ahead, beats, among, phase, takesPart, candidates, straight}
 use Rattle.model.specs.Phase.{lists, crosspoints}
 use Rattle.model.specs.Slackness.{Orderly}
@@ -35,9 +38,27 @@ unfolding candidates
 candidates-i ls [] ss i m = absurd (List·Memᴰ·not-nil i)
 candidates-i ls (u ∷ us) ss i m = m
 
+-- of a list, no more are kept than it has
+length-keep-le : (p : Waiting → Bool) (l : List Waiting) → length (keep p l) ≤ length l
+length-keep-le p l = omega (arith, length-keep p l, count-le-length p l)
+
+length-candidates : (ls us ss : List Waiting) → length (candidates ls us ss) ≤ length ls
+unfolding candidates
+length-candidates ls [] ss = omega arith
+length-candidates ls (u ∷ us) ss = length-keep-le (takesPart ls (u ∷ us) ss) ls
+
 module _ (all : List Waiting) where
   ------------------------------------------------------------------------
   -- the candidates
+
+  pub candidates-few : length (phase all .candidates) ≤ length all
+  unfolding phase lists
+  candidates-few =
+      omega (
+        arith,
+        length-candidates (lists all) (phase all .urgent) (phase all .scheduled),
+        length-keep-le (λ e. isListed (e .place)) all,
+      )
 
   takes : Waiting → Bool
   takes e = takesPart (lists all) (phase all .urgent) (phase all .scheduled) e

@@ -1,4 +1,3 @@
-pub mod Limits
 pub mod Lines
 pub mod Records
 pub mod Sent

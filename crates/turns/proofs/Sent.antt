@@ -9,7 +9,7 @@ use native.Mathlib.Omega.{arith}
 use mathlib.Core.Bool.{Bool, true, false}
 use mathlib.Core.List.{List, [], _∷_, _++_, append-assoc, append-nil}
 use mathlib.Core.Option.{Option, none, some}
-use mathlib.Core.Path.{_≡_, refl, sym, ap, ap₂, _∙_}
+use mathlib.Core.Path.{_≡_, refl, sym, ap, _∙_}
 use borrow.Author.Tests.{eqb-true, eqb-false, eq-eqb, ne-eqb}
 use lib.Dec.{eqb, lit≤}
 use lib.ListN.{length, take, drop, length-append, length-drop}
@@ -17,16 +17,16 @@ use lib.Seq.{drop-drop, length-take-le}
 use Rattle.cell.specs.declared.Cell.{Cell}
 use Rattle.cell.specs.Limits.{portLimit}
 use Rattle.laws.specs.Lists.{all?}
-use Rattle.laws.proofs.Tests.{and-l, and-r}
+use Rattle.model.specs.Checks.{noDepartures}
 use Rattle.model.specs.Crossbar.{Course, answerOf}
 use Rattle.trace.specs.declared.Key.the-variants.{In, Out, Flow, Rank, Tag}
 use Rattle.writer.specs.Writing.{lastPlace, Put}
 use Rattle.writer.proofs.Pour.{put-then}
-use Rattle.layout.specs.Answer.{departureSize, departureBytes, departuresBytes, answerBytes, departureIn, departuresIn}
+use Rattle.layout.specs.Answer.{departureSize, answerBytes, departureIn, departuresIn}
 use Rattle.layout.specs.Host.{filled}
-use Rattle.layout.specs.Number.{bytesOf, word}
-use Rattle.layout.proofs.Answer.{departureFits, length-departureBytes, departureIn-departureBytes}
-use Rattle.layout.proofs.Number.{bytes?, bytes?-take, bytes?-drop, take-first, drop-first, word-fits}
+use Rattle.layout.specs.Number.{word}
+use Rattle.layout.proofs.Answer.{departureFits, answerBytes-outputs}
+use Rattle.layout.proofs.Number.{bytes?, bytes?-take, bytes?-drop, word-fits}
 use Rattle.play.specs.Player.{departureText, departuresText}
 use Rattle.turns.specs.Code.{cellIn}
 use Rattle.turns.proofs.Lines.{line-le}
@@ -118,33 +118,21 @@ module _ (b answer : List ℕ) (at : ℕ) (bytes : bytes? answer ≡ true) (all 
 
 -- the departures of a slot
 
-departures-bytes : (n : ℕ) (ds : List (Option Cell)) (rest : List ℕ) → length ds ≤ n → all? departureFits ds ≡ true
-    → departuresText (departuresIn n (departuresBytes n ds ++ rest)) ≡ departuresText ds
-unfolding departuresText departuresIn departuresBytes departureText departureFits all?
-departures-bytes zero [] rest room h = refl
-departures-bytes zero (d ∷ ds) rest room h = absurd (omega arith)
-departures-bytes (suc n) [] rest room h =
-    ap₂ (λ d t. departureText d ++ t)
-    (ap departureIn
-    (take-first (departureBytes none) (departuresBytes n []) rest departureSize (length-departureBytes none))
-    ∙ departureIn-departureBytes none refl)
-    (ap (λ l. departuresText (departuresIn n l))
-    (drop-first (departureBytes none) (departuresBytes n []) rest departureSize (length-departureBytes none))
-    ∙ departures-bytes n [] rest (omega arith) refl)
-departures-bytes (suc n) (d ∷ ds) rest room h =
-    ap₂ (λ d t. departureText d ++ t)
-    (ap departureIn (take-first (departureBytes d) (departuresBytes n ds) rest departureSize (length-departureBytes d))
-    ∙ departureIn-departureBytes d (and-l (departureFits d) (all? departureFits ds) h))
-    (ap (λ l. departuresText (departuresIn n l))
-    (drop-first (departureBytes d) (departuresBytes n ds) rest departureSize (length-departureBytes d))
-    ∙ departures-bytes n ds rest (omega arith) (and-r (departureFits d) (all? departureFits ds) h))
+text-none : (k : ℕ) → departuresText (noDepartures k) ≡ []
+unfolding departuresText departureText noDepartures
+text-none zero = refl
+text-none (suc k) = text-none k
+
+-- outputs that send none have no text
+text-sent : (ds : List (Option Cell)) (k : ℕ) → departuresText (ds ++ noDepartures k) ≡ departuresText ds
+unfolding departuresText
+text-sent [] k = text-none k
+text-sent (d ∷ ds) k = ap (λ t. departureText d ++ t) (text-sent ds k)
 
 pub departures-filled : (c : Course) (buffer : List ℕ) → length (c .departures) ≤ portLimit
     → all? departureFits (c .departures) ≡ true
     → departuresText (departuresIn portLimit (filled (answerBytes (answerOf c)) buffer)) ≡ departuresText (c .departures)
-unfolding filled answerBytes answerOf
+unfolding filled answerOf
 departures-filled c buffer few h =
-    let ds : List ℕ = departuresBytes portLimit (c .departures) in
-    let ps : List ℕ = bytesOf 4 (c .one .proposals) ++ bytesOf 4 (c .two .proposals) in
-    ap (λ l. departuresText (departuresIn portLimit l)) (append-assoc ds ps (drop (length (ds ++ ps)) buffer))
-    ∙ departures-bytes portLimit (c .departures) (ps ++ drop (length (ds ++ ps)) buffer) few h
+    ap departuresText (answerBytes-outputs (answerOf c) (drop (length (answerBytes (answerOf c))) buffer) few h)
+    ∙ text-sent (c .departures) (portLimit - length (c .departures))

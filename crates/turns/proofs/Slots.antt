@@ -22,6 +22,7 @@ use Rattle.layout.specs.Answer.{answerBytes, answerSize, departuresIn}
 use Rattle.layout.specs.Host.{filled, tableAfter, answerAfter}
 use Rattle.layout.specs.Table.{IsTable, stateOf, encode}
 use Rattle.layout.proofs.Host.{tableAfter-refused}
+use Rattle.layout.proofs.Limits.{Goes, goes}
 use Rattle.layout.proofs.Table.{decode-sound}
 use Rattle.fabric.specs.Slot.{refusalOf}
 use Rattle.lent.specs.Looked.{recordsSlot}
@@ -30,7 +31,6 @@ use Rattle.turns.specs.declared.Played.{Played}
 use Rattle.turns.specs.declared.Played.the-variants.{Ran, Stopped}
 use Rattle.play.specs.Player.{departuresText, refusalText, lineOf}
 use Rattle.turns.specs.Code.{Wrote, slotText, playedOf, SlotPlayed}
-use Rattle.turns.proofs.Limits.{Goes, goes}
 use Rattle.turns.proofs.Sent.{departures-filled}
 
 -- the fault of an outcome tells it

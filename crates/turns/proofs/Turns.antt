@@ -42,6 +42,7 @@ use Rattle.layout.specs.Entry.{clockIn}
 use Rattle.layout.specs.Host.{filled, startCall, bufferAfter}
 use Rattle.layout.specs.Table.{IsTable, decode, encode, stateOf, tableSize}
 use Rattle.layout.proofs.Host.{startCall-done}
+use Rattle.layout.proofs.Limits.{Goes, goes}
 use Rattle.layout.proofs.Table.{decode-encode, decode-length, decode-sound, encode-clock, length-encode, sound-clock}
 use Rattle.layout.proofs.Table.{stateOf-encode, encode-decode}
 use Rattle.play.proofs.SameText.{header-first}
@@ -52,7 +53,6 @@ use Rattle.turns.specs.declared.Stage.the-variants.{Opening as OpeningSt
 use Rattle.play.specs.Player.{departuresText, refusalText, lineOf}
 use Rattle.play.specs.Turn.{playing, over, Turn, ending, slotTurn, nextTurn, headerTurn, turn}
 use Rattle.turns.specs.Code.{standing, tableThen, Stands, Wrote, Turned, SlotPlayed}
-use Rattle.turns.proofs.Limits.{Goes, goes}
 use Rattle.turns.proofs.Slots.{played-stopped, played-ran}
 
 -- the player's table is that of its switch

@@ -1,4 +1,5 @@
--- The course of a slot that runs: sixteen departures at most, of numbers of 32 bits, and a sound switch one slot on.
+-- The course of a slot that runs: a departure for each output, of numbers of 32 bits, proposals of 32 bits, and a sound
+-- switch one slot on.
 use Prim.Native.Nat.{ℕ, _+_, _≤_, _<_}
 use native.Mathlib.Omega.{arith}
 use mathlib.Core.Bool.{true, false}
@@ -18,20 +19,25 @@ use Rattle.laws.proofs.Tests.{and-i}
 use Rattle.model.specs.State.{Switch, cells, Entry}
 use Rattle.model.specs.Checks.{done, firstFault}
 use Rattle.model.specs.Crossbar.{Course, run, slot, leaving, departuresOf}
-use Rattle.model.specs.Phase.{Waiting, waiting}
+use Rattle.model.specs.Phase.{Waiting, waiting, phase}
 use Rattle.model.specs.Sound.{sound, soundSections}
-use Rattle.model.proofs.Numbering.{entryOf, length-without, mem-waiting, stands-entry}
+use Rattle.model.proofs.Numbering.{entryOf, length-moved, length-without, mem-waiting, stands-entry, waiting-few}
+use Rattle.model.proofs.PhaseMatching.{candidates-few, phase-proposals}
 use Rattle.model.proofs.SoundLaws.{SoundEntry}
-use Rattle.model.proofs.SoundOrderly.{sound-section}
-use Rattle.model.proofs.SoundSlot.{Called, runs, refuses, called, settled-sound, run-sound}
-use Rattle.trace.proofs.Tests.{fits32-i, fits32-e}
+use Rattle.model.proofs.SoundOrderly.{sound-section, sound-short}
+use Rattle.model.proofs.SoundSlot.{Called, runs, refuses, called, arrived-sound, between-sound, settled-sound}
+use Rattle.model.proofs.SoundSlot.{run-sound}
 use Rattle.layout.proofs.Answer.{cellFits, departureFits}
+use Rattle.layout.proofs.Number.{fits32-below, below-fits32}
 use Rattle.layout.proofs.Records.{length-numbersFrom}
 use Rattle.layout.proofs.Table.{sound-clock, sound-length, sound-ports}
 
 pub record Goes (s : Switch) (c : Course) : Type 0 where
+  pub outputs : length (c .departures) ≡ s .ports
   pub few : length (c .departures) ≤ portLimit
   pub fit : all? departureFits (c .departures) ≡ true
+  pub first : fits32 (c .one .proposals) ≡ true
+  pub second : fits32 (c .two .proposals) ≡ true
   pub good : sound (c .switch) ≡ true
   pub clock : c .switch .clock ≡ s .clock + 1
 
@@ -45,10 +51,11 @@ entry-fits : (ports clock k : ℕ) (e : Entry) → ports ≤ portLimit → k < p
     → SoundEntry ports clock k e → cellFits (e .cell) ≡ true
 unfolding cellFits
 entry-fits ports clock k e p b t h =
-    let i : fits32 (e .cell .input) ≡ true = fits32-i _ (omega (arith, h .input)) in
-    let o : fits32 (e .cell .output) ≡ true = fits32-i _ (omega (arith, h .output)) in
-    let f : fits32 (e .cell .flow) ≡ true = fits32-i _ (omega (arith, ltb-true (e .cell .flow) flowLimit (h .flow))) in
-    let s : fits32 (e .cell .slot) ≡ true = fits32-i _ (omega (arith, h .slot)) in
+    let i : fits32 (e .cell .input) ≡ true = below-fits32 _ (omega (arith, h .input)) in
+    let o : fits32 (e .cell .output) ≡ true = below-fits32 _ (omega (arith, h .output)) in
+    let small : e .cell .flow < flowLimit = ltb-true (e .cell .flow) flowLimit (h .flow) in
+    let f : fits32 (e .cell .flow) ≡ true = below-fits32 _ (omega arith) in
+    let s : fits32 (e .cell .slot) ≡ true = below-fits32 _ (omega (arith, h .slot)) in
     and-i _ _ i (and-i _ _ o (and-i _ _ f (and-i _ _ (h .rank) (and-i _ _ (h .tag) s))))
 
 module _ (ports clock : ℕ) (sections : List (List Entry)) (h : soundSections ports clock 0 sections ≡ true)
@@ -77,6 +84,17 @@ module _ (ports clock : ℕ) (sections : List (List Entry)) (h : soundSections p
       (λ o _. departure-fits (keep (λ e. eqb (e .cell .output) o) (leaving (waiting sections)))
       (λ w m. leaving-fits w (mem-keep-in _ (leaving (waiting sections)) m)))
 
+  -- a phase proposes no more cells than wait, 64 for each input at most
+  proposals-fit : fits32 (phase (waiting sections) .proposals) ≡ true
+  proposals-fit =
+      below-fits32 _
+      (omega (
+        arith,
+        phase-proposals (waiting sections),
+        candidates-few (waiting sections),
+        waiting-few sections (sound-short ports clock sections h),
+      ))
+
 module _ (s : Switch) (records : List Arrival) (h : sound s ≡ true) (fits : all? arrivalFits records ≡ true) where
   abbrev ran : Course
   ran = run s (map (accepted (s .clock)) records)
@@ -89,12 +107,22 @@ module _ (s : Switch) (records : List Arrival) (h : sound s ≡ true) (fits : al
       let good : sound (ran .switch) ≡ true = run-sound s records h fits t f in
       let inputs : length (ran .settled) ≡ s .ports =
       sym (length-without (leaving (waiting (ran .settled))) (ran .settled)) ∙ sound-length (ran .switch) good in
-      let clock : s .clock + 1 ≤ clockEnd + 1 = omega (arith, fits32-e (s .clock) (sound-clock s h)) in
+      let between : length (ran .between) ≡ s .ports = sym (length-moved (ran .two) (ran .between)) ∙ inputs in
+      let arrived : length (ran .arrived) ≡ s .ports = sym (length-moved (ran .one) (ran .arrived)) ∙ between in
+      let outputs = length-departures (s .ports) (leaving (waiting (ran .settled))) in
+      let clock : s .clock + 1 ≤ clockEnd + 1 = omega (arith, fits32-below (s .clock) (sound-clock s h)) in
       record {
-        few = omega (arith, length-departures (s .ports) (leaving (waiting (ran .settled))), sound-ports s h);
+        outputs = outputs;
+        few = omega (arith, sound-ports s h);
         fit =
             departures-fit (s .ports) (s .clock + 1) (ran .settled) (settled-sound s records h fits t f)
             (sound-ports s h) inputs clock;
+        first =
+            proposals-fit (s .ports) (s .clock + 1) (ran .arrived) (arrived-sound s records h fits t f)
+            (sound-ports s h) arrived clock;
+        second =
+            proposals-fit (s .ports) (s .clock + 1) (ran .between) (between-sound s records h fits t f)
+            (sound-ports s h) between clock;
         good = good;
         clock = refl;
       }
