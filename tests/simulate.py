@@ -1,5 +1,5 @@
 #!/usr/bin/env python3
-"""An independent crossbar and PIFO switch, written from document 01 alone.
+"""An independent crossbar and PIFO switch, written from docs/SCOPE.md alone.
 
 Plays random slots on both and compares them call by call. With --faults it does
 the same for rules that are wrong in one point and says how soon each is found

@@ -1,5 +1,5 @@
 /* Tests start and check through the static library, against a check of the table that is written here from
-   docs/LAYOUT.md and document 01 alone; and every call with null for no bytes. Prints one line and ends with 0 if all
+   docs/LAYOUT.md and docs/SCOPE.md alone; and every call with null for no bytes. Prints one line and ends with 0 if all
    agree. */
 #include <stdio.h>
 #include <stdlib.h>

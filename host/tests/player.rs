@@ -89,7 +89,7 @@ fn compare(program: &str, text: &[u8], piece: usize) -> Vec<u8> {
     want
 }
 
-/// The show of document 01. A space stands for a line feed, here and below.
+/// The show of scope 8.3. A space stands for a line feed, here and below.
 const SHOW: &str = "ports=2 first=0 slot=0 in=0 out=1 flow=0 rank=5 tag=10 in=1 out=1 flow=0 rank=3 tag=11 \
                     slot=1 end=2 ";
 

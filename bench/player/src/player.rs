@@ -1,4 +1,4 @@
-//! A player of traces in plain Rust on the plain switch, written for speed from document 01: the proved player is timed
+//! A player of traces in plain Rust on the plain switch, written for speed from docs/SCOPE.md: the proved player is timed
 //! beside it. It reads standard input through a window and needs no more memory for a longer trace.
 
 use plain_switch::{slot, start, ANSWER_BYTES, ARRIVAL_BYTES, DEPARTURE_BYTES, TABLE_BYTES, TALLY_BYTES};

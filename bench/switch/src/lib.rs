@@ -1,4 +1,4 @@
-//! A crossbar in plain Rust, written for speed from document 01 and docs/LAYOUT.md. It has the bytes, the checks and
+//! A crossbar in plain Rust, written for speed from docs/SCOPE.md and docs/LAYOUT.md. It has the bytes, the checks and
 //! the results of the proved one and shares nothing with it, so that the two can be timed side by side.
 
 mod fabric;

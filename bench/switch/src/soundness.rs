@@ -1,4 +1,4 @@
-//! `check` beside document 01's sound table and docs/LAYOUT.md written out plainly, on sound and broken tables.
+//! `check` beside the sound table of docs/SCOPE.md and docs/LAYOUT.md written out plainly, on sound and broken tables.
 
 use crate::load::{Load, Random};
 use crate::table::{word, Table, RECORD_BYTES, TABLE_BYTES};

@@ -1,4 +1,4 @@
--- Document 01, "One slot": the arrival of a slot's records on the bytes of its table.
+-- Scope 3.1: the arrival of a slot's records on the bytes of its table.
 use Prim.Native.Nat.{ℕ, suc, _+_, _-_}
 use mathlib.Core.Bool.{true, false}
 use mathlib.Core.List.{List, [], _∷_, _++_}

@@ -1,4 +1,4 @@
--- Document 01, "What is turned back": the checks of a slot's records on the bytes of its table and of its arrivals.
+-- Scope 6, refusals 4 to 8: the checks of a slot's records on the bytes of its table and of its arrivals.
 use Prim.Native.Nat.{ℕ, _+_, _*_, _/_}
 use mathlib.Core.Bool.{Bool, _&&_}
 use mathlib.Core.List.{List, [], map}

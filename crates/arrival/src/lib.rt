@@ -1,4 +1,4 @@
-// Document 01, "What is turned back", 4 to 8, and "One slot", arrival: a record is looked at, and the cells that the
+// Scope 6, refusals 4 to 8, and scope 3.1, arrival: a record is looked at, and the cells that the
 // records of a slot become enter the lists of their inputs, on the bytes of the table in place.
 ghost use mathlib.Core.Path.{_≡_};
 ghost use mathlib.Core.Option.{Option, none};

@@ -1,4 +1,4 @@
--- Document 01, "Cells and their order": when two cells are the same, and what an accepted record becomes.
+-- Scope 2.1 and 2.9: when two cells are the same, and what an accepted record becomes.
 use Prim.Native.Nat.{ℕ}
 use mathlib.Core.Bool.{Bool, _&&_}
 use lib.Dec.{eqb}

@@ -1,4 +1,4 @@
--- Document 01, "Cells and their order": a flow means the triple input, output, flow number.
+-- Scope 2.2: a flow means the triple input, output, flow number.
 use mathlib.Core.Bool.{Bool, _&&_}
 use lib.Dec.{eqb}
 use Rattle.cell.specs.declared.Cell.{Cell}

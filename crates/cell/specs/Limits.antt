@@ -1,4 +1,4 @@
--- Document 01, "Cells and their order": the limits of the switch.
+-- Scope 2.4: the limits of the switch.
 use Prim.Native.Nat.{ℕ}
 use mathlib.Core.Bool.{Bool, _&&_}
 use lib.Dec.{ltb, leb}

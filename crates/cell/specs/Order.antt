@@ -1,4 +1,4 @@
--- Document 01, "Cells and their order": output priority.
+-- Scope 2.3: output priority.
 use mathlib.Core.Bool.{Bool, _&&_, _||_}
 use lib.Dec.{ltb, eqb}
 use Rattle.cell.specs.declared.Cell.{Cell}

@@ -1,4 +1,4 @@
--- Document 01, "What is turned back": the number of each refusal.
+-- Scope 6: the number of each refusal.
 use Prim.Native.Nat.{ℕ}
 use Rattle.cell.specs.declared.Refusal.{Refusal}
 use Rattle.cell.specs.declared.Refusal.the-variants.{BadSize, BrokenTable, ClockEnd, NoSuchPort, NoSuchFlow}

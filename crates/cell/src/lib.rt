@@ -58,7 +58,7 @@ pub enum Refusal {
 }
 
 impl Refusal {
-    // The number that document 01 gives the refusal.
+    // The number that scope 6 gives the refusal.
     pub fn number(self) -> u32
         ensures { λ r. ⌜ r ≡ number self ⌝ }
     {

@@ -1,4 +1,4 @@
-// Document 01, "One slot", rules 1 to 4: which cells a phase schedules, which are urgent, and which are matched. Rule 6
+// Scope 3.3 to 3.6, rules 1 to 4: which cells a phase schedules, which are urgent, and which are matched. Rule 6
 // goes on from the best crosspoint cells that rule 3 finds.
 // Entry k of a table is a cell of input k / 64. The table and the places are only read.
 use places::NOWHERE;

@@ -1,4 +1,4 @@
-// Document 01, "One slot", departure: each output sends the cell of highest output priority in its buffer, if it has
+// Scope 3.9, departure: each output sends the cell of highest output priority in its buffer, if it has
 // one. The cells that leave go into the answer. The others close up in the table, with their places from the column.
 use cell::Cell;
 use places::NOWHERE;

@@ -1,4 +1,4 @@
--- Document 01, "One slot": a slot on the bytes of a sound table and of whole records.
+-- Scope 3: a slot on the bytes of a sound table and of whole records.
 use mathlib.Core.List.{List}
 use mathlib.Core.Path.{_≡_}
 use Prim.Native.Nat.{ℕ, zero, suc}

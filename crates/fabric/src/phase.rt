@@ -1,4 +1,4 @@
-// Document 01, "One slot", scheduling: one phase. Its choices are in choosing, its moves in moving.
+// Scope 3.2, scheduling: one phase. Its choices are in choosing, its moves in moving.
 use choosing::choose;
 use matching::Matched;
 use matching::find_matching;

@@ -1,4 +1,4 @@
-// Document 01, "One slot", on the table of a sound state and whole records that have no fault: arrival, the two phases and
+// Scope 3, one slot, on the table of a sound state and whole records that have no fault: arrival, the two phases and
 // departure.
 use crate::phase::phase;
 use arrival::arrive;

@@ -1,4 +1,4 @@
--- Document 01, "What is turned back": a slot on the records that it is lent, and how far they have been looked at.
+-- Scope 6.1: a slot on the records that it is lent, and how far they have been looked at.
 use Prim.Native.Nat.{ℕ, _+_, _≤_, _<_}
 use mathlib.Core.List.{List, map}
 use mathlib.Core.Option.{Option, some}

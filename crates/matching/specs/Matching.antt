@@ -1,9 +1,9 @@
--- Document 01, "One slot", rule 4: inputs propose their cells in list order, and an output keeps the proposal of
+-- Scope 3.6, rule 4: inputs propose their cells in list order, and an output keeps the proposal of
 -- highest output priority. Candidates are of any type, with two tests:
 --     ahead c d   both are of one input, and c stands before d in its list
 --     over c d    both go to one output, and c has the higher output priority
 -- A list of candidates here holds those that no output has refused so far. Unlike the source, a pair of ports may
--- have several candidates (document 01, "Ground it stands on").
+-- have several candidates (scope 1.3).
 use Prim.Native.Nat.{ℕ, zero, suc}
 use mathlib.Core.Bool.{Bool, _||_}
 use mathlib.Core.List.{List}

@@ -1,4 +1,4 @@
--- Matchings worked out by hand from document 01, "One slot", rule 4, and the test that the definitions give them. In a
+-- Matchings worked out by hand from scope 3.6, rule 4, and the test that the definitions give them. In a
 -- row, candidates are named by letters.
 use Prim.Native.Nat.{ℕ}
 use mathlib.Core.Bool.{Bool, _&&_}

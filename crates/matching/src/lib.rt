@@ -1,4 +1,4 @@
-// Document 01, "One slot", rule 4: the matching, on columns. Position 64 × i + m of a column is candidate m of input i.
+// Scope 3.6, rule 4: the matching, on columns. Position 64 × i + m of a column is candidate m of input i.
 // Inputs propose one after the other, each in the order of its list, and an output keeps the best proposal so far; the
 // input that loses its output, or does not get it, goes on. In whatever order they are asked, the matching is the same.
 use cell::Cell;

@@ -1,4 +1,4 @@
--- Document 01, "One slot": the crossbar's slot, with its refusals.
+-- Scope 3, one slot: the crossbar's slot, with its refusals.
 use Prim.Native.Nat.{ℕ, _+_}
 use mathlib.Core.Bool.{Bool, true, false, cond, not, _&&_}
 use mathlib.Core.List.{List, [], _∷_, map}

@@ -1,4 +1,4 @@
--- Histories of the switch, worked out by hand from document 01, "One slot" and "What is turned back", and the test that
+-- Histories of the switch, worked out by hand from scope 3 and 6, and the test that
 -- the definitions give them. In a row, cells are named by letters: input, output, flow, rank, tag, slot. A cell of rank
 -- 5 is written "the 5". The tables of a slot are the lists, the crosspoints and the buffers, after arrival and after
 -- each phase.
@@ -35,7 +35,7 @@ unfoldable pub runs : List Cell → Tables → Tables → Tables → List (Optio
 runs cs arrived between settled departures one two =
     call (map recordOf cs) (passes arrived between settled (sends departures one two))
 
--- The show of document 01. Slot 0: a, b, c are normal and scheduled, and none is urgent; output 0 takes b, the 1, then
+-- The show of scope 9.3. Slot 0: a, b, c are normal and scheduled, and none is urgent; output 0 takes b, the 1, then
 -- c, the 2. Slot 1: u is blocked by a and over it, so urgent, and alone it is matched by one proposal; output 0 reads
 -- no crosspoint then, and takes a in phase two.
 unfoldable pub threeInputs : History

@@ -1,5 +1,5 @@
--- Document 01, "One slot", scheduling: one phase. Unlike the source, every blocked head may take part in the matching
--- (document 01, "Ground it stands on"). All choices use the state at the start of the phase, save the output's choice.
+-- Scope 3.2 to 3.8, scheduling: one phase. Unlike the source, every blocked head may take part in the matching
+-- (scope 1.3). All choices use the state at the start of the phase, save the output's choice.
 -- Each step below is a list of waiting cells, made from those before it:
 --     lists, crosspoints   the cells in the lists and at the crosspoints as the phase starts
 --     heads, scheduled, urgent, candidates, matched   rules 1 to 4

@@ -1,4 +1,4 @@
--- Document 01, "The PIFO switch it is held against": no lists, crosspoints or phases. Its state is N, a clock and a
+-- Scope 4, the PIFO switch: no lists, crosspoints or phases. Its state is N, a clock and a
 -- queue of cells for each output.
 use Prim.Native.Nat.{ℕ, _+_}
 use mathlib.Core.Bool.{Bool, true, false}

@@ -1,4 +1,4 @@
--- Document 01, "A sound table".
+-- Scope 5.1: a sound table.
 use Prim.Native.Nat.{ℕ, _+_}
 use mathlib.Core.Bool.{Bool, true, false, not, _&&_, _||_}
 use mathlib.Core.List.{List, [], _∷_}

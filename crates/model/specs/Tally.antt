@@ -1,4 +1,4 @@
--- Document 01, "Cells and their order": the tally, changed in place by each slot call.
+-- Scope 2.8: the tally, changed in place by each slot call.
 use Prim.Native.Nat.{ℕ, _+_, min}
 use mathlib.Core.Bool.{Bool, true, false}
 use mathlib.Core.List.{List, [], _∷_}

@@ -1,4 +1,4 @@
-// Document 01, "One slot", rules 5 and 6: the cells move.
+// Scope 3.7 and 3.8, rules 5 and 6: the cells move.
 // Each rule has a function that chooses the number of a cell, 1,024 for none, a function that moves that cell, and a
 // function that does both for every port.
 use places::NOWHERE;

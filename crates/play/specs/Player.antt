@@ -1,4 +1,4 @@
--- Document 01, "The trace": the player, as text in, text out, over any switch that answers slot calls. `playCrossbar` is
+-- Scope 8: the player, as text in, text out, over any switch that answers slot calls. `playCrossbar` is
 -- the player; `playPifo` is what it would be over the PIFO switch.
 use Prim.Native.Nat.{ℕ, zero, suc, _+_, _*_}
 use mathlib.Core.Bool.{true, false}

@@ -1,4 +1,4 @@
-// Document 01, "The trace": the reader, a function for each rule of the grammar, which stands over it. A text is lent and
+// Scope 7: the reader, a function for each rule of the grammar, which stands over it. A text is lent and
 // only read; what was read is handed on with its length, and the next reader gets the slice from there.
 // No public function has a `requires`.
 use cell::Arrival;

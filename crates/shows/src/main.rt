@@ -1,4 +1,4 @@
-// Document 01, "Shows to try", those without a star, and shows of our own, on the proved switch against a shadow switch that was
+// Scope 9, the shows without a star, and shows of our own, on the proved switch against a shadow switch that was
 // written apart: a line for each show, with what came of each slot call. A call that is turned back has its number and the record's
 // place (0 where no record is at fault), and the calls after it go on as if it had not been.
 mod made;

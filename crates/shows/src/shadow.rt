@@ -1,4 +1,4 @@
-// Document 01, "The PIFO switch it is held against", written plainly and apart from the crossbar: no lists, no crosspoints, no
+// Scope 4, the PIFO switch, written plainly and apart from the crossbar: no lists, no crosspoints, no
 // phases. All waiting cells stand in one flat array, in no order, and whatever is asked of them is searched for from end to end.
 ghost use Prim.Native.Nat.{_<_};
 

@@ -1,4 +1,4 @@
--- The definitions give every starred show of document 01, for the crossbar and, where it can answer, the PIFO switch.
+-- The definitions give every starred show of scope 9, for the crossbar and, where it can answer, the PIFO switch.
 -- Assumes nothing.
 use mathlib.Core.Bool.{true}
 use mathlib.Core.List.{flatten}

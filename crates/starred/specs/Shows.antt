@@ -1,4 +1,4 @@
--- Document 01, "Shows to try": the starred shows as a table of rows, and the test that the definitions give a row. Rows
+-- Scope 9: the starred shows as a table of rows, and the test that the definitions give a row. Rows
 -- that the PIFO switch can answer are tested for it too.
 use Prim.Native.Nat.{ℕ}
 use Prim.Native.String.{String}
@@ -32,7 +32,7 @@ given (plays t u) = sameBytes (playCrossbar (ascii t)) (ascii u) && sameBytes (p
 given (starts n r) = startAnswers r (start n 0)
 given (answers n first calls clock) = bothRun n first calls clock
 
--- The rows, in the order of document 01.
+-- The rows, in the order of scope 9.
 unfoldable pub starred : List Show
 starred =
     plays

@@ -1,1 +1,1 @@
-// Definitions and one theorem: the starred shows of document 01, in specs/ and proofs/.
+// Definitions and one theorem: the starred shows of scope 9, in specs/ and proofs/.

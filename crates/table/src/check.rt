@@ -1,4 +1,4 @@
-// Whether bytes are a table: those of one sound state (document 01, "A sound table"). The header first, then input by
+// Whether bytes are a table: those of one sound state (scope 5.1). The header first, then input by
 // input the count, the entries, the unused records, and what is asked of the entries together.
 use crate::entry;
 use crate::word;

@@ -1,4 +1,4 @@
--- Document 01, "Cells and their order": what a slot call makes of the tally, as the code says what came of the slot.
+-- Scope 2.8: what a slot call makes of the tally, as the code says what came of the slot.
 use Prim.Native.Nat.{ℕ}
 use mathlib.Core.Bool.{Bool, true, false}
 use Rattle.cell.specs.declared.Tally.{Tally}

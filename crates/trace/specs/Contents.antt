@@ -1,4 +1,4 @@
--- Document 01, "The trace": the contents of a text and what the writer makes of them.
+-- Scope 7.2: the contents of a text and what the writer makes of them.
 use Prim.Native.Nat.{ℕ, _+_}
 use mathlib.Core.Bool.{Bool, true, false, _&&_}
 use mathlib.Core.List.{List, [], _∷_, _++_}

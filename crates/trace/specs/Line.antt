@@ -1,4 +1,4 @@
--- Document 01, "The trace": a line is a key, `=`, a decimal number without leading zeros, at most 4,294,967,295, and
+-- Scope 7.1: a line is a key, `=`, a decimal number without leading zeros, at most 4,294,967,295, and
 -- a line feed. A text is its bytes.
 --     line k n       the line with key k and number n
 --     readLine k t   the number of the line with key k at the start of t, and the text after it; none if t does not

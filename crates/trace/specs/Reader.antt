@@ -1,4 +1,4 @@
--- Document 01, "The trace": reading a text, with every refusal and its line. A cursor is the text that is left and
+-- Scope 7: reading a text, with every refusal and its line. A cursor is the text that is left and
 -- the number of its first line; a reader gives what it read and the cursor after it, or the line at fault.
 use Prim.Native.Nat.{ℕ, zero, suc, _+_}
 use mathlib.Core.Bool.{Bool, true, false, cond}

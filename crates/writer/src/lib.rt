@@ -1,4 +1,4 @@
-// The writer: document 01, "The trace", from contents to text, and the lines that the player writes.
+// The writer, scope 7.6: from contents to text, and the lines that the player writes.
 // No function has a `requires`. Each that writes answers the place after its text, and a place past the end of the
 // buffer says that the text does not fit. The public ones write all of a text or nothing of it. The private ones,
 // `pour_..`, write what fits of it, so that one text after another needs no test, and a text poured into no bytes is

@@ -1,5 +1,5 @@
-//! A crossbar and a PIFO switch written from document 01 alone, clear rather than clever. They share the cell, its order
-//! and the checks of a record, as document 01 says, and nothing with the proved code. `player` plays a trace on either.
+//! A crossbar and a PIFO switch written from docs/SCOPE.md alone, clear rather than clever. They share the cell, its order
+//! and the checks of a record, as the scope says, and nothing with the proved code. `player` plays a trace on either.
 #![allow(dead_code)] // each test uses a part of it
 
 pub mod player;

@@ -1,4 +1,4 @@
-//! A player of traces written from document 01, "The trace": the whole text in, the whole text out.
+//! A player of traces written from docs/SCOPE.md, 7 and 8: the whole text in, the whole text out.
 
 use super::{Cell, Crossbar, Pifo, Record};
 use std::fmt::Display;
