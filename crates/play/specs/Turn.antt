@@ -17,11 +17,17 @@ use Rattle.trace.specs.Reader.{Cursor, Next, slotAhead, finished, faulty, Heade
 use Rattle.play.specs.Player.{departuresText, refusalText, lineOf}
 
 -- Where the player stands: before the header; before a block or the end, with the number of the next line and the
--- switch; or at the end of what it writes.
+-- switch; or behind all that it writes, where the trace was played to its end or was turned back.
 pub data Standing : Type 0 where
   opening : Standing
   playing : ℕ → Switch → Standing
-  over : Standing
+  ended : Standing
+  turnedBack : Standing
+
+-- nothing more is written
+pub data Over : Standing → Type 0 where
+  at-end : Over ended
+  at-refusal : Over turnedBack
 
 -- what a turn writes, the text that it leaves, and where the player stands then
 pub record Turn : Type 0 where
@@ -29,13 +35,13 @@ pub record Turn : Type 0 where
   pub left : List ℕ
   pub after : Standing
 
--- the last turn leaves the text alone
-unfoldable pub ending : List ℕ → List ℕ → Turn
-ending text t = record { written = text; left = t; after = over }
+-- the last turn leaves the text alone; the player stands at one of the two ends then
+unfoldable pub ending : Standing → List ℕ → List ℕ → Turn
+ending s text t = record { written = text; left = t; after = s }
 
 -- a slot's block: the slot runs, or it is refused and nothing of the block is written
 unfoldable pub slotTurn : ℕ → ℕ → List ℕ → Cursor → Outcome Course → Turn
-slotTurn clock l t d (refused r place) = ending (refusalText r (lineOf l place)) t
+slotTurn clock l t d (refused r place) = ending turnedBack (refusalText r (lineOf l place)) t
 slotTurn clock l t d (done c) =
     record {
       written = line Slot clock ++ departuresText (c .departures);
@@ -45,13 +51,13 @@ slotTurn clock l t d (done c) =
 
 unfoldable pub nextTurn : ℕ → Switch → List ℕ → Piece Next → Turn
 nextTurn l s t more = record { written = []; left = t; after = playing l s }
-nextTurn l s t (known finished) = ending (line End (s .clock)) t
-nextTurn l s t (known (faulty k)) = ending (refusalText BadLine (l + k)) t
+nextTurn l s t (known finished) = ending ended (line End (s .clock)) t
+nextTurn l s t (known (faulty k)) = ending turnedBack (refusalText BadLine (l + k)) t
 nextTurn l s t (known (slotAhead records d)) = slotTurn (s .clock) l t d (slot s (some records))
 
 unfoldable pub headerTurn : List ℕ → Piece Header → Turn
 headerTurn t more = record { written = []; left = t; after = opening }
-headerTurn t (known (refusedAt r l)) = ending (refusalText r l) t
+headerTurn t (known (refusedAt r l)) = ending turnedBack (refusalText r l) t
 headerTurn t (known (opened ports first c)) =
     record {
       written = line Ports ports ++ line First first;
@@ -63,7 +69,8 @@ headerTurn t (known (opened ports first c)) =
 unfoldable pub turn : Bool → Standing → List ℕ → Turn
 turn last opening t = headerTurn t (headerIn last t)
 turn last (playing l s) t = nextTurn l s t (nextIn last (s .clock) t)
-turn last over t = ending [] t
+turn last ended t = ending ended [] t
+turn last turnedBack t = ending turnedBack [] t
 
 -- the turn x, and behind it the turns y
 unfoldable pub followed : Turn → Turn → Turn
