@@ -1,3 +1,4 @@
+pub mod Driver
 pub mod Lines
 pub mod Records
 pub mod Sent

@@ -1,8 +1,9 @@
 -- Turns taken one after the other: what the first of them left, and that any more go on from there.
-use Prim.Native.Nat.{ℕ, zero, suc, _+_, _-_, _≤_}
+use Prim.Native.Nat.{ℕ, zero, suc, _+_, _-_, _≤_, _<_}
 use native.Mathlib.Omega.{arith}
 use mathlib.Core.Bool.{Bool, true}
 use mathlib.Core.List.{List, [], _∷_, _++_, append-assoc, append-nil, cons≢nil}
+use mathlib.Core.Logic.{inl, inr}
 use mathlib.Core.Path.{_≡_, refl, sym, _∙_, ap, ap₂, subst}
 use lib.ListN.{length, take, drop, length-append, length-drop}
 use lib.Seq.{take-at, drop-at, drop-drop, drop-length, take-length}
@@ -11,7 +12,7 @@ use Rattle.play.specs.Turn.{Standing, Turn, turn, turns, followed}
 use Rattle.layout.proofs.Host.{length-filled}
 use Rattle.play.proofs.Pieces.{turn-stuck}
 use Rattle.turns.specs.declared.Stage.{Stage}
-use Rattle.turns.specs.Code.{standing, Stands, Wrote, Turned, tableThen, tableAfterTurns, Took}
+use Rattle.turns.specs.Code.{standing, Stands, Wrote, Turned, tableThen, tableAfterTurns, Took, turnRoom}
 use Rattle.turns.proofs.Turns.{table-stays}
 
 length-nil : (l : List ℕ) → length l ≡ 0 → l ≡ []
@@ -71,15 +72,16 @@ module _ (last : Bool) (s₀ : Standing) (text table₀ out₀ : List ℕ) where
         tables = λ m. let k : 0 + m ≡ m = omega arith in ap₂ (λ k s. tableAfterTurns k last s text table₀) k e;
       }
 
-  -- they may stop there
+  -- they may stop there, where the buffer may be too short for another
   pub going-stops : (table out : List ℕ) (stage : Stage) (l used written : ℕ) → Going table out stage l used written
-      → Took last s₀ text table₀ out₀ table out stage l used written
+      → length out - written < turnRoom → Took last s₀ text table₀ out₀ table out stage l used written
   unfolding followed turns tableAfterTurns
-  going-stops table out stage l used written g =
+  going-stops table out stage l used written g short =
       let all : turns (g .taken + 0) last s₀ text
-      ≡ record { written = g .w ++ []; left = drop used text; after = standing stage l table } = g .goes 0 in (
-        g .taken + 0,
-        record {
+      ≡ record { written = g .w ++ []; left = drop used text; after = standing stage l table } = g .goes 0 in
+      record {
+        many = g .taken + 0;
+        left = record {
           wrote =
               record {
                 bytes =
@@ -93,8 +95,9 @@ module _ (last : Bool) (s₀ : Standing) (text table₀ out₀ : List ℕ) where
           after = sym (ap (λ x. x .after) all);
           stands = g .stands;
           table = sym (g .tables 0);
-        },
-      )
+        };
+        stopped = inr (omega (arith, going-length g));
+      }
 
   module _ (table out : List ℕ) (stage : Stage) (l used written : ℕ) (g : Going table out stage l used written)
       (table′ part out′ : List ℕ) (stage′ : Stage) (l′ more n : ℕ)
@@ -224,6 +227,12 @@ module _ (last : Bool) (s₀ : Standing) (text table₀ out₀ : List ℕ) where
         go [] z = refl
         go (b ∷ v) z = absurd (cons≢nil (sym z ∙ none))
 
+    -- and so would the next
+    again : x .written ≡ [] → turn last (x .after) (x .left) .written ≡ []
+    again none =
+        let (left, after) = turn-stuck last (standing stage l table) (drop used text) none in
+        ap₂ (λ s b. turn last s b .written) after left ∙ none
+
     pub all-room : written + n ≤ length out₀
     all-room = omega (arith, all-size, all-wrote .count)
 
@@ -267,9 +276,10 @@ module _ (last : Bool) (s₀ : Standing) (text table₀ out₀ : List ℕ) where
         let none : x .written ≡ [] = length-nil (x .written) (sym (t .wrote .count) ∙ h) in
         let all : turns (g .taken + 1) last s₀ text
         ≡ record { written = g .w ++ x .written; left = x .left; after = x .after } =
-        g .goes 1 ∙ ap (followed so-far) (turns-still none) in (
-          g .taken + 1,
-          record {
+        g .goes 1 ∙ ap (followed so-far) (turns-still none) in
+        record {
+          many = g .taken + 1;
+          left = record {
             wrote =
                 record {
                   bytes = all-wrote .bytes ∙ ap (λ y. filled (y .written) out₀) (sym all);
@@ -283,5 +293,6 @@ module _ (last : Bool) (s₀ : Standing) (text table₀ out₀ : List ℕ) where
             after = t .after ∙ sym (ap (λ y. y .after) all);
             stands = t .stands;
             table = t .table ∙ kept none ∙ sym (g .tables 1 ∙ tables-still none);
-          },
-        )
+          };
+          stopped = inl (ap (λ y. turn last (y .after) (y .left) .written) all ∙ again none);
+        }

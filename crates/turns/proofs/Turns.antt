@@ -49,10 +49,10 @@ use Rattle.play.proofs.SameText.{header-first}
 use Rattle.turns.specs.declared.Played.{Played}
 use Rattle.turns.specs.declared.Played.the-variants.{Ran, Stopped}
 use Rattle.turns.specs.declared.Stage.{Stage}
-use Rattle.turns.specs.declared.Stage.the-variants.{Opening as OpeningStage, Playing, Over}
+use Rattle.turns.specs.declared.Stage.the-variants.{Opening as OpeningStage, Playing, Ended, TurnedBack}
 use Rattle.play.specs.Player.{departuresText, refusalText, lineOf}
-use Rattle.play.specs.Turn.{playing, over, Turn, ending, slotTurn, nextTurn, headerTurn, turn}
-use Rattle.turns.specs.Code.{standing, tableThen, Stands, Wrote, Turned, SlotPlayed}
+use Rattle.play.specs.Turn.{Standing, playing, ended, turnedBack, Turn, ending, slotTurn, nextTurn, headerTurn, turn}
+use Rattle.turns.specs.Code.{standing, lineAt, tableThen, Stands, Wrote, Turned, Closed, SlotPlayed}
 use Rattle.turns.proofs.Slots.{played-stopped, played-ran}
 
 -- the player's table is that of its switch
@@ -61,7 +61,41 @@ pub table-stays : (stage : Stage) (l : ℕ) (table : List ℕ) → Stands stage 
 unfolding tableThen standing
 table-stays OpeningStage l table h = refl
 table-stays Playing l table h = encode-decode table (stateOf table) (h .good refl)
-table-stays Over l table h = refl
+table-stays Ended l table h = refl
+table-stays TurnedBack l table h = refl
+
+-- a stage at the end, and where the player stands then
+pub data At : Stage → Standing → Type 0 where
+  at-end : At Ended ended
+  at-refusal : At TurnedBack turnedBack
+
+at-standing : {end : Stage} {over : Standing} → At end over → (l : ℕ) (table : List ℕ) → standing end l table ≡ over
+unfolding standing
+at-standing at-end l table = refl
+at-standing at-refusal l table = refl
+
+at-table : {end : Stage} {over : Standing} → At end over → (table : List ℕ) → tableThen over table ≡ table
+unfolding tableThen
+at-table at-end table = refl
+at-table at-refusal table = refl
+
+at-plays : {end : Stage} {over : Standing} → At end over → end ≡ Playing → ⊥
+at-plays at-end e = let z : _≡_ {A = ℕ} 0 1 = cc in omega arith
+at-plays at-refusal e = let z : _≡_ {A = ℕ} 0 1 = cc in omega arith
+
+at-line : {end : Stage} {over : Standing} → At end over → 0 ≡ lineAt over
+unfolding lineAt
+at-line at-end = refl
+at-line at-refusal = refl
+
+at-stands : {end : Stage} {over : Standing} → At end over → (table : List ℕ) → length table ≡ tableSize → Stands end 0 table
+at-stands at table size =
+    record {
+      size = size;
+      number = at-line at ∙ ap lineAt (sym (at-standing at 0 table));
+      good = λ e. absurd (at-plays at e);
+      few = λ e. absurd (at-plays at e);
+    }
 
 ------------------------------------------------------------------------
 -- three kinds of turns, whatever they play
@@ -84,21 +118,19 @@ module _ (T : Turn) (text table buffer : List ℕ) where
       })
 
   -- it is the last one
-  ends : (t buffer′ : List ℕ) (stage : Stage) (l used n m : ℕ) → T ≡ ending t text → length table ≡ tableSize
-      → Wrote t buffer buffer′ n → stage ≡ Over → used ≡ 0 → m ≡ n
+  ends : {end : Stage} {over : Standing} → At end over → (t buffer′ : List ℕ) (stage : Stage) (l used n m : ℕ)
+      → T ≡ ending over t text → length table ≡ tableSize → Wrote t buffer buffer′ n → Closed end n stage l used m
       → Turned T text table buffer table buffer′ stage l used m
-  unfolding ending standing tableThen
-  ends t buffer′ stage l used n m e size w s u v =
-      let never : (P : Type 0) → stage ≡ Playing → P =
-      λ P p. (let z : _≡_ {A = ℕ} 0 1 = cc in absurd (omega arith)) in
+  unfolding ending
+  ends at t buffer′ stage l used n m e size w c =
       subst (λ T. Turned T text table buffer table buffer′ stage l used m) (sym e)
       (record {
-        wrote = record { bytes = w .bytes; count = v ∙ w .count };
-        used = omega arith;
-        left = ap (λ k. drop k text) (sym u);
-        after = ap (λ s. standing s l table) s;
-        stands = record { size = size; good = never _; few = never _ };
-        table = refl;
+        wrote = record { bytes = w .bytes; count = c .count ∙ w .count };
+        used = omega (arith, c .kept);
+        left = ap (λ k. drop k text) (sym (c .kept));
+        after = ap (λ s. standing s l table) (c .there) ∙ at-standing at l table;
+        stands = rw (c .there, c .none) (at-stands at table size);
+        table = sym (at-table at table);
       })
 
   -- the player goes on with a sound switch
@@ -106,7 +138,7 @@ module _ (T : Turn) (text table buffer : List ℕ) where
       → T ≡ record { written = t; left = drop used text; after = playing l s } → used ≤ length text → sound s ≡ true
       → table′ ≡ encode s → l ≤ 3 + 81 * s .clock → Wrote t buffer buffer′ n
       → Turned T text table buffer table′ buffer′ Playing l used n
-  unfolding standing clockIn tableThen
+  unfolding standing clockIn tableThen lineAt
   plays t buffer′ table′ s l used n e within good same few w =
       let state : stateOf table′ ≡ s = ap stateOf same ∙ stateOf-encode s good in
       let clock : clockIn table′ ≡ s .clock = ap clockIn same ∙ clock-encode in
@@ -118,6 +150,7 @@ module _ (T : Turn) (text table buffer : List ℕ) where
         after = ap (playing l) state;
         stands = record {
           size = ap length same ∙ length-encode s good;
+          number = refl;
           good = λ _. ap decode same ∙ decode-encode s good ∙ ap some (sym state);
           few = λ _. omega (arith, clock);
         };
@@ -128,13 +161,21 @@ module _ (T : Turn) (text table buffer : List ℕ) where
       clock-encode = encode-clock s (sound-clock s good)
 
 -- nothing is left to do
-pub rests : (last : Bool) (stage : Stage) (l : ℕ) (t table buffer : List ℕ) → length table ≡ tableSize → stage ≡ Over
-    → (stage′ : Stage) (l′ used m : ℕ) → stage′ ≡ Over → used ≡ 0 → m ≡ 0
+turn-rests : {end : Stage} {over : Standing} → At end over → (last : Bool) (l : ℕ) (t table : List ℕ)
+    → turn last (standing end l table) t ≡ ending over [] t
+unfolding turn standing
+turn-rests at-end last l t table = refl
+turn-rests at-refusal last l t table = refl
+
+pub rests : {end : Stage} {over : Standing} → At end over → (last : Bool) (stage : Stage) (l : ℕ)
+    (t table buffer : List ℕ)
+    → length table ≡ tableSize → stage ≡ end → (stage′ : Stage) (l′ used m : ℕ) → Closed end 0 stage′ l′ used m
     → Turned (turn last (standing stage l table) t) t table buffer table buffer stage′ l′ used m
-unfolding turn standing filled
-rests last stage l t table buffer size e stage′ l′ used m s u v =
-    ends (turn last (standing stage l table) t) t table buffer [] buffer stage′ l′ used 0 m
-    (ap (λ s. turn last (standing s l table) t) e) size (record { bytes = refl; count = refl }) s u v
+unfolding filled
+rests at last stage l t table buffer size e stage′ l′ used m c =
+    ends (turn last (standing stage l table) t) t table buffer at [] buffer stage′ l′ used 0 m
+    (ap (λ s. turn last (standing s l table) t) e ∙ turn-rests at last l t table) size
+    (record { bytes = refl; count = refl }) c
 
 ------------------------------------------------------------------------
 -- the header
@@ -160,23 +201,23 @@ module _ (last : Bool) (t table buffer : List ℕ) (size : length table ≡ tabl
       go true d = headerIn-known last t d
       go false d = absurd (h (e ∙ opening-short last t d))
 
-  pub header-short : o ≡ Short → (l : ℕ) → Turned atHeader t table buffer table buffer OpeningStage l 0 0
-  unfolding headerTurn standing
-  header-short h l =
+  pub header-short : o ≡ Short → Turned atHeader t table buffer table buffer OpeningStage 1 0 0
+  unfolding headerTurn standing lineAt
+  header-short h =
       let more = headerIn-more last t (opening-short-e last t e h) in
       let never : (P : Type 0) → OpeningStage ≡ Playing → P =
       λ P p. (let z : _≡_ {A = ℕ} 0 1 = cc in absurd (omega arith)) in
-      waits atHeader t table buffer OpeningStage l (ap (headerTurn t) more)
-      (record { size = size; good = never _; few = never _ })
+      waits atHeader t table buffer OpeningStage 1 (ap (headerTurn t) more)
+      (record { size = size; number = refl; good = never _; few = never _ })
 
   pub header-refused : {r : Refusal} {l : ℕ} → o ≡ Refused r l → (buffer′ : List ℕ) (stage : Stage) (l′ used n m : ℕ)
-      → Wrote (refusalText r l) buffer buffer′ n → stage ≡ Over → used ≡ 0 → m ≡ n
+      → Wrote (refusalText r l) buffer buffer′ n → Closed TurnedBack n stage l′ used m
       → Turned atHeader t table buffer table buffer′ stage l′ used m
   unfolding headerTurn
-  header-refused {r} {l} h buffer′ stage l′ used n m w s u v =
+  header-refused {r} {l} h buffer′ stage l′ used n m w c =
       let read = header-read (λ k. (let z : _≡_ {A = ℕ} 0 1 = cc in omega arith)) in
-      ends atHeader t table buffer (refusalText r l) buffer′ stage l′ used n m
-      (ap (headerTurn t) (read ∙ ap known (opening-refused-e last t e h))) size w s u v
+      ends atHeader t table buffer at-refusal (refusalText r l) buffer′ stage l′ used n m
+      (ap (headerTurn t) (read ∙ ap known (opening-refused-e last t e h))) size w c
 
   pub header-open : {ports first i : ℕ} → o ≡ Open ports first i → (table′ buffer′ : List ℕ) (n : ℕ)
       → table′ ≡ bufferAfter table (startCall ports first table)
@@ -227,30 +268,30 @@ module _ (last : Bool) (l : ℕ) (t table buffer : List ℕ) (good : IsTable tab
       go false d = absurd (h (ap (λ b. b .answer) (e ∙ sym (block-more last clock t d))))
 
   pub next-more : b .answer ≡ More → Turned atNext t table buffer table buffer Playing l 0 0
-  unfolding nextTurn standing
+  unfolding nextTurn standing lineAt
   next-more h =
       let unread = nextIn-more last t clock (answer-more-e last clock t e h) in
       waits atNext t table buffer Playing l (at-clock ∙ ap (nextTurn l (stateOf table) t) unread)
-      (record { size = decode-length table (stateOf table) good; good = λ _. good; few = λ _. few })
+      (record { size = decode-length table (stateOf table) good; number = refl; good = λ _. good; few = λ _. few })
 
-  module _ (buffer′ : List ℕ) (stage : Stage) (l′ used n m : ℕ) (s : stage ≡ Over) (u : used ≡ 0) (v : m ≡ n) where
-    pub next-end : b .answer ≡ EndBlock → Wrote (line End clock) buffer buffer′ n
+  module _ (buffer′ : List ℕ) (stage : Stage) (l′ used n m : ℕ) where
+    pub next-end : Closed Ended n stage l′ used m → b .answer ≡ EndBlock → Wrote (line End clock) buffer buffer′ n
         → Turned atNext t table buffer table buffer′ stage l′ used m
     unfolding nextTurn stateOf clockIn
-    next-end h w =
+    next-end c h w =
         let read = next-read (λ k. (let z : _≡_ {A = ℕ} 0 1 = cc in omega arith)) in
-        ends atNext t table buffer (line End (clockIn table)) buffer′ stage l′ used n m
+        ends atNext t table buffer at-end (line End (clockIn table)) buffer′ stage l′ used n m
         (at-clock ∙ ap (nextTurn l (stateOf table) t) (read ∙ ap known (answer-end-e last clock t e h)))
-        (decode-length table (stateOf table) good) (rw here at w) s u v
+        (decode-length table (stateOf table) good) (rw here at w) c
 
-    pub next-bad : {k : ℕ} → b .answer ≡ Bad k → Wrote (refusalText BadLine (l + k)) buffer buffer′ n
-        → Turned atNext t table buffer table buffer′ stage l′ used m
+    pub next-bad : Closed TurnedBack n stage l′ used m → {k : ℕ} → b .answer ≡ Bad k
+        → Wrote (refusalText BadLine (l + k)) buffer buffer′ n → Turned atNext t table buffer table buffer′ stage l′ used m
     unfolding nextTurn
-    next-bad {k} h w =
+    next-bad c {k} h w =
         let read = next-read (λ k. (let z : _≡_ {A = ℕ} 0 1 = cc in omega arith)) in
-        ends atNext t table buffer (refusalText BadLine (l + k)) buffer′ stage l′ used n m
+        ends atNext t table buffer at-refusal (refusalText BadLine (l + k)) buffer′ stage l′ used n m
         (at-clock ∙ ap (nextTurn l (stateOf table) t) (read ∙ ap known (answer-bad-e last clock t e h)))
-        (decode-length table (stateOf table) good) w s u v
+        (decode-length table (stateOf table) good) w c
 
   module _ {count i lines : ℕ} (h : b .answer ≡ SlotBlock count i lines) where
     ahead : Ahead clock t b count i lines
@@ -296,15 +337,15 @@ module _ (last : Bool) (l : ℕ) (t table buffer : List ℕ) (good : IsTable tab
     module _ {table′ buffer′ : List ℕ} {r : Played} {n : ℕ}
         (p : SlotPlayed (slot (stateOf table) (some (arrivalsFrom count (b .records)))) clock l table buffer table′
         buffer′ r) where
-      pub next-stopped : r ≡ Stopped n → (stage : Stage) (l′ used m : ℕ) → stage ≡ Over → used ≡ 0 → m ≡ n
+      pub next-stopped : r ≡ Stopped n → (stage : Stage) (l′ used m : ℕ) → Closed TurnedBack n stage l′ used m
           → Turned atNext t table buffer table′ buffer′ stage l′ used m
       unfolding slotTurn outcome
-      next-stopped f stage l′ used m s u v =
+      next-stopped f stage l′ used m shut =
           let (why, place, o, kept, w) = played-stopped clock l outcome p f in
           subst (λ x. Turned atNext t table buffer x buffer′ stage l′ used m) (sym kept)
-          (ends atNext t table buffer (refusalText why (lineOf l place)) buffer′ stage l′ used n m
+          (ends atNext t table buffer at-refusal (refusalText why (lineOf l place)) buffer′ stage l′ used n m
           (at-slot ∙ ap (slotTurn (stateOf table .clock) l t (from lines (drop i t))) o)
-          (decode-length table (stateOf table) good) w s u v)
+          (decode-length table (stateOf table) good) w shut)
 
       pub next-ran : r ≡ Ran n → Turned atNext t table buffer table′ buffer′ Playing (l + lines) i n
       unfolding slotTurn outcome stateOf clockIn

@@ -25,16 +25,19 @@ ghost use Rattle.layout.specs.Entry.{clockIn};
 ghost use Rattle.layout.specs.Table.{IsTable, stateOf, tableSize};
 ghost use Rattle.play.specs.Player.{departureText, departuresText, lineOf};
 ghost use Rattle.play.specs.Turn.{headerTurn, nextTurn, turn};
-ghost use Rattle.turns.specs.Code.{standing, turnRoom, Took, Stands, Wrote, Turned, SlotPlayed, cellIn};
+ghost use Rattle.turns.specs.Code.{standing, turnRoom, Took, Stands, Wrote, Turned, Closed};
+ghost use Rattle.turns.specs.Code.{SlotPlayed, cellIn};
 
 // What one turn can write at most.
 const TURN_ROOM: usize = 1232;
 
-// Where the player stands: before the header; before a block or the end; or behind all that it writes.
+// Where the player stands: before the header; before a block or the end; or behind all that it writes, where the trace
+// was played to its end or was turned back.
 pub enum Stage {
     Opening,
     Playing,
-    Over,
+    Ended,
+    TurnedBack,
 }
 
 // What a turn leaves: the stage, the number of the next line, how many bytes of the text it took and how many it wrote.
@@ -69,7 +72,8 @@ pub fn take_turn(
     match stage {
         Stage::Opening => header_turn(text, last, table, out),
         Stage::Playing => next_turn(line, text, last, table, out),
-        Stage::Over => ended(0),
+        Stage::Ended => over(Stage::Ended, 0),
+        Stage::TurnedBack => over(Stage::TurnedBack, 0),
     }
 }
 
@@ -129,7 +133,8 @@ fn header_turn(text: &[u8], last: bool, table: &mut [u8], out: &mut [u8]) -> Tur
             }
         }
         Opening::Refused(refusal, fault) => {
-            ended(writer::put_refusal(out, 0, refusal, fault as usize))
+            let written = writer::put_refusal(out, 0, refusal, fault as usize);
+            over(Stage::TurnedBack, written)
         }
         Opening::Short => Turn {
             stage: Stage::Opening,
@@ -163,11 +168,14 @@ fn next_turn(line: usize, text: &[u8], last: bool, table: &mut [u8], out: &mut [
                     used,
                     written,
                 },
-                Played::Stopped(written) => ended(written),
+                Played::Stopped(written) => over(Stage::TurnedBack, written),
             }
         }
-        Answer::End => ended(writer::put_line(out, 0, Key::End, clock)),
-        Answer::Bad(k) => ended(writer::put_refusal(out, 0, Refusal::BadLine, line + k as usize)),
+        Answer::End => over(Stage::Ended, writer::put_line(out, 0, Key::End, clock)),
+        Answer::Bad(k) => {
+            let written = writer::put_refusal(out, 0, Refusal::BadLine, line + k as usize);
+            over(Stage::TurnedBack, written)
+        }
         Answer::More => Turn {
             stage: Stage::Playing,
             line,
@@ -177,12 +185,12 @@ fn next_turn(line: usize, text: &[u8], last: bool, table: &mut [u8], out: &mut [
     }
 }
 
-// The last turn: it leaves the text alone.
-fn ended(written: usize) -> Turn
-    ensures { λ r. ⌜ (r .stage ≡ Stage.Over) × (r .used ≡ 0) × (r .written ≡ written) ⌝ }
+// The last turn, and each after it: it leaves the text alone, and no line is next.
+fn over(stage: Stage, written: usize) -> Turn
+    ensures { λ r. ⌜ Closed stage written (r .stage) (r .line) (r .used) (r .written) ⌝ }
 {
     Turn {
-        stage: Stage::Over,
+        stage,
         line: 0,
         used: 0,
         written,

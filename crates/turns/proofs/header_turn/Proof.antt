@@ -28,8 +28,8 @@ cast-put-refusal c = search needs
 put-refusal-requires : tie.Need-put-refusal-requires
 put-refusal-requires c κs = search needs
 
-ended-requires : tie.Need-ended-requires
-ended-requires c κs = search needs
+over-requires : tie.Need-over-requires
+over-requires c κs = search needs
 
 enum-told : tie.Need-enum-told
 enum-told c = search needs
@@ -63,17 +63,17 @@ returns-2 c =
     let start = read .before .before .before .before in
     let fault = told .refusal .given .0 .1 .0 in
     header-refused (start .args .last) (start .args .text .now) (start .args .table .now) (start .args .out .now)
-    (start .pre .0) (read .read-header .ensures) (told .refusal .given .1) (put .put-refusal .last .0) (c .ended .result .stage)
-    (c .ended .result .line) (c .ended .result .used) (put .put-refusal .result) (c .ended .result .written)
+    (start .pre .0) (read .read-header .ensures) (told .refusal .given .1) (put .put-refusal .last .0) (c .over .result .stage)
+    (c .over .result .line) (c .over .result .used) (put .put-refusal .result) (c .over .result .written)
     (wrote-refusal (told .refusal .given .0 .0) fault (omega arith) (start .pre .1) (omega arith)
-    (put .put-refusal .ensures)) (c .ended .ensures .0) (c .ended .ensures .1) (c .ended .ensures .2)
+    (put .put-refusal .ensures)) (c .over .ensures)
 
 returns-3 : tie.Need-returns-3
 returns-3 c =
     let read = c .before .before in
     let start = read .before .before .before .before in
     header-short (start .args .last) (start .args .text .now) (start .args .table .now) (start .args .out .now) (start .pre .0)
-    (read .read-header .ensures) (c .enum-told .given .1) 1
+    (read .read-header .ensures) (c .enum-told .given .1)
 
 pub header-turn-spec : {M : Type 1} → statement M
 header-turn-spec =
@@ -86,7 +86,7 @@ header-turn-spec =
     enum-known-refusal
     cast-put-refusal
     put-refusal-requires
-    ended-requires
+    over-requires
     enum-told
     same-length
     same-length-2

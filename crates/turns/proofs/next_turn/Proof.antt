@@ -52,19 +52,19 @@ play-slot-requires c κs =
 enum-known-written : tie.Need-enum-known-written
 enum-known-written c = search needs
 
-cast-t28 : tie.Need-cast-t28
-cast-t28 c = search needs
+cast-t29 : tie.Need-cast-t29
+cast-t29 c = search needs
 
-add-t29 : tie.Need-add-t29
-add-t29 c =
+add-t30 : tie.Need-add-t30
+add-t30 c =
     let answer = c .before .before .before .before .before .before .before .before .before .before .before .before in
     omega (arith, line-room (answer .before .before .before .before), sizes answer .1)
 
 enum-known-written-2 : tie.Need-enum-known-written-2
 enum-known-written-2 c = search needs
 
-ended-requires : tie.Need-ended-requires
-ended-requires c κs = search needs
+over-requires : tie.Need-over-requires
+over-requires c κs = search needs
 
 enum-told : tie.Need-enum-told
 enum-told c = search needs
@@ -72,8 +72,8 @@ enum-told c = search needs
 put-line-requires : tie.Need-put-line-requires
 put-line-requires c κs = search needs
 
-ended-requires-2 : tie.Need-ended-requires-2
-ended-requires-2 c κs = search needs
+over-requires-2 : tie.Need-over-requires-2
+over-requires-2 c κs = search needs
 
 enum-known-answer-2 : tie.Need-enum-known-answer-2
 enum-known-answer-2 c = search needs
@@ -87,8 +87,8 @@ add-put-refusal c = omega (arith, line-room (c .before .before .before .before .
 put-refusal-requires : tie.Need-put-refusal-requires
 put-refusal-requires c κs = search needs
 
-ended-requires-3 : tie.Need-ended-requires-3
-ended-requires-3 c κs = search needs
+over-requires-3 : tie.Need-over-requires-3
+over-requires-3 c κs = search needs
 
 enum-told-2 : tie.Need-enum-told-2
 enum-told-2 c = search needs
@@ -127,8 +127,8 @@ returns-2 c =
     let a = start .args in
     next-stopped (a .last) (a .line) (a .text .now) (a .table .now) (a .out .now) (start .pre .0) (start .pre .1 .0)
     (read .clock-of .result) (read .clock-of .ensures) (block .read-block .ensures) (answer .answer .given .1)
-    (played .play-slot .ensures) (c .before .before .written2 .given .1) (c .ended .result .stage) (c .ended .result .line)
-    (c .ended .result .used) (c .ended .result .written) (c .ended .ensures .0) (c .ended .ensures .1) (c .ended .ensures .2)
+    (played .play-slot .ensures) (c .before .before .written2 .given .1) (c .over .result .stage) (c .over .result .line)
+    (c .over .result .used) (c .over .result .written) (c .over .ensures)
 
 same-length-5 : tie.Need-same-length-5
 same-length-5 c = search needs
@@ -146,8 +146,8 @@ returns-3 c =
     let size = line-le End (read .clock-of .result) (fits32-i _ (omega (arith, read .clock-of .ok))) in
     next-end (a .last) (a .line) (a .text .now) (a .table .now) (a .out .now) (start .pre .0) (start .pre .1 .0)
     (read .clock-of .result) (read .clock-of .ensures) (block .read-block .ensures) (put .put-line .last .0)
-    (c .ended2 .result .stage) (c .ended2 .result .line) (c .ended2 .result .used) (put .put-line .result)
-    (c .ended2 .result .written) (c .ended2 .ensures .0) (c .ended2 .ensures .1) (c .ended2 .ensures .2)
+    (c .over2 .result .stage) (c .over2 .result .line) (c .over2 .result .used) (put .put-line .result)
+    (c .over2 .result .written) (c .over2 .ensures)
     (put .before .before .enum-told .given .1)
     (wrote-put (omega (arith, size, start .pre .1 .1)) (omega (arith, start .good)) (put .put-line .ensures))
 
@@ -168,8 +168,8 @@ returns-4 c =
     let a = start .args in
     next-bad (a .last) (a .line) (a .text .now) (a .table .now) (a .out .now) (start .pre .0) (start .pre .1 .0)
     (read .clock-of .result) (read .clock-of .ensures) (block .read-block .ensures) (put .put-refusal .last .0)
-    (c .ended3 .result .stage) (c .ended3 .result .line) (c .ended3 .result .used) (put .put-refusal .result)
-    (c .ended3 .result .written) (c .ended3 .ensures .0) (c .ended3 .ensures .1) (c .ended3 .ensures .2)
+    (c .over3 .result .stage) (c .over3 .result .line) (c .over3 .result .used) (put .put-refusal .result)
+    (c .over3 .result .written) (c .over3 .ensures)
     (told .answer2 .given .1)
     (wrote-refusal BadLine (a .line + told .answer2 .given .0 .0) (omega (arith, line-room read, put .before)) (start .pre .1 .1)
     (omega (arith, start .good)) (put .put-refusal .ensures))
@@ -196,18 +196,18 @@ next-turn-spec =
     slice-aggregate-play-slot
     play-slot-requires
     enum-known-written
-    cast-t28
-    add-t29
+    cast-t29
+    add-t30
     enum-known-written-2
-    ended-requires
+    over-requires
     enum-told
     put-line-requires
-    ended-requires-2
+    over-requires-2
     enum-known-answer-2
     cast-put-refusal
     add-put-refusal
     put-refusal-requires
-    ended-requires-3
+    over-requires-3
     enum-told-2
     same-length
     same-length-2

@@ -5,7 +5,7 @@ use Rattle.layout.specs.Entry.{clockIn}
 use Rattle.layout.specs.Table.{stateOf}
 use Rattle.play.specs.Turn.{turn}
 use Rattle.turns.specs.Code.{standing, Turned}
-use Rattle.turns.proofs.Turns.{rests}
+use Rattle.turns.proofs.Turns.{at-end, at-refusal, rests}
 use Rattle.turns.proofs.take_turn.Statement.{statement}
 use Rattle.turns.proofs.take_turn.Tie as tie
 
@@ -27,8 +27,14 @@ next-turn-requires c κs =
 enum-told-3 : tie.Need-enum-told-3
 enum-told-3 c = search needs
 
-ended-requires : tie.Need-ended-requires
-ended-requires c κs = search needs
+over-requires : tie.Need-over-requires
+over-requires c κs = search needs
+
+enum-told-4 : tie.Need-enum-told-4
+enum-told-4 c = search needs
+
+over-requires-2 : tie.Need-over-requires-2
+over-requires-2 c κs = search needs
 
 same-length : tie.Need-same-length
 same-length c = search needs
@@ -70,9 +76,17 @@ returns-3 : tie.Need-returns-3
 returns-3 c =
     let start = c .before .before .before .before .before .before in
     let a = start .args in
-    rests (a .last) (a .stage) (a .line) (a .text .now) (a .table .now) (a .out .now) (start .pre .0 .size)
-    (c .before .enum-told3 .given .1) (c .ended .result .stage) (c .ended .result .line) (c .ended .result .used)
-    (c .ended .result .written) (c .ended .ensures .0) (c .ended .ensures .1) (c .ended .ensures .2)
+    rests at-end (a .last) (a .stage) (a .line) (a .text .now) (a .table .now) (a .out .now) (start .pre .0 .size)
+    (c .before .enum-told3 .given .1) (c .over .result .stage) (c .over .result .line) (c .over .result .used)
+    (c .over .result .written) (c .over .ensures)
+
+returns-4 : tie.Need-returns-4
+returns-4 c =
+    let start = c .before .before .before .before .before .before in
+    let a = start .args in
+    rests at-refusal (a .last) (a .stage) (a .line) (a .text .now) (a .table .now) (a .out .now) (start .pre .0 .size)
+    (c .before .enum-told4 .given .1) (c .over2 .result .stage) (c .over2 .result .line) (c .over2 .result .used)
+    (c .over2 .result .written) (c .over2 .ensures)
 
 pub take-turn-spec : {M : Type 1} → statement M
 take-turn-spec =
@@ -83,11 +97,14 @@ take-turn-spec =
     enum-told-2
     next-turn-requires
     enum-told-3
-    ended-requires
+    over-requires
+    enum-told-4
+    over-requires-2
     same-length
     same-length-2
     returns
     same-length-3
     same-length-4
     returns-2
-    returns-3)
+    returns-3
+    returns-4)
