@@ -93,7 +93,7 @@ loop-again c =
     let start = at .before .before .before .before in
     going-on _ _ _ _ _ _ _ _ _ _ _ (at .loop .inv) _ _ _ _ _ _ _ _ _
     (behind-place (start .args .text .now) (at .loop .used)) (behind-place (at .loop .out) (at .loop .written))
-    (took .take-turn .ensures) (put-behind (at .loop .out) (at .loop .written) _) (took .take-turn .kept .1 .1 .1 .1 .1 .0) (c .if1 .left)
+    (took .take-turn .ensures) (put-behind (at .loop .out) (at .loop .written) _) (took .take-turn .kept .1 .1 .1 .1 .1 .0) (λ e. omega (arith, e, c .if1 .left))
 
 same-length : tie.Need-same-length Inv-loop μ-loop
 same-length c = c .before .loop .inv .stands .size ∙ sym (c .before .before .before .before .before .pre .size)
@@ -127,7 +127,7 @@ returns-2 c =
     let start = at .before .before .before .before in
     going-ends _ _ _ _ _ _ _ _ _ _ _ (at .loop .inv) _ _ _ _ _ _ _ _ _
     (behind-place (start .args .text .now) (at .loop .used)) (behind-place (at .loop .out) (at .loop .written))
-    (took .take-turn .ensures) (put-behind (at .loop .out) (at .loop .written) _) (took .take-turn .kept .1 .1 .1 .1 .1 .0) (c .if1 .taken)
+    (took .take-turn .ensures) (put-behind (at .loop .out) (at .loop .written) _) (took .take-turn .kept .1 .1 .1 .1 .1 .0) (omega (arith, c .if1 .taken))
 
 pub take-turns-spec : {M : Type 1} → statement M
 take-turns-spec =
