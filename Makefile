@@ -19,10 +19,14 @@ view:
 	@echo 'target/show.html: open it in a browser'
 
 play: player
-	@target/bin/player < $(TRACE) | paste -s -d ' ' | sed 's/ \(slot\|end\|refused\)=/\n\1=/g'
+	@target/bin/crossbar-player < $(TRACE) | paste -s -d ' ' | sed 's/ \(slot\|end\|refused\)=/\n\1=/g'
 
-player:
-	rt check player
+player: target/bin/crossbar-player
+
+target/bin/crossbar-player: program/main.c crates.txt $(shell find crates -name '*.rt' -o -name '*.antt')
+	rt staticlib player
+	@mkdir -p target/bin
+	cc -std=c11 -O2 -Wall -Wextra -Werror program/main.c target/staticlib/libplayer.a -o $@
 
 library:
 	rt staticlib crossbar
@@ -34,10 +38,10 @@ bench:
 	bench/run
 
 install: player library
-	install -D target/bin/player $(PLACE)/bin/player
+	install -D target/bin/crossbar-player $(PLACE)/bin/crossbar-player
 	install -D -m 644 target/staticlib/libcrossbar.a $(PLACE)/lib/libcrossbar.a
 	install -D -m 644 include/crossbar.h $(PLACE)/include/crossbar.h
-	install -D -m 644 docs/player.1 $(PLACE)/share/man/man1/player.1
+	install -D -m 644 docs/crossbar-player.1 $(PLACE)/share/man/man1/crossbar-player.1
 
 format:
 	rt fmt

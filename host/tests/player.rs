@@ -1,4 +1,5 @@
-//! Traces, whole and damaged, through the program `player`: all that it writes is compared with the reference player's.
+//! Traces, whole and damaged, through the program `crossbar-player`: all that it writes is compared with the reference
+//! player's, and its exit status with how that ends.
 //!
 //! PLAYER in the environment is the program's full path; TEXTS=n and SEED=n play more texts or others.
 
@@ -20,12 +21,23 @@ use std::time::Duration;
 const TIME_LIMIT: Duration = Duration::from_secs(20);
 
 fn program() -> String {
-    let path = std::env::var("PLAYER").expect("PLAYER must be set to the full path of the program `player`");
+    let path = std::env::var("PLAYER").expect("PLAYER must be set to the full path of the program `crossbar-player`");
     assert!(Path::new(&path).is_file(), "PLAYER is {path}, and there is no such file");
     path
 }
 
-/// Feeds a text to the program, so many bytes at a time. A fault is that it does not write just what is wanted and end.
+/// 0 where the trace is played to its end, and 1 where it is refused.
+fn status_after(want: &[u8]) -> i32 {
+    let last = want.strip_suffix(b"\n").and_then(|lines| lines.rsplit(|&b| b == b'\n').next());
+    if last.is_some_and(|line| line.starts_with(b"end=")) {
+        0
+    } else {
+        1
+    }
+}
+
+/// Feeds a text to the program, so many bytes at a time. A fault is that it does not write just what is wanted and end with
+/// its status.
 fn fault(program: &str, text: &[u8], piece: usize, want: &[u8]) -> Option<String> {
     // Sockets, since a read from a pipe has no time limit. One holds any text of this test, so feeding does not wait.
     let (feeding, stdin) = UnixStream::pair().unwrap();
@@ -45,7 +57,7 @@ fn fault(program: &str, text: &[u8], piece: usize, want: &[u8]) -> Option<String
     match got {
         Err(_) => Some(format!("does not end in {TIME_LIMIT:?}")),
         Ok(got) if got != want => Some(difference(&got, want)),
-        Ok(_) if !status.success() => Some(format!("ends with {status}")),
+        Ok(_) if status.code() != Some(status_after(want)) => Some(format!("ends with {status}")),
         Ok(_) => None,
     }
 }

@@ -1,13 +1,13 @@
 -- The window of text, and what turns take and write.
---     moved-           one byte more of the text at the front
---     read-in          text read behind that which is there
+--     moved-                one byte more of the text at the front
+--     read-in, read-kept    text read behind that which is there
 --     taken-there, written-fits    what turns take is there, and what they write fits
 use Prim.Native.Nat.{ℕ, suc, _+_, _-_, _≤_, _<_}
 use native.Mathlib.Omega.{arith}
 use mathlib.Core.List.{List, [], _∷_, _++_}
 use mathlib.Core.Path.{_≡_, refl, sym, _∙_, ap, ap₂}
 use lib.ListN.{length, getD, set, take, drop, length-append, length-drop, length-take}
-use lib.Seq.{take-suc, drop-cons, append-snoc, set-at, getD-append-add, getD-drop, length-take-le}
+use lib.Seq.{take-suc, drop-cons, append-snoc, set-at, getD-append-add, getD-drop, length-take-le, take-append-le, take-take}
 use Rattle.layout.specs.Host.{filled}
 use Rattle.play.specs.Turn.{Turn}
 use Rattle.turns.specs.declared.Stage.{Stage}
@@ -56,13 +56,12 @@ read-in size at window part h few same =
     (length-append part (drop (size - at) (drop at window)) ∙ ap (λ n. length part + n) (length-drop (size - at) (drop at window)))
     ∙ omega (arith, behind, lent)
 
-pub read-few : (size at got : ℕ) (window part : List ℕ) → length window ≡ size → at ≤ size
-    → length part ≡ length (take (size - at) (drop at window)) → got ≤ length part → at + got ≤ size
-read-few size at got window part h few same most =
-    let behind : length (drop at window) ≡ size - at = length-drop at window ∙ ap (λ n. n - at) h in
-    let lent : length part ≡ size - at =
-    same ∙ length-take-le (size - at) (drop at window) (omega (arith, behind)) in
-    omega (arith, lent)
+-- and the text before that place
+pub read-kept : (at filled : ℕ) (window part : List ℕ) → at ≤ filled → filled ≤ length window
+    → take at (take filled window ++ part) ≡ take at window
+read-kept at filled window part h few =
+    take-append-le at (take filled window) part (omega (arith, length-take-le filled window few))
+    ∙ take-take at filled window h
 
 -- what turns take is there, and what they write fits
 pub taken-there : (turn : Turn) (then buffer table′ buffer′ : List ℕ) (stage : Stage) (l taken n k : ℕ) (window : List ℕ)
