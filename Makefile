@@ -2,12 +2,15 @@
 # make play      proves the player, then plays the example, one line a slot
 # make test      the gate, as .ci/run has it
 # make bench     the speed of the proved code beside plain code
-# make install   player, its manual page, header and static library under PREFIX (/usr/local), staged in DESTDIR
+# make install   crossbar-player with its manual page, the static library, its header and crossbar.pc for pkg-config, under
+#                PREFIX (/usr/local), staged in DESTDIR
 # make format    the layout of every .rt and .antt file
 # make clean     removes what was built
 TRACE ?= examples/show.trace
 PREFIX ?= /usr/local
 PLACE = $(DESTDIR)$(PREFIX)
+SOURCES = $(shell find crates -name '*.rt' -o -name '*.antt')
+VERSION = $(shell sed -n 's/^.define CROSSBAR_VERSION "\(.*\)"/\1/p' include/crossbar.h)
 .PHONY: help view play player library test bench install format clean
 
 help:
@@ -23,13 +26,14 @@ play: player
 
 player: target/bin/crossbar-player
 
-target/bin/crossbar-player: program/main.c crates.txt $(shell find crates -name '*.rt' -o -name '*.antt')
-	rt staticlib player
-	@mkdir -p target/bin
-	cc -std=c11 -O2 -Wall -Wextra -Werror program/main.c target/staticlib/libplayer.a -o $@
+library: target/staticlib/libcrossbar.a
 
-library:
-	rt staticlib crossbar
+target/bin/crossbar-player: program/main.c target/staticlib/libplayer.a
+	@mkdir -p target/bin
+	cc -std=c11 -O2 -Wall -Wextra -Werror $^ -o $@
+
+target/staticlib/lib%.a: crates.txt $(SOURCES)
+	rt staticlib $*
 
 test:
 	.ci/run
@@ -42,6 +46,8 @@ install: player library
 	install -D -m 644 target/staticlib/libcrossbar.a $(PLACE)/lib/libcrossbar.a
 	install -D -m 644 include/crossbar.h $(PLACE)/include/crossbar.h
 	install -D -m 644 docs/crossbar-player.1 $(PLACE)/share/man/man1/crossbar-player.1
+	install -d $(PLACE)/lib/pkgconfig
+	sed 's|@PREFIX@|$(PREFIX)|; s|@VERSION@|$(VERSION)|' crossbar.pc.in > $(PLACE)/lib/pkgconfig/crossbar.pc
 
 format:
 	rt fmt
