@@ -12,14 +12,14 @@ use Rattle.cell.specs.declared.Refusal.{Refusal}
 use Rattle.cell.specs.Limits.{portsInRange}
 use Rattle.trace.specs.declared.Key.the-variants.{Ports, First, Slot as SlotKey}
 use Rattle.trace.specs.declared.Answer.the-variants.{Slot, End, Bad, More}
-use Rattle.trace.specs.declared.Block.{Block}
+use Rattle.trace.specs.declared.Answer.{Answer}
 use Rattle.trace.specs.declared.Opening.{Opening}
 use Rattle.trace.specs.declared.Opening.the-variants.{Open, Refused, Short}
 use Rattle.trace.specs.Line.{line}
 use Rattle.trace.specs.Contents.{arrivalsText}
 use Rattle.trace.specs.Reader.{Cursor, Read, got, badAt, number, Next, slotAhead, finished, faulty, next}
 use Rattle.trace.specs.Reader.{Header, opened, refusedAt, header}
-use Rattle.trace.specs.Piece.{Piece, known, more, decided, nextIn, headerIn, paddedNumbers, blockOf, openingOf}
+use Rattle.trace.specs.Piece.{Piece, known, more, decided, nextIn, headerIn, answerOf, openingOf}
 use Rattle.reader.specs.Reading.{from}
 use Rattle.trace.proofs.Blocks.{next-exact}
 use Rattle.trace.proofs.RoundTrip.{header-bad-ports, header-bad-size, header-bad-first, header-opened, header-exact}
@@ -128,28 +128,27 @@ module _ (last : Bool) (t : List ℕ) {o : Opening} (e : o ≡ openingOf t (head
 -- a block
 
 -- a block with n arrivals, i bytes and l lines stands at the start of t
-pub record Ahead (clock : ℕ) (t : List ℕ) (b : Block) (n i l : ℕ) : Type 0 where
+pub record Ahead (clock : ℕ) (t : List ℕ) (n i l : ℕ) : Type 0 where
   pub rs : List Arrival
   pub count : length rs ≡ n
-  pub held : b .records ≡ paddedNumbers rs
   pub within : i ≤ length t
   pub there : next clock (from 0 t) ≡ slotAhead rs (from l (drop i t))
 
-module _ (last : Bool) (clock : ℕ) (t : List ℕ) {b : Block} (e : b ≡ blockOf t (nextIn last clock t)) where
-  answer-of : (x : Piece Next) → nextIn last clock t ≡ x → b ≡ blockOf t x
-  answer-of x h = e ∙ ap (blockOf t) h
+module _ (last : Bool) (clock : ℕ) (t : List ℕ) {b : Answer} (e : b ≡ answerOf t (nextIn last clock t)) where
+  answer-of : (x : Piece Next) → nextIn last clock t ≡ x → b ≡ answerOf t x
+  answer-of x h = e ∙ ap (answerOf t) h
 
-  pub answer-slot-e : {n i l : ℕ} → b .answer ≡ Slot n i l → Ahead clock t b n i l
-  unfolding blockOf
+  pub answer-slot-e : {n i l : ℕ} → b ≡ Slot n i l → Ahead clock t n i l
+  unfolding answerOf
   answer-slot-e {n} {i} {l} h = go (nextIn last clock t) refl
     where
-      go : (x : Piece Next) → nextIn last clock t ≡ x → Ahead clock t b n i l
-      go more p = never (cc (ap (λ y. y .answer) (answer-of more p)))
-      go (known finished) p = never (cc (ap (λ y. y .answer) (answer-of (known finished) p)))
-      go (known (faulty k)) p = never (cc (ap (λ y. y .answer) (answer-of (known (faulty k)) p)))
+      go : (x : Piece Next) → nextIn last clock t ≡ x → Ahead clock t n i l
+      go more p = never (cc (answer-of more p))
+      go (known finished) p = never (cc (answer-of (known finished) p))
+      go (known (faulty k)) p = never (cc (answer-of (known (faulty k)) p))
       go (known (slotAhead rs d)) p =
-          let g : b ≡ blockOf t (known (slotAhead rs d)) = answer-of (known (slotAhead rs d)) p in
-          let f : Slot (length rs) (length t - length (d .text)) (d .line) ≡ Slot n i l = sym (ap (λ y. y .answer) g) ∙ h in
+          let g : b ≡ answerOf t (known (slotAhead rs d)) = answer-of (known (slotAhead rs d)) p in
+          let f : Slot (length rs) (length t - length (d .text)) (d .line) ≡ Slot n i l = sym g ∙ h in
           let v : length rs ≡ n = cc in
           let x : length t - length (d .text) ≡ i = cc in
           let y : d .line ≡ l = cc in
@@ -161,39 +160,38 @@ module _ (last : Bool) (clock : ℕ) (t : List ℕ) {b : Block} (e : b ≡ block
           record {
             rs = rs;
             count = v;
-            held = ap (λ y. y .records) g;
             within = omega arith;
             there = k ∙ ap (slotAhead rs) z;
           }
 
-  pub answer-end-e : b .answer ≡ End → next clock (from 0 t) ≡ finished
-  unfolding blockOf
+  pub answer-end-e : b ≡ End → next clock (from 0 t) ≡ finished
+  unfolding answerOf
   answer-end-e h = go (nextIn last clock t) refl
     where
       go : (x : Piece Next) → nextIn last clock t ≡ x → next clock (from 0 t) ≡ finished
-      go more p = cc (ap (λ y. y .answer) (answer-of more p))
-      go (known (slotAhead rs d)) p = cc (ap (λ y. y .answer) (answer-of (known (slotAhead rs d)) p))
+      go more p = cc (answer-of more p)
+      go (known (slotAhead rs d)) p = cc (answer-of (known (slotAhead rs d)) p)
       go (known finished) p = nextIn-read last t clock p
-      go (known (faulty k)) p = cc (ap (λ y. y .answer) (answer-of (known (faulty k)) p))
+      go (known (faulty k)) p = cc (answer-of (known (faulty k)) p)
 
-  pub answer-bad-e : {k : ℕ} → b .answer ≡ Bad k → next clock (from 0 t) ≡ faulty k
-  unfolding blockOf
+  pub answer-bad-e : {k : ℕ} → b ≡ Bad k → next clock (from 0 t) ≡ faulty k
+  unfolding answerOf
   answer-bad-e {k} h = go (nextIn last clock t) refl
     where
       go : (x : Piece Next) → nextIn last clock t ≡ x → next clock (from 0 t) ≡ faulty k
-      go more p = cc (ap (λ y. y .answer) (answer-of more p))
-      go (known (slotAhead rs d)) p = cc (ap (λ y. y .answer) (answer-of (known (slotAhead rs d)) p))
-      go (known finished) p = cc (ap (λ y. y .answer) (answer-of (known finished) p))
+      go more p = cc (answer-of more p)
+      go (known (slotAhead rs d)) p = cc (answer-of (known (slotAhead rs d)) p)
+      go (known finished) p = cc (answer-of (known finished) p)
       go (known (faulty j)) p =
-          let f : j ≡ k = cc (ap (λ y. y .answer) (answer-of (known (faulty j)) p)) in
+          let f : j ≡ k = cc (answer-of (known (faulty j)) p) in
           nextIn-read last t clock p ∙ ap faulty f
 
-  pub answer-more-e : b .answer ≡ More → decided last t ≡ false
-  unfolding blockOf
+  pub answer-more-e : b ≡ More → decided last t ≡ false
+  unfolding answerOf
   answer-more-e h = go (nextIn last clock t) refl
     where
       go : (x : Piece Next) → nextIn last clock t ≡ x → decided last t ≡ false
       go more p = nextIn-unread last t clock p
-      go (known (slotAhead rs d)) p = cc (ap (λ y. y .answer) (answer-of (known (slotAhead rs d)) p))
-      go (known finished) p = cc (ap (λ y. y .answer) (answer-of (known finished) p))
-      go (known (faulty k)) p = cc (ap (λ y. y .answer) (answer-of (known (faulty k)) p))
+      go (known (slotAhead rs d)) p = cc (answer-of (known (slotAhead rs d)) p)
+      go (known finished) p = cc (answer-of (known finished) p)
+      go (known (faulty k)) p = cc (answer-of (known (faulty k)) p)

@@ -2,12 +2,13 @@
 --     headerIn-known, -more, nextIn-known, -more   a piece of a text
 --     opening-short, -bad-ports, ..                the header
 --     block-known, -more                           a block, or the end
+--     numbers-known, -more, -end                   the numbers that the block's reader was lent
 --     end-bad, -other, -more, -end                 by the line of `end`
---     slot-bad, -other, -same                      by the line of `slot`
+--     slot-bad, -other, -same, -whole              by the line of `slot`
 use Prim.Native.Nat.{ℕ, _+_, _-_, _≤_, _<_}
 use native.Mathlib.Omega.{arith}
 use mathlib.Core.Bool.{Bool, true, false}
-use mathlib.Core.List.{List}
+use mathlib.Core.List.{List, [], _∷_}
 use mathlib.Core.Logic.{_≢_}
 use mathlib.Core.Path.{_≡_, refl, sym, ap, _∙_}
 use borrow.Author.Tests.{eq-eqb, ne-eqb}
@@ -22,9 +23,9 @@ use Rattle.trace.specs.declared.Opening.the-variants.{Open, Refused, Short}
 use Rattle.trace.specs.declared.Answer.the-variants.{End, Bad, More}
 use Rattle.trace.specs.Contents.{blockLimit}
 use Rattle.trace.specs.Reader.{Cursor, Read, got, badAt, number, exactly, begins, arrivals, block}
-use Rattle.trace.specs.Reader.{Next, finished, faulty, next, refusedAt, header}
-use Rattle.trace.specs.Piece.{known, more, decided, nextIn, headerIn, blockOf, openingOf}
-use Rattle.reader.specs.Reading.{from, noArrivals, ahead}
+use Rattle.trace.specs.Reader.{Next, finished, faulty, afterEnd, next, refusedAt, header}
+use Rattle.trace.specs.Piece.{known, more, decided, nextIn, headerIn, numbersOf, answerOf, openingOf}
+use Rattle.reader.specs.Reading.{from, ahead, wholeArrivals, wholeOf, numbersAfter}
 use Rattle.trace.proofs.Blocks.{bind-got, bind-bad, exactly-same, exactly-other, exactly-bad, afterEnd-nil, afterEnd-cons}
 use Rattle.trace.proofs.Blocks.{next-block, next-no-block, next-last, next-no-last}
 use Rattle.trace.proofs.RoundTrip.{header-bad-ports, header-bad-size, header-bad-first, header-opened}
@@ -77,45 +78,78 @@ module _ (last : Bool) (t : List ℕ) where
 
 -- a block, or the end
 
-blockOf-faulty : (t : List ℕ) {n : Next} {l : ℕ} → n ≡ faulty l → noArrivals (Bad l) ≡ blockOf t (known n)
-unfolding blockOf noArrivals
-blockOf-faulty t h = rw (h, blockOf)
+answerOf-faulty : (t : List ℕ) {n : Next} {l : ℕ} → n ≡ faulty l → Bad l ≡ answerOf t (known n)
+unfolding answerOf
+answerOf-faulty t h = rw (h, answerOf)
 
-blockOf-finished : (t : List ℕ) {n : Next} → n ≡ finished → noArrivals End ≡ blockOf t (known n)
-unfolding blockOf noArrivals
-blockOf-finished t h = rw (h, blockOf)
+answerOf-finished : (t : List ℕ) {n : Next} → n ≡ finished → End ≡ answerOf t (known n)
+unfolding answerOf
+answerOf-finished t h = rw (h, answerOf)
 
-pub block-more : (last : Bool) (clock : ℕ) (t : List ℕ) → decided last t ≡ false
-    → noArrivals More ≡ blockOf t (nextIn last clock t)
-unfolding blockOf noArrivals
-block-more last clock t h = rw (nextIn-more last t clock h)
+module _ (last : Bool) (clock : ℕ) (t : List ℕ) where
+  pub block-more : decided last t ≡ false → More ≡ answerOf t (nextIn last clock t)
+  unfolding answerOf
+  block-more h = rw (nextIn-more last t clock h)
 
-pub block-known : (last : Bool) (clock : ℕ) (t : List ℕ) → decided last t ≡ true
-    → blockOf t (known (next clock (from 0 t))) ≡ blockOf t (nextIn last clock t)
-block-known last clock t h = ap (blockOf t) (sym (nextIn-known last t clock h))
+  pub block-known : decided last t ≡ true → answerOf t (known (next clock (from 0 t))) ≡ answerOf t (nextIn last clock t)
+  block-known h = ap (answerOf t) (sym (nextIn-known last t clock h))
+
+  module _ (whole : List Arrival) (ns : List ℕ) where
+    pub numbers-more : decided last t ≡ false → ns ≡ numbersAfter whole (nextIn last clock t) ns
+    unfolding numbersAfter
+    numbers-more h = rw (nextIn-more last t clock h)
+
+    pub numbers-known : decided last t ≡ true
+        → numbersAfter whole (known (next clock (from 0 t))) ns ≡ numbersAfter whole (nextIn last clock t) ns
+    numbers-known h = ap (λ x. numbersAfter whole x ns) (sym (nextIn-known last t clock h))
+
+-- a fault before any arrival
+numbers-faulty : (ns : List ℕ) {n : Next} {l : ℕ} {whole : List Arrival} → n ≡ faulty l → whole ≡ []
+    → ns ≡ numbersAfter whole (known n) ns
+unfolding numbersAfter numbersOf
+numbers-faulty ns h w = rw (h, numbersAfter, w)
 
 module _ (clock : ℕ) (t : List ℕ) where
   -- the line of `end`
   module _ (b : begins EndKey (from 0 t) ≡ true) where
-    pub end-bad : number EndKey (from 0 t) ≡ badAt 0 → noArrivals (Bad 0) ≡ blockOf t (known (next clock (from 0 t)))
-    end-bad h = blockOf-faulty t (next-no-last clock (from 0 t) b (exactly-bad EndKey clock (from 0 t) h))
+    pub end-bad : number EndKey (from 0 t) ≡ badAt 0 → Bad 0 ≡ answerOf t (known (next clock (from 0 t)))
+    end-bad h = answerOf-faulty t (next-no-last clock (from 0 t) b (exactly-bad EndKey clock (from 0 t) h))
 
     module _ (i : ℕ) {n : ℕ} (p : number EndKey (from 0 t) ≡ got n (from 1 (drop i t))) where
-      pub end-other : n ≢ clock → noArrivals (Bad 0) ≡ blockOf t (known (next clock (from 0 t)))
+      pub end-other : n ≢ clock → Bad 0 ≡ answerOf t (known (next clock (from 0 t)))
       end-other h =
-          blockOf-faulty t (next-no-last clock (from 0 t) b (exactly-other EndKey clock (from 0 t) p (ne-eqb n clock h)))
+          answerOf-faulty t (next-no-last clock (from 0 t) b (exactly-other EndKey clock (from 0 t) p (ne-eqb n clock h)))
 
-      pub end-more : n ≡ clock → i < length t → noArrivals (Bad 1) ≡ blockOf t (known (next clock (from 0 t)))
+      pub end-more : n ≡ clock → i < length t → Bad 1 ≡ answerOf t (known (next clock (from 0 t)))
       end-more h l =
-          blockOf-faulty t
+          answerOf-faulty t
           (next-last clock (from 0 t) b (exactly-same EndKey clock (from 0 t) p (eq-eqb n clock h))
           ∙ afterEnd-cons (from 1 (drop i t)) (drop-cons t i 0 l))
 
-      pub end-end : n ≡ clock → length t ≤ i → noArrivals End ≡ blockOf t (known (next clock (from 0 t)))
+      pub end-end : n ≡ clock → length t ≤ i → End ≡ answerOf t (known (next clock (from 0 t)))
       end-end h l =
-          blockOf-finished t
+          answerOf-finished t
           (next-last clock (from 0 t) b (exactly-same EndKey clock (from 0 t) p (eq-eqb n clock h))
           ∙ afterEnd-nil (from 1 (drop i t)) (drop-of-length-le t l))
+
+    -- no numbers come with it
+    pub numbers-end : (ns : List ℕ) → ns ≡ numbersAfter (wholeOf clock (from 0 t)) (known (next clock (from 0 t))) ns
+    unfolding wholeOf numbersAfter
+    numbers-end ns = go (exactly EndKey clock (from 0 t)) refl
+      where
+        fault : {l : ℕ} → next clock (from 0 t) ≡ faulty l
+            → ns ≡ numbersAfter (wholeOf clock (from 0 t)) (known (next clock (from 0 t))) ns
+        fault h = numbers-faulty ns h (rw (b, wholeOf))
+
+        last : (d : Cursor) → next clock (from 0 t) ≡ afterEnd d → (u : List ℕ) → d .text ≡ u
+            → ns ≡ numbersAfter (wholeOf clock (from 0 t)) (known (next clock (from 0 t))) ns
+        last d h [] e = rw (h ∙ afterEnd-nil d e, numbersAfter)
+        last d h (x ∷ u) e = fault (h ∙ afterEnd-cons d e)
+
+        go : (r : Read ℕ) → exactly EndKey clock (from 0 t) ≡ r
+            → ns ≡ numbersAfter (wholeOf clock (from 0 t)) (known (next clock (from 0 t))) ns
+        go (got n d) e = last d (next-last clock (from 0 t) b e) (d .text) refl
+        go (badAt l) e = fault (next-no-last clock (from 0 t) b e)
 
   -- the line of `slot`
   module _ (b : begins EndKey (from 0 t) ≡ false) where
@@ -127,24 +161,34 @@ module _ (clock : ℕ) (t : List ℕ) where
         go (got rs d) e = next-block clock (from 0 t) b e ∙ sym (rw e)
         go (badAt l) e = next-no-block clock (from 0 t) b e ∙ sym (rw e)
 
-    slot-fault : exactly Slot clock (from 0 t) ≡ badAt 0 → noArrivals (Bad 0) ≡ blockOf t (known (next clock (from 0 t)))
-    unfolding block
-    slot-fault h =
-        blockOf-faulty t (next-no-block clock (from 0 t) b (bind-bad (exactly Slot clock) (λ _. arrivals blockLimit) (from 0 t) h))
+    slot-fault : exactly Slot clock (from 0 t) ≡ badAt 0 → (ns : List ℕ)
+        → (Bad 0 ≡ answerOf t (known (next clock (from 0 t))))
+        × (ns ≡ numbersAfter (wholeOf clock (from 0 t)) (known (next clock (from 0 t))) ns)
+    unfolding block wholeOf
+    slot-fault h ns =
+        let n = next-no-block clock (from 0 t) b (bind-bad (exactly Slot clock) (λ _. arrivals blockLimit) (from 0 t) h) in
+        (answerOf-faulty t n, numbers-faulty ns n (rw (b, wholeOf, h)))
 
-    pub slot-bad : number Slot (from 0 t) ≡ badAt 0 → noArrivals (Bad 0) ≡ blockOf t (known (next clock (from 0 t)))
+    pub slot-bad : number Slot (from 0 t) ≡ badAt 0 → (ns : List ℕ)
+        → (Bad 0 ≡ answerOf t (known (next clock (from 0 t))))
+        × (ns ≡ numbersAfter (wholeOf clock (from 0 t)) (known (next clock (from 0 t))) ns)
     slot-bad h = slot-fault (exactly-bad Slot clock (from 0 t) h)
 
     module _ (i : ℕ) {n : ℕ} (p : number Slot (from 0 t) ≡ got n (from 1 (drop i t))) where
-      pub slot-other : n ≢ clock → noArrivals (Bad 0) ≡ blockOf t (known (next clock (from 0 t)))
+      pub slot-other : n ≢ clock → (ns : List ℕ)
+          → (Bad 0 ≡ answerOf t (known (next clock (from 0 t))))
+          × (ns ≡ numbersAfter (wholeOf clock (from 0 t)) (known (next clock (from 0 t))) ns)
       slot-other h = slot-fault (exactly-other Slot clock (from 0 t) p (ne-eqb n clock h))
 
-      pub slot-same : n ≡ clock
-          → blockOf t (known (ahead (arrivals blockLimit (from 1 (drop i t))))) ≡ blockOf t (known (next clock (from 0 t)))
-      unfolding block
-      slot-same h =
-          ap (λ r. blockOf t (known (ahead r)))
-          (sym
-          (bind-got (exactly Slot clock) (λ _. arrivals blockLimit) (from 0 t)
-          (exactly-same Slot clock (from 0 t) p (eq-eqb n clock h))))
-          ∙ ap (λ x. blockOf t (known x)) (sym next-ahead)
+      module _ (h : n ≡ clock) where
+        same : exactly Slot clock (from 0 t) ≡ got n (from 1 (drop i t))
+        same = exactly-same Slot clock (from 0 t) p (eq-eqb n clock h)
+
+        -- the arrivals are what stands after it
+        pub slot-same : next clock (from 0 t) ≡ ahead (arrivals blockLimit (from 1 (drop i t)))
+        unfolding block
+        slot-same = next-ahead ∙ ap ahead (bind-got (exactly Slot clock) (λ _. arrivals blockLimit) (from 0 t) same)
+
+        pub slot-whole : wholeOf clock (from 0 t) ≡ wholeArrivals blockLimit (from 1 (drop i t))
+        unfolding wholeOf
+        slot-whole = rw (b, wholeOf, same)

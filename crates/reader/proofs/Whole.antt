@@ -21,15 +21,15 @@ use Rattle.cell.specs.declared.Refusal.the-variants.{BadLine}
 use Rattle.cell.specs.Limits.{clockEnd}
 use Rattle.trace.specs.declared.Key.{Key}
 use Rattle.trace.specs.declared.Key.the-variants.{Slot as SlotKey, End as EndKey}
+use Rattle.trace.specs.declared.Answer.{Answer}
 use Rattle.trace.specs.declared.Answer.the-variants.{Slot, End, Bad}
-use Rattle.trace.specs.declared.Block.{Block}
 use Rattle.reader.specs.declared.Verdict.the-variants.{Accepted, Refused}
 use Rattle.trace.specs.Line.{line, readLine}
 use Rattle.trace.specs.Contents.{blockLimit, arrivalsText}
 use Rattle.trace.specs.Reader.{Cursor, Read, got, badAt, number, exactly, begins, arrivals, block}
 use Rattle.trace.specs.Reader.{Next, slotAhead, finished, faulty, next, withSlot, blocks}
 use Rattle.trace.specs.Reader.{opened, refusedAt, header, read}
-use Rattle.trace.specs.Piece.{decided, nextIn, blockOf}
+use Rattle.trace.specs.Piece.{decided, nextIn, answerOf}
 use Rattle.reader.specs.Reading.{from, ended, endedOf, verdictOf}
 use Rattle.trace.proofs.Tests.{fits32-e}
 use Rattle.trace.proofs.Line.{length-line}
@@ -189,9 +189,9 @@ verified-start t first h = record {
 }
 
 module _ {t : List ℕ} {first : ℕ} {left : List ℕ} {clock line : ℕ} (v : Verified t first left clock line)
-    {b : Block} (e : b ≡ blockOf left (nextIn true clock left)) where
-  module _ {n i l : ℕ} (h : b .answer ≡ Slot n i l) where
-    here : Ahead clock left b n i l
+    {b : Answer} (e : b ≡ answerOf left (nextIn true clock left)) where
+  module _ {n i l : ℕ} (h : b ≡ Slot n i l) where
+    here : Ahead clock left n i l
     here = answer-slot-e true clock left e h
 
     there : next clock (from line left) ≡ slotAhead (here .rs) (from (line + l) (drop i left))
@@ -236,14 +236,14 @@ module _ {t : List ℕ} {first : ℕ} {left : List ℕ} {clock line : ℕ} (v : 
         let f : blocksOf (clock + 1) d ≡ badAt (line + l) = blocksOf-fault (clock + 1) d (next-past (clock + 1) d (omega arith)) in
         sym (slot-same ∙ ap (ended (clock - first + 1)) f)
 
-  pub verified-end : b .answer ≡ End → Accepted (clock - first) ≡ endedOf first t
+  pub verified-end : b ≡ End → Accepted (clock - first) ≡ endedOf first t
   unfolding ended
   verified-end h =
       let p : next clock (from line left) ≡ finished = next-finished-later clock line left (answer-end-e true clock left e h) in
       let z : clock - first + 0 ≡ clock - first = omega arith in
       sym (v .same ∙ ap (ended (clock - first)) (blocksOf-end clock (from line left) p) ∙ ap Accepted z)
 
-  pub verified-bad : {k : ℕ} → b .answer ≡ Bad k → Refused BadLine (line + k) ≡ endedOf first t
+  pub verified-bad : {k : ℕ} → b ≡ Bad k → Refused BadLine (line + k) ≡ endedOf first t
   unfolding ended
   verified-bad h =
       let p = next-faulty-later clock line left (answer-bad-e true clock left e h) in

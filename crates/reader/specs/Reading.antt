@@ -1,17 +1,18 @@
 -- What the functions of the reader answer, by what the definitions read:
 --     lineOf t o      a line at the start of t
 --     verdictOf o     a whole text
---     withDigit, markOf, readBody, cameOf, noArrivals, ahead, endedOf    the same of parts, for the private functions
-use Prim.Native.Nat.{ℕ, _+_, _*_, _-_}
+--     numbersAfter    the numbers lent to the block reader
+--     withDigit, markOf, readBody, cameOf, ahead, endedOf    the same of parts, for the private functions
+use Prim.Native.Nat.{ℕ, zero, suc, _+_, _*_, _-_}
 use mathlib.Core.Bool.{true, false, _&&_}
-use mathlib.Core.List.{List, []}
+use mathlib.Core.List.{List, [], _∷_}
 use mathlib.Core.Option.{Option, none, some, bind, Option·map}
 use lib.ListN.{length}
+use lib.Seq.{sets}
 use Rattle.cell.specs.declared.Arrival.{Arrival}
 use Rattle.cell.specs.declared.Refusal.the-variants.{BadLine}
 use Rattle.cell.specs.Limits.{fits32}
-use Rattle.trace.specs.declared.Answer.{Answer}
-use Rattle.trace.specs.declared.Block.{Block}
+use Rattle.trace.specs.declared.Key.the-variants.{Slot, In, End}
 use Rattle.reader.specs.declared.Line.{Line}
 use Rattle.reader.specs.declared.Line.the-variants.{Number, Bad}
 use Rattle.reader.specs.declared.Mark.{Mark}
@@ -23,8 +24,10 @@ use Rattle.reader.specs.declared.Came.the-variants.{Whole, Bad as BadCam
 use Rattle.reader.specs.declared.Verdict.{Verdict}
 use Rattle.reader.specs.declared.Verdict.the-variants.{Accepted, Refused}
 use Rattle.trace.specs.Line.{after, upToLineFeed, isDigit, readNumber}
-use Rattle.trace.specs.Piece.{paddedNumbers}
-use Rattle.trace.specs.Reader.{Cursor, Read, got, badAt, Next, slotAhead, faulty, blocks, Outcome, accepted, refused}
+use Rattle.trace.specs.Contents.{blockLimit}
+use Rattle.trace.specs.Piece.{Piece, known, more, numbersOf}
+use Rattle.trace.specs.Reader.{Cursor, Read, got, badAt, exactly, begins, arrival, Next, slotAhead, finished, faulty, blocks}
+use Rattle.trace.specs.Reader.{Outcome, accepted, refused}
 
 -- a text and the number of its first line
 abbrev pub from : ℕ → List ℕ → Cursor
@@ -56,13 +59,39 @@ unfoldable pub cameOf : List ℕ → Read Arrival → Came
 cameOf t (got a d) = Whole a (length t - length (d .text))
 cameOf t (badAt l) = BadCame l
 
-unfoldable pub noArrivals : Answer → Block
-noArrivals a = record { answer = a; records = paddedNumbers [] }
-
 -- the arrivals of a block, once its `slot` line is read
 unfoldable pub ahead : Read (List Arrival) → Next
 ahead (got rs d) = slotAhead rs d
 ahead (badAt l) = faulty l
+
+-- the numbers of some arrivals in place of the first of others
+abbrev pub stored : List Arrival → List ℕ → List ℕ
+stored rs ns = sets ns 0 (numbersOf rs)
+
+-- the arrivals that are whole before the first bad line, at most `most` of them
+unfoldable pub wholeArrivals : ℕ → Cursor → List Arrival
+wholeArrivals zero c = []
+wholeArrivals (suc most) c =
+    elim (begins In c) [
+      | false ↦ []
+      | true ↦ elim (arrival c) [ got a d ↦ a ∷ wholeArrivals most d | badAt l ↦ [] ]
+    ]
+
+-- those of a block with the clock's number; the line of `end` has none
+unfoldable pub wholeOf : ℕ → Cursor → List Arrival
+wholeOf clock c =
+    elim (begins End c) [
+      | true ↦ []
+      | false ↦ elim (exactly Slot clock c) [ got n d ↦ wholeArrivals blockLimit d | badAt l ↦ [] ]
+    ]
+
+-- the numbers that the block reader was lent: those of the block's arrivals come first, or those of the arrivals that
+-- are whole before a bad line; the others are kept
+unfoldable pub numbersAfter : List Arrival → Piece Next → List ℕ → List ℕ
+numbersAfter whole (known (slotAhead rs c)) ns = stored rs ns
+numbersAfter whole (known finished) ns = ns
+numbersAfter whole (known (faulty k)) ns = stored whole ns
+numbersAfter whole more ns = ns
 
 -- the slots of a text, after n others
 unfoldable pub ended : ℕ → Read (List (List Arrival)) → Verdict

@@ -5,7 +5,6 @@ use cell::Arrival;
 use cell::Refusal;
 use cell::Switch;
 use trace::Answer;
-use trace::Block;
 use trace::Key;
 use trace::Opening;
 ghost use mathlib.Core.Bool.{true, false};
@@ -18,9 +17,12 @@ ghost use Rattle.trace.specs.declared.Key.the-variants.{End};
 ghost use Rattle.trace.specs.Line.{keyText, readLine};
 ghost use Rattle.trace.specs.Contents.{blockLimit};
 ghost use Rattle.trace.specs.Reader.{arrival, arrivals, begins, next, read};
-ghost use Rattle.trace.specs.Piece.{known, decided, nextIn, headerIn, numbersOf, blockOf, openingOf};
-ghost use Rattle.reader.specs.Reading.{from, withDigit, markOf, readBody, lineOf, cameOf, noArrivals, ahead};
-ghost use Rattle.reader.specs.Reading.{endedOf, verdictOf};
+ghost use Rattle.trace.specs.Piece.{known, decided, nextIn, headerIn, numbersOf, answerOf, openingOf};
+ghost use Rattle.reader.specs.Reading.{from, withDigit, markOf, readBody, lineOf, cameOf, ahead};
+ghost use Rattle.reader.specs.Reading.{wholeArrivals, wholeOf, numbersAfter, endedOf, verdictOf};
+
+// The arrivals of a block as numbers: input, output, flow, rank, tag of each of sixteen.
+pub const NUMBERS: usize = 80;
 
 // What stands at the start of a text.
 pub enum Line {
@@ -90,17 +92,19 @@ pub fn read_header(text: &[u8], last: bool) -> Opening
     Opening::Open(ports, first, used + more)
 }
 
-// next = block | end
-pub fn read_block(text: &[u8], clock: u32, last: bool) -> Block
-    ensures { λ r. ⌜ r ≡ blockOf (now (text .entry)) (nextIn last clock (now (text .entry))) ⌝ }
+// next = block | end; the numbers of the arrivals come first among those that are lent, and the others are kept
+pub fn read_block(text: &[u8], clock: u32, last: bool, numbers: &mut [u32; NUMBERS]) -> Answer
+    ensures { λ r. ⌜ r ≡ answerOf (now (text .entry)) (nextIn last clock (now (text .entry))) ⌝ }
+    ensures { λ _. ⌜ now (numbers .exit) ≡ numbersAfter (wholeOf clock (from 0 (now (text .entry))))
+        (nextIn last clock (now (text .entry))) (now (numbers .entry)) ⌝ }
 {
     if !decided(text, last) {
-        return no_arrivals(Answer::More);
+        return Answer::More;
     }
     if begins(text, Key::End) {
         return read_end(text, clock);
     }
-    read_slot(text, clock)
+    read_slot(text, clock, numbers)
 }
 
 // line = key "=" number "\n"
@@ -117,13 +121,12 @@ pub fn read_line(text: &[u8], key: Key) -> Line
 fn verify_blocks(text: &[u8], first: u32) -> Verdict
     ensures { λ r. ⌜ r ≡ endedOf first (now (text .entry)) ⌝ }
 {
+    let mut numbers = [0u32; NUMBERS];
     let mut rest = text;
     let mut clock = first;
     let mut line: usize = 3;
     loop {
-        let b = read_block(rest, clock, true);
-        let answer = b.answer;
-        match answer {
+        match read_block(rest, clock, true, &mut numbers) {
             Answer::Slot(_, used, lines) => {
                 line += lines as usize;
                 if clock == 4294967295 {
@@ -156,79 +159,66 @@ fn decided(text: &[u8], last: bool) -> bool
     2048 <= text.len()
 }
 
-// An answer without arrivals.
-fn no_arrivals(answer: Answer) -> Block
-    ensures { λ r. ⌜ r ≡ noArrivals answer ⌝ }
-{
-    Block {
-        answer,
-        records: [0; 80],
-    }
-}
-
 // end = end-line, with the clock's number and nothing after it
-fn read_end(text: &[u8], clock: u32) -> Block
+fn read_end(text: &[u8], clock: u32) -> Answer
     requires { ⌜ begins End (from 0 (now text)) ≡ true ⌝ }
-    ensures { λ r. ⌜ r ≡ blockOf (now (text .entry)) (known (next clock (from 0 (now (text .entry))))) ⌝ }
+    ensures { λ r. ⌜ r ≡ answerOf (now (text .entry)) (known (next clock (from 0 (now (text .entry))))) ⌝ }
 {
     let Line::Number(number, used) = read_line(text, Key::End) else {
-        return no_arrivals(Answer::Bad(0));
+        return Answer::Bad(0);
     };
     if number != clock {
-        return no_arrivals(Answer::Bad(0));
+        return Answer::Bad(0);
     }
     if used < text.len() {
-        return no_arrivals(Answer::Bad(1));
+        return Answer::Bad(1);
     }
-    no_arrivals(Answer::End)
+    Answer::End
 }
 
 // block = slot-line, with the clock's number, and at most 16 arrivals
-fn read_slot(text: &[u8], clock: u32) -> Block
+fn read_slot(text: &[u8], clock: u32, numbers: &mut [u32; NUMBERS]) -> Answer
     requires { ⌜ begins End (from 0 (now text)) ≡ false ⌝ }
-    ensures { λ r. ⌜ r ≡ blockOf (now (text .entry)) (known (next clock (from 0 (now (text .entry))))) ⌝ }
+    ensures { λ r. ⌜ r ≡ answerOf (now (text .entry)) (known (next clock (from 0 (now (text .entry))))) ⌝ }
+    ensures { λ _. ⌜ now (numbers .exit) ≡ numbersAfter (wholeOf clock (from 0 (now (text .entry))))
+        (known (next clock (from 0 (now (text .entry))))) (now (numbers .entry)) ⌝ }
 {
     let Line::Number(number, used) = read_line(text, Key::Slot) else {
-        return no_arrivals(Answer::Bad(0));
+        return Answer::Bad(0);
     };
     if number != clock {
-        return no_arrivals(Answer::Bad(0));
+        return Answer::Bad(0);
     }
-    read_arrivals(text, used)
+    read_arrivals(text, used, numbers)
 }
 
 // { arrival }, up to the first line that does not begin `in=`
-fn read_arrivals(text: &[u8], start: usize) -> Block
+fn read_arrivals(text: &[u8], start: usize, numbers: &mut [u32; NUMBERS]) -> Answer
     requires { ⌜ start ≤ length (now text) ⌝ }
-    ensures { λ r. ⌜ r ≡ blockOf (now (text .entry)) (known (ahead (arrivals blockLimit (from 1 (drop start (now (text .entry))))))) ⌝ }
+    ensures { λ r. ⌜ r ≡ answerOf (now (text .entry)) (known (ahead (arrivals blockLimit (from 1 (drop start (now (text .entry))))))) ⌝ }
+    ensures { λ _. ⌜ now (numbers .exit) ≡ numbersAfter (wholeArrivals blockLimit (from 1 (drop start (now (text .entry)))))
+        (known (ahead (arrivals blockLimit (from 1 (drop start (now (text .entry))))))) (now (numbers .entry)) ⌝ }
 {
-    let mut records = [0u32; 80];
     let mut at = start;
     let mut k: usize = 0;
     while k < 16 {
         let rest = &text[at..];
         let line = (5 * k + 1) as u32;
         if !begins(rest, Key::In) {
-            return Block {
-                answer: Answer::Slot(k as u32, at, line),
-                records,
-            };
+            return Answer::Slot(k as u32, at, line);
         }
         match read_arrival(rest, line) {
             Came::Bad(fault) => {
-                return no_arrivals(Answer::Bad(fault));
+                return Answer::Bad(fault);
             }
             Came::Whole(a, used) => {
-                store(&mut records, k, a);
+                store(numbers, k, a);
                 at += used;
                 k += 1;
             }
         }
     }
-    Block {
-        answer: Answer::Slot(16, at, 81),
-        records,
-    }
+    Answer::Slot(16, at, 81)
 }
 
 // arrival = in-line out-line flow-line rank-line tag-line
@@ -265,17 +255,17 @@ fn read_arrival(text: &[u8], line: u32) -> Came
     Came::Whole(arrival, a + b + c + d + e)
 }
 
-// The numbers of an arrival, at its place among the records.
-fn store(records: &mut [u32; 80], k: usize, a: Arrival)
+// The numbers of an arrival, at its place among those of its block.
+fn store(numbers: &mut [u32; NUMBERS], k: usize, a: Arrival)
     requires { ⌜ k < 16 ⌝ }
-    ensures { λ _. ⌜ now (records .exit) ≡ sets (now (records .entry)) (5 * k) (numbersOf (a ∷ [])) ⌝ }
+    ensures { λ _. ⌜ now (numbers .exit) ≡ sets (now (numbers .entry)) (5 * k) (numbersOf (a ∷ [])) ⌝ }
 {
     let at = 5 * k;
-    records[at] = a.input;
-    records[at + 1] = a.output;
-    records[at + 2] = a.flow;
-    records[at + 3] = a.rank;
-    records[at + 4] = a.tag;
+    numbers[at] = a.input;
+    numbers[at + 1] = a.output;
+    numbers[at + 2] = a.flow;
+    numbers[at + 3] = a.rank;
+    numbers[at + 4] = a.tag;
 }
 
 // Whether the text begins with a key and `=`.

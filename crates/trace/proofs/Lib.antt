@@ -1,4 +1,5 @@
 pub mod Blocks
+pub mod Flat
 pub mod Lengths
 pub mod Line
 pub mod RoundTrip

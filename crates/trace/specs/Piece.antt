@@ -4,12 +4,12 @@
 -- Lines are counted from 0 at the start of the piece.
 use Prim.Native.Nat.{ℕ, _-_}
 use mathlib.Core.Bool.{Bool, true, false, _||_}
-use mathlib.Core.List.{List, [], _∷_, _++_}
+use mathlib.Core.List.{List, [], _∷_}
 use lib.Dec.{leb}
-use lib.ListN.{length, replicate}
+use lib.ListN.{length}
 use Rattle.cell.specs.declared.Arrival.{Arrival}
 use Rattle.cell.specs.declared.Refusal.{Refusal}
-use Rattle.trace.specs.declared.Block.{Block}
+use Rattle.trace.specs.declared.Answer.{Answer}
 use Rattle.trace.specs.declared.Answer.the-variants.{Slot, End, Bad, More}
 use Rattle.trace.specs.declared.Opening.{Opening}
 use Rattle.trace.specs.declared.Opening.the-variants.{Open, Refused, Short}
@@ -38,21 +38,13 @@ unfoldable pub numbersOf : List Arrival → List ℕ
 numbersOf [] = []
 numbersOf (a ∷ rs) = a .input ∷ a .output ∷ a .flow ∷ a .rank ∷ a .tag ∷ numbersOf rs
 
--- Eighty numbers: those of the arrivals, then zeros.
-unfoldable pub paddedNumbers : List Arrival → List ℕ
-paddedNumbers rs = numbersOf rs ++ replicate (80 - length (numbersOf rs)) 0
-
 -- What the block reader answers: how many arrivals, how many bytes and how many lines the block has; or that the text has
 -- ended as it must; or the line at fault; or that more text is needed.
-unfoldable pub blockOf : List ℕ → Piece Next → Block
-blockOf t (known (slotAhead rs c)) =
-    record {
-      answer = Slot (length rs) (length t - length (c .text)) (c .line);
-      records = paddedNumbers rs;
-    }
-blockOf t (known finished) = record { answer = End; records = paddedNumbers [] }
-blockOf t (known (faulty k)) = record { answer = Bad k; records = paddedNumbers [] }
-blockOf t more = record { answer = More; records = paddedNumbers [] }
+unfoldable pub answerOf : List ℕ → Piece Next → Answer
+answerOf t (known (slotAhead rs c)) = Slot (length rs) (length t - length (c .text)) (c .line)
+answerOf t (known finished) = End
+answerOf t (known (faulty k)) = Bad k
+answerOf t more = More
 
 -- What the header reader answers.
 unfoldable pub openingOf : List ℕ → Piece Header → Opening

@@ -38,12 +38,6 @@ pub enum Answer {
     More,
 }
 
-// An answer with the arrivals of its block: five numbers for each, input, output, flow, rank, tag, then zeros.
-pub struct Block {
-    pub answer: Answer,
-    pub records: [u32; 80],
-}
-
 // What the writer answers.
 pub enum Output {
     // The length of the text, which stands at the start of the buffer.

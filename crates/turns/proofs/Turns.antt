@@ -9,7 +9,8 @@ use mathlib.Core.Bool.{Bool, true, false}
 use mathlib.Core.List.{List, [], _∷_, _++_, append-nil}
 use mathlib.Core.Option.{some}
 use mathlib.Core.Path.{_≡_, refl, sym, ap, ap₂, subst, _∙_}
-use lib.ListN.{length, drop, replicate, length-append, length-drop, length-replicate, drop-of-length-le}
+use lib.ListN.{length, drop, length-drop, drop-of-length-le}
+use lib.Seq.{length-sets, sets-eq}
 use Rattle.cell.specs.declared.Arrival.{Arrival}
 use Rattle.cell.specs.declared.Refusal.{Refusal}
 use Rattle.cell.specs.declared.Refusal.the-variants.{BadLine}
@@ -21,19 +22,20 @@ use Rattle.model.specs.Crossbar.{Course, slot}
 use Rattle.model.specs.Sound.{sound}
 use Rattle.model.specs.State.{Switch, fresh}
 use Rattle.model.proofs.SoundSlot.{sound-fresh}
+use Rattle.trace.specs.declared.Answer.{Answer}
 use Rattle.trace.specs.declared.Answer.the-variants.{Slot as SlotBlock, End as EndBlock, Bad, More}
-use Rattle.trace.specs.declared.Block.{Block}
 use Rattle.trace.specs.declared.Key.the-variants.{Ports, First, Slot, End}
 use Rattle.trace.specs.declared.Opening.{Opening}
 use Rattle.trace.specs.declared.Opening.the-variants.{Open, Refused, Short}
 use Rattle.trace.specs.Flat.{arrivalAt, arrivalsFrom}
 use Rattle.trace.specs.Line.{line}
-use Rattle.trace.specs.Piece.{known, more, decided, nextIn, headerIn, numbersOf, paddedNumbers, blockOf, openingOf}
+use Rattle.trace.specs.Piece.{known, more, decided, nextIn, headerIn, numbersOf, answerOf, openingOf}
 use Rattle.trace.specs.Reader.{Cursor, Read, got, badAt, number, next}
-use Rattle.trace.specs.Reader.{opened, header}
+use Rattle.trace.specs.Reader.{slotAhead, opened, header}
 use Rattle.trace.proofs.Blocks.{number-exact, blockFits-e, next-exact}
+use Rattle.trace.proofs.Flat.{length-numbersOf}
 use Rattle.trace.proofs.RoundTrip.{header-bad-ports, header-bad-size, header-bad-first, header-opened, header-exact}
-use Rattle.reader.specs.Reading.{from, noArrivals}
+use Rattle.reader.specs.Reading.{from, numbersAfter, stored}
 use Rattle.reader.proofs.Answered.{opening-open-e, opening-refused-e, opening-short-e}
 use Rattle.reader.proofs.Answered.{Ahead, answer-slot-e, answer-end-e, answer-bad-e, answer-more-e}
 use Rattle.reader.proofs.Answers.{headerIn-more, headerIn-known, nextIn-more, nextIn-known, opening-short, block-more}
@@ -246,28 +248,22 @@ unfolding arrivalsFrom arrivalAt numbersOf
 arrivals-numbers [] zs = refl
 arrivals-numbers (a ∷ rs) zs = ap (λ l. a ∷ l) (arrivals-numbers rs zs)
 
-length-numbersOf : (rs : List Arrival) → length (numbersOf rs) ≡ 5 * length rs
-unfolding numbersOf
-length-numbersOf [] = refl
-length-numbersOf (a ∷ rs) = omega (arith, length-numbersOf rs)
-
 module _ (last : Bool) (l : ℕ) (t table buffer : List ℕ) (good : IsTable table) (few : l ≤ 3 + 81 * clockIn table)
-    (clock : ℕ) (here : clock ≡ clockIn table) {b : Block} (e : b ≡ blockOf t (nextIn last clock t)) where
+    (clock : ℕ) (here : clock ≡ clockIn table) {b : Answer} (e : b ≡ answerOf t (nextIn last clock t)) where
   abbrev atNext : Turn
   atNext = nextTurn l (stateOf table) t (nextIn last (clockIn table) t)
 
   at-clock : atNext ≡ nextTurn l (stateOf table) t (nextIn last clock t)
   at-clock = ap (λ n. nextTurn l (stateOf table) t (nextIn last n t)) (sym here)
 
-  next-read : (b .answer ≡ More → ⊥) → nextIn last clock t ≡ known (next clock (from 0 t))
-  unfolding noArrivals
+  next-read : (b ≡ More → ⊥) → nextIn last clock t ≡ known (next clock (from 0 t))
   next-read h = go (decided last t) refl
     where
       go : (x : Bool) → decided last t ≡ x → nextIn last clock t ≡ known (next clock (from 0 t))
       go true d = nextIn-known last t clock d
-      go false d = absurd (h (ap (λ b. b .answer) (e ∙ sym (block-more last clock t d))))
+      go false d = absurd (h (e ∙ sym (block-more last clock t d)))
 
-  pub next-more : b .answer ≡ More → Turned atNext t table buffer table buffer Playing l 0 0
+  pub next-more : b ≡ More → Turned atNext t table buffer table buffer Playing l 0 0
   unfolding nextTurn standing lineAt
   next-more h =
       let unread = nextIn-more last t clock (answer-more-e last clock t e h) in
@@ -275,7 +271,7 @@ module _ (last : Bool) (l : ℕ) (t table buffer : List ℕ) (good : IsTable tab
       (record { size = decode-length table (stateOf table) good; number = refl; good = λ _. good; few = λ _. few })
 
   module _ (buffer′ : List ℕ) (stage : Stage) (l′ used n m : ℕ) where
-    pub next-end : Closed Ended n stage l′ used m → b .answer ≡ EndBlock → Wrote (line End clock) buffer buffer′ n
+    pub next-end : Closed Ended n stage l′ used m → b ≡ EndBlock → Wrote (line End clock) buffer buffer′ n
         → Turned atNext t table buffer table buffer′ stage l′ used m
     unfolding nextTurn stateOf clockIn
     next-end c h w =
@@ -284,7 +280,7 @@ module _ (last : Bool) (l : ℕ) (t table buffer : List ℕ) (good : IsTable tab
         (at-clock ∙ ap (nextTurn l (stateOf table) t) (read ∙ ap known (answer-end-e last clock t e h)))
         (decode-length table (stateOf table) good) (rw here at w) c
 
-    pub next-bad : Closed TurnedBack n stage l′ used m → {k : ℕ} → b .answer ≡ Bad k
+    pub next-bad : Closed TurnedBack n stage l′ used m → {k : ℕ} → b ≡ Bad k
         → Wrote (refusalText BadLine (l + k)) buffer buffer′ n → Turned atNext t table buffer table buffer′ stage l′ used m
     unfolding nextTurn
     next-bad c {k} h w =
@@ -293,70 +289,77 @@ module _ (last : Bool) (l : ℕ) (t table buffer : List ℕ) (good : IsTable tab
         (at-clock ∙ ap (nextTurn l (stateOf table) t) (read ∙ ap known (answer-bad-e last clock t e h)))
         (decode-length table (stateOf table) good) w c
 
-  module _ {count i lines : ℕ} (h : b .answer ≡ SlotBlock count i lines) where
-    ahead : Ahead clock t b count i lines
+  module _ {count i lines : ℕ} (h : b ≡ SlotBlock count i lines) where
+    ahead : Ahead clock t count i lines
     ahead = answer-slot-e last clock t e h
+
+    there : nextIn last clock t ≡ known (slotAhead (ahead .rs) (from lines (drop i t)))
+    there = next-read (λ k. (let z : _≡_ {A = ℕ} 0 1 = cc in omega arith)) ∙ ap known (ahead .there)
 
     block-lines : (lines ≡ 0 + (1 + 5 * length (ahead .rs))) × (length (ahead .rs) ≤ 16)
     block-lines = next-line clock (from 0 t) (ahead .there)
 
-    -- at most 16 arrivals and 81 lines, and eighty numbers
-    pub block-size : (count ≤ 16) × (lines ≤ 81) × (length (b .records) ≡ 80)
-    unfolding paddedNumbers
+    -- at most 16 arrivals and 81 lines
+    pub block-size : (count ≤ 16) × (lines ≤ 81)
     block-size =
         let (many, less) = block-lines in
-        let rs : List Arrival = ahead .rs in (
-          omega (arith, ahead .count),
-          omega arith,
-          ap length (ahead .held)
-              ∙ length-append (numbersOf rs) (replicate (80 - length (numbersOf rs)) 0)
-              ∙ ap (λ k. length (numbersOf rs) + k) (length-replicate {A = ℕ} (80 - length (numbersOf rs)) 0)
-              ∙ omega (arith, length-numbersOf rs),
-        )
-
-    same-arrivals : arrivalsFrom count (b .records) ≡ ahead .rs
-    unfolding paddedNumbers
-    same-arrivals =
-        ap₂ arrivalsFrom (sym (ahead .count)) (ahead .held) ∙ arrivals-numbers (ahead .rs) _
+        (omega (arith, ahead .count), omega arith)
 
     block-fits : all? arrivalFits (ahead .rs) ≡ true
     block-fits = blockFits-e (ahead .rs) ((rw (ahead .there) at (next-exact clock (from 0 t))) .1) .1
 
-    outcome : Outcome Course
-    outcome = slot (stateOf table) (some (arrivalsFrom count (b .records)))
+    -- the numbers that the reader was lent
+    module _ (whole : List Arrival) (lent : List ℕ) {numbers : List ℕ}
+        (held : numbers ≡ numbersAfter whole (nextIn last clock t) lent) (size : length lent ≡ 80) where
+      held-stored : numbers ≡ stored (ahead .rs) lent
+      unfolding numbersAfter
+      held-stored = held ∙ ap (λ x. numbersAfter whole x lent) there
 
-    at-slot : atNext ≡ slotTurn (stateOf table .clock) l t (from lines (drop i t)) outcome
-    unfolding nextTurn outcome
-    at-slot =
-        let read = next-read (λ k. (let z : _≡_ {A = ℕ} 0 1 = cc in omega arith)) in
-        at-clock
-        ∙ ap (nextTurn l (stateOf table) t) (read ∙ ap known (ahead .there))
-        ∙ ap (λ rs. slotTurn (stateOf table .clock) l t (from lines (drop i t)) (slot (stateOf table) (some rs)))
-        (sym same-arrivals)
+      pub numbers-size : length numbers ≡ 80
+      numbers-size = ap length held-stored ∙ length-sets lent 0 (numbersOf (ahead .rs)) ∙ size
 
-    module _ {table′ buffer′ : List ℕ} {r : Played} {n : ℕ}
-        (p : SlotPlayed (slot (stateOf table) (some (arrivalsFrom count (b .records)))) clock l table buffer table′
-        buffer′ r) where
-      pub next-stopped : r ≡ Stopped n → (stage : Stage) (l′ used m : ℕ) → Closed TurnedBack n stage l′ used m
-          → Turned atNext t table buffer table′ buffer′ stage l′ used m
-      unfolding slotTurn outcome
-      next-stopped f stage l′ used m shut =
-          let (why, place, o, kept, w) = played-stopped clock l outcome p f in
-          subst (λ x. Turned atNext t table buffer x buffer′ stage l′ used m) (sym kept)
-          (ends atNext t table buffer at-refusal (refusalText why (lineOf l place)) buffer′ stage l′ used n m
-          (at-slot ∙ ap (slotTurn (stateOf table .clock) l t (from lines (drop i t))) o)
-          (decode-length table (stateOf table) good) w shut)
+      same-arrivals : arrivalsFrom count numbers ≡ ahead .rs
+      same-arrivals =
+          let n = length-numbersOf (ahead .rs) in
+          let few = block-lines .1 in
+          ap₂ arrivalsFrom (sym (ahead .count))
+          (held-stored ∙ sets-eq (numbersOf (ahead .rs)) lent 0 (omega arith))
+          ∙ arrivals-numbers (ahead .rs) _
 
-      pub next-ran : r ≡ Ran n → Turned atNext t table buffer table′ buffer′ Playing (l + lines) i n
-      unfolding slotTurn outcome stateOf clockIn
-      next-ran f =
-          let (c, o, made, w) = played-ran clock l outcome p f in
-          let g : Goes (stateOf table) c =
-          goes (stateOf table) (ahead .rs) (decode-sound table (stateOf table) good) block-fits c
-          (ap (λ rs. slot (stateOf table) (some rs)) (sym same-arrivals) ∙ o) in
-          let less = block-size .1 in
-          plays atNext t table buffer (line Slot (clockIn table) ++ departuresText (c .departures)) buffer′ table′
-          (c .switch) (l + lines) i n
-          (at-slot ∙ ap (slotTurn (clockIn table) l t (from lines (drop i t))) o)
-          (ahead .within) (g .good) made (omega (arith, g .clock))
-          (subst (λ k. Wrote (line Slot k ++ departuresText (c .departures)) buffer buffer′ n) here w)
+      outcome : Outcome Course
+      outcome = slot (stateOf table) (some (arrivalsFrom count numbers))
+
+      at-slot : atNext ≡ slotTurn (stateOf table .clock) l t (from lines (drop i t)) outcome
+      unfolding nextTurn outcome
+      at-slot =
+          at-clock
+          ∙ ap (nextTurn l (stateOf table) t) there
+          ∙ ap (λ rs. slotTurn (stateOf table .clock) l t (from lines (drop i t)) (slot (stateOf table) (some rs)))
+          (sym same-arrivals)
+
+      module _ {table′ buffer′ : List ℕ} {r : Played} {n : ℕ}
+          (p : SlotPlayed (slot (stateOf table) (some (arrivalsFrom count numbers))) clock l table buffer table′
+          buffer′ r) where
+        pub next-stopped : r ≡ Stopped n → (stage : Stage) (l′ used m : ℕ) → Closed TurnedBack n stage l′ used m
+            → Turned atNext t table buffer table′ buffer′ stage l′ used m
+        unfolding slotTurn outcome
+        next-stopped f stage l′ used m shut =
+            let (why, place, o, kept, w) = played-stopped clock l outcome p f in
+            subst (λ x. Turned atNext t table buffer x buffer′ stage l′ used m) (sym kept)
+            (ends atNext t table buffer at-refusal (refusalText why (lineOf l place)) buffer′ stage l′ used n m
+            (at-slot ∙ ap (slotTurn (stateOf table .clock) l t (from lines (drop i t))) o)
+            (decode-length table (stateOf table) good) w shut)
+
+        pub next-ran : r ≡ Ran n → Turned atNext t table buffer table′ buffer′ Playing (l + lines) i n
+        unfolding slotTurn outcome stateOf clockIn
+        next-ran f =
+            let (c, o, made, w) = played-ran clock l outcome p f in
+            let g : Goes (stateOf table) c =
+            goes (stateOf table) (ahead .rs) (decode-sound table (stateOf table) good) block-fits c
+            (ap (λ rs. slot (stateOf table) (some rs)) (sym same-arrivals) ∙ o) in
+            let less = block-size .1 in
+            plays atNext t table buffer (line Slot (clockIn table) ++ departuresText (c .departures)) buffer′ table′
+            (c .switch) (l + lines) i n
+            (at-slot ∙ ap (slotTurn (clockIn table) l t (from lines (drop i t))) o)
+            (ahead .within) (g .good) made (omega (arith, g .clock))
+            (subst (λ k. Wrote (line Slot k ++ departuresText (c .departures)) buffer buffer′ n) here w)

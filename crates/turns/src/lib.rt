@@ -156,12 +156,10 @@ fn next_turn(line: usize, text: &[u8], last: bool, table: &mut [u8], out: &mut [
         (r .stage) (r .line) (r .used) (r .written) ⌝ }
 {
     let clock = table::entry::clock_of(table);
-    let block = reader::read_block(text, clock, last);
-    let answer = block.answer;
-    let records = block.records;
-    match answer {
+    let mut numbers = [0u32; reader::NUMBERS];
+    match reader::read_block(text, clock, last, &mut numbers) {
         Answer::Slot(count, used, lines) => {
-            match play_slot(line, clock, count, &records, table, out) {
+            match play_slot(line, clock, count, &numbers, table, out) {
                 Played::Ran(written) => Turn {
                     stage: Stage::Playing,
                     line: line + lines as usize,

@@ -1,11 +1,10 @@
 -- Pouring texts into a buffer:
---     sets-append, sets-out   stores of two texts, and past the end
+--     sets-out                stores past the end
 --     poured-then, ends-then  one text after another
 --     rest-                   what is left to pour in a loop, and the whole
 --     put-, poured-whole      a text that was measured
 use Prim.Native.Nat.{ℕ, suc, _+_, _≤_, _<_}
 use native.Mathlib.Omega.{arith}
-use native.Mathlib.Nat.{add-zero, add-suc, suc-add}
 use native.Mathlib.Numerals.{add-one}
 use mathlib.Core.Bool.{Bool, true, false}
 use mathlib.Core.List.{List, [], _∷_, _++_, append-assoc}
@@ -14,13 +13,10 @@ use borrow.Author.Tests.{leb-true, leb-false, le-leb, lt-leb}
 use lib.Dec.{leb}
 use lib.ListN.{length, length-append, getD, take, drop, drop-of-length-le, set, length-set}
 use lib.Seq.{drop-cons, set-out, sets, length-sets, sets-eq}
+use Rattle.trace.proofs.Flat.{sets-append}
 use Rattle.writer.specs.Writing.{lastPlace, placeAfter, withText, Ends, Put, Poured}
 
 -- stores
-
-pub sets-append : (l : List ℕ) (i : ℕ) (s t : List ℕ) → sets l i (s ++ t) ≡ sets (sets l i s) (i + length s) t
-sets-append l i [] t = rw add-zero
-sets-append l i (a ∷ s) t = sets-append (set l i a) (suc i) s t ∙ rw (suc-add, add-suc)
 
 pub sets-out : (l : List ℕ) (i : ℕ) (t : List ℕ) → length l ≤ i → sets l i t ≡ l
 sets-out l i [] h = refl

@@ -5,20 +5,18 @@ use borrow.Author.Needs.{needs}
 use borrow.Author.Tests.{not-true, not-false}
 use native.Mathlib.Omega.{arith}
 use mathlib.Core.Path.{sym, _∙_}
-use Rattle.trace.specs.Piece.{numbersOf, paddedNumbers}
 use Rattle.reader.proofs.Records.{Walked, walked-start, walked-more, walked-stop, walked-full, walked-bad}
 use Rattle.reader.proofs.read_arrivals.Statement.{statement}
 use Rattle.reader.proofs.read_arrivals.Tie as tie
 
 abbrev Inv-loop : tie.InvT-loop
-Inv-loop text start records₀ at₀ k₀ records at k = Walked text start records at k
+Inv-loop text start numbers₀ at₀ k₀ numbers at k = Walked text start numbers₀ numbers at k
 
 abbrev μ-loop : tie.MeasureT-loop
-μ-loop text start records₀ at₀ k₀ records at k = 16 - k
+μ-loop text start numbers₀ at₀ k₀ numbers at k = 16 - k
 
 loop-holds : tie.Need-loop-holds Inv-loop μ-loop
-unfolding paddedNumbers numbersOf
-loop-holds c = walked-start _ _ (c .before .pre)
+loop-holds c = walked-start _ _ _ (c .before .pre)
 
 sub-rest : tie.Need-sub-rest Inv-loop μ-loop
 sub-rest c = c .before .loop .inv .within
@@ -54,14 +52,10 @@ read-arrival-requires c κs = search needs
 enum-known-fault : tie.Need-enum-known-fault Inv-loop μ-loop
 enum-known-fault c = search needs
 
-no-arrivals-requires : tie.Need-no-arrivals-requires Inv-loop μ-loop
-no-arrivals-requires c κs = search needs
-
 returns-2 : tie.Need-returns-2 Inv-loop μ-loop
 returns-2 c =
-    let b = sym (c .before .before .before .before .before .before .begins .ensures) ∙ not-false _ (c .before .before .before .before .before .if1 .left) in
-    c .no-arrivals .ensures
-    ∙ walked-bad (c .before .before .before .before .before .before .before .before .before .loop .inv) (c .before .before .before .before .before .before .before .before .loop-test .taken) b (c .before .before .before .before .read-arrival .ensures) (c .before .before .fault .given .1)
+    let b = sym (c .before .before .before .before .before .begins .ensures) ∙ not-false _ (c .before .before .before .before .if1 .left) in
+    walked-bad (c .before .before .before .before .before .before .before .before .loop .inv) (c .before .before .before .before .before .before .before .loop-test .taken) b (c .before .before .before .read-arrival .ensures) (c .before .fault .given .1)
 
 enum-known-a : tie.Need-enum-known-a Inv-loop μ-loop
 enum-known-a c = search needs
@@ -107,7 +101,6 @@ read-arrivals-spec =
     returns
     read-arrival-requires
     enum-known-fault
-    no-arrivals-requires
     returns-2
     enum-known-a
     store-requires

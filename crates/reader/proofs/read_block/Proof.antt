@@ -1,7 +1,7 @@
 -- `reader::read_block` meets its contract. Assumes nothing.
 use mathlib.Core.Path.{sym, _∙_}
 use borrow.Author.Tests.{not-true, not-false}
-use Rattle.reader.proofs.Answers.{block-more, block-known}
+use Rattle.reader.proofs.Answers.{block-more, block-known, numbers-more, numbers-known, numbers-end}
 use borrow.Author.Needs.{needs}
 use Rattle.reader.proofs.read_block.Statement.{statement}
 use Rattle.reader.proofs.read_block.Tie as tie
@@ -9,12 +9,10 @@ use Rattle.reader.proofs.read_block.Tie as tie
 decided-requires : tie.Need-decided-requires
 decided-requires c κs = search needs
 
-no-arrivals-requires : tie.Need-no-arrivals-requires
-no-arrivals-requires c κs = search needs
-
 returns : tie.Need-returns
 returns c =
-    c .no-arrivals .ensures ∙ block-more _ _ _ (sym (c .before .before .decided .ensures) ∙ not-true _ (c .before .if1 .taken))
+    let d = sym (c .before .decided .ensures) ∙ not-true _ (c .if1 .taken) in
+    (block-more _ _ _ d, numbers-more _ _ _ _ _ d)
 
 begins-requires : tie.Need-begins-requires
 begins-requires c κs = search needs
@@ -24,21 +22,23 @@ read-end-requires c κs = sym (c .before .begins .ensures) ∙ c .if2 .taken
 
 returns-2 : tie.Need-returns-2
 returns-2 c =
-    c .read-end .ensures ∙ block-known _ _ _ (sym (c .before .before .before .before .decided .ensures) ∙ not-false _ (c .before .before .before .if1 .left))
+    let d = sym (c .before .before .before .before .decided .ensures) ∙ not-false _ (c .before .before .before .if1 .left) in
+    let b = sym (c .before .before .begins .ensures) ∙ c .before .if2 .taken in
+    (c .read-end .ensures ∙ block-known _ _ _ d, numbers-end _ _ b _ ∙ numbers-known _ _ _ _ _ d)
 
 read-slot-requires : tie.Need-read-slot-requires
-read-slot-requires c κs = sym (c .before .begins .ensures) ∙ c .if2 .left
+read-slot-requires c κs = sym (c .before .before .begins .ensures) ∙ c .before .if2 .left
 
 returns-3 : tie.Need-returns-3
 returns-3 c =
-    c .read-slot .ensures ∙ block-known _ _ _ (sym (c .before .before .before .before .decided .ensures) ∙ not-false _ (c .before .before .before .if1 .left))
+    let d = sym (c .before .before .before .before .before .decided .ensures) ∙ not-false _ (c .before .before .before .before .if1 .left) in
+    (c .read-slot .ensures .0 ∙ block-known _ _ _ d, c .read-slot .ensures .1 ∙ numbers-known _ _ _ _ _ d)
 
 pub read-block-spec : {M : Type 1} → statement M
 read-block-spec =
     tie.close
     (tie.spec
     decided-requires
-    no-arrivals-requires
     returns
     begins-requires
     read-end-requires

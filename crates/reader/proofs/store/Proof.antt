@@ -8,47 +8,47 @@ use Rattle.reader.proofs.store.Tie as tie
 mul-at : tie.Need-mul-at
 mul-at c = search needs
 
-mul-records : tie.Need-mul-records
-mul-records c = search needs
+mul-numbers : tie.Need-mul-numbers
+mul-numbers c = search needs
 
-element-write-records : tie.Need-element-write-records
-element-write-records c = search needs
+element-write-numbers : tie.Need-element-write-numbers
+element-write-numbers c = search needs
 
-add-records : tie.Need-add-records
-add-records c = search needs
+add-numbers : tie.Need-add-numbers
+add-numbers c = search needs
 
-mul-records-2 : tie.Need-mul-records-2
-mul-records-2 c = search needs
+mul-numbers-2 : tie.Need-mul-numbers-2
+mul-numbers-2 c = search needs
 
-element-write-records-2 : tie.Need-element-write-records-2
-element-write-records-2 c = search needs
+element-write-numbers-2 : tie.Need-element-write-numbers-2
+element-write-numbers-2 c = search needs
 
-add-records-2 : tie.Need-add-records-2
-add-records-2 c = search needs
+add-numbers-2 : tie.Need-add-numbers-2
+add-numbers-2 c = search needs
 
-mul-records-3 : tie.Need-mul-records-3
-mul-records-3 c = search needs
+mul-numbers-3 : tie.Need-mul-numbers-3
+mul-numbers-3 c = search needs
 
-element-write-records-3 : tie.Need-element-write-records-3
-element-write-records-3 c = search needs
+element-write-numbers-3 : tie.Need-element-write-numbers-3
+element-write-numbers-3 c = search needs
 
-add-records-3 : tie.Need-add-records-3
-add-records-3 c = search needs
+add-numbers-3 : tie.Need-add-numbers-3
+add-numbers-3 c = search needs
 
-mul-records-4 : tie.Need-mul-records-4
-mul-records-4 c = search needs
+mul-numbers-4 : tie.Need-mul-numbers-4
+mul-numbers-4 c = search needs
 
-element-write-records-4 : tie.Need-element-write-records-4
-element-write-records-4 c = search needs
+element-write-numbers-4 : tie.Need-element-write-numbers-4
+element-write-numbers-4 c = search needs
 
-add-records-4 : tie.Need-add-records-4
-add-records-4 c = search needs
+add-numbers-4 : tie.Need-add-numbers-4
+add-numbers-4 c = search needs
 
-mul-records-5 : tie.Need-mul-records-5
-mul-records-5 c = search needs
+mul-numbers-5 : tie.Need-mul-numbers-5
+mul-numbers-5 c = search needs
 
-element-write-records-5 : tie.Need-element-write-records-5
-element-write-records-5 c = search needs
+element-write-numbers-5 : tie.Need-element-write-numbers-5
+element-write-numbers-5 c = search needs
 
 returns : tie.Need-returns
 unfolding numbersOf
@@ -59,18 +59,18 @@ store-spec =
     tie.close
     (tie.spec
     mul-at
-    mul-records
-    element-write-records
-    add-records
-    mul-records-2
-    element-write-records-2
-    add-records-2
-    mul-records-3
-    element-write-records-3
-    add-records-3
-    mul-records-4
-    element-write-records-4
-    add-records-4
-    mul-records-5
-    element-write-records-5
+    mul-numbers
+    element-write-numbers
+    add-numbers
+    mul-numbers-2
+    element-write-numbers-2
+    add-numbers-2
+    mul-numbers-3
+    element-write-numbers-3
+    add-numbers-3
+    mul-numbers-4
+    element-write-numbers-4
+    add-numbers-4
+    mul-numbers-5
+    element-write-numbers-5
     returns)

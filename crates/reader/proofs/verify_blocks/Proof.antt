@@ -11,10 +11,10 @@ use Rattle.reader.proofs.verify_blocks.Statement.{statement}
 use Rattle.reader.proofs.verify_blocks.Tie as tie
 
 abbrev Inv-loop : tie.InvT-loop
-Inv-loop text first rest₀ clock₀ line₀ rest clock line = Verified text first rest clock line
+Inv-loop text first numbers₀ rest₀ clock₀ line₀ numbers rest clock line = Verified text first rest clock line
 
 abbrev μ-loop : tie.MeasureT-loop
-μ-loop text first rest₀ clock₀ line₀ rest clock line = length rest
+μ-loop text first numbers₀ rest₀ clock₀ line₀ numbers rest clock line = length rest
 
 loop-holds : tie.Need-loop-holds Inv-loop μ-loop
 loop-holds c = verified-start _ _ (omega (arith, c .before .fits))
@@ -22,74 +22,72 @@ loop-holds c = verified-start _ _ (omega (arith, c .before .fits))
 read-block-requires : tie.Need-read-block-requires Inv-loop μ-loop
 read-block-requires c κs = search needs
 
-enum-known-answer : tie.Need-enum-known-answer Inv-loop μ-loop
-enum-known-answer c = search needs
+enum-known-used : tie.Need-enum-known-used Inv-loop μ-loop
+enum-known-used c = search needs
 
 cast-line : tie.Need-cast-line Inv-loop μ-loop
 cast-line c = search needs
 
 add-line : tie.Need-add-line Inv-loop μ-loop
 add-line c =
-    let l = verified-lines (c .before .before .before .before .loop .inv) (c .before .before .before .read-block .ensures) (c .before .answer .given .1) in
-    omega (arith, c .before .before .before .before .loop .inv .begun, c .before .before .before .before .loop .inv .fits, c .before .before .before .before .loop .inv .lines)
+    let v = c .before .before .before .before .before .loop .inv in
+    let l = verified-lines v (c .before .before .before .read-block .ensures .0) (c .before .used .given .1) in
+    omega (arith, v .begun, v .fits, v .lines)
 
 returns : tie.Need-returns Inv-loop μ-loop
 returns c =
-    verified-clock-end (c .before .before .before .before .before .loop .inv) (c .before .before .before .before .read-block .ensures) (c .before .before .answer .given .1) (c .if1 .taken)
+    verified-clock-end (c .before .before .before .before .before .before .loop .inv) (c .before .before .before .before .read-block .ensures .0) (c .before .before .used .given .1) (c .if1 .taken)
 
 add-clock : tie.Need-add-clock Inv-loop μ-loop
-add-clock c = omega (arith, c .before .before .before .before .before .loop .inv .fits, c .if1 .left)
+add-clock c = omega (arith, c .before .before .before .before .before .before .loop .inv .fits, c .if1 .left)
 
 sub-rest : tie.Need-sub-rest Inv-loop μ-loop
-sub-rest c =
-    verified-within (c .before .before .before .before .before .loop .inv) (c .before .before .before .before .read-block .ensures) (c .before .before .answer .given .1)
+sub-rest c = verified-within (c .before .before .before .before .before .before .loop .inv) (c .before .before .before .before .read-block .ensures .0) (c .before .before .used .given .1)
 
 part-rest-start : tie.Need-part-rest-start Inv-loop μ-loop
-part-rest-start c =
-    verified-within (c .before .before .before .before .before .loop .inv) (c .before .before .before .before .read-block .ensures) (c .before .before .answer .given .1)
+part-rest-start c = verified-within (c .before .before .before .before .before .before .loop .inv) (c .before .before .before .before .read-block .ensures .0) (c .before .before .used .given .1)
 
 part-rest-end : tie.Need-part-rest-end Inv-loop μ-loop
 part-rest-end c = search needs
 
 loop-less : tie.Need-loop-less Inv-loop μ-loop
 loop-less c =
-    verified-less (c .before .before .before .before .before .before .loop .inv) (c .before .before .before .before .before .read-block .ensures) (c .before .before .before .answer .given .1)
+    verified-less (c .before .before .before .before .before .before .before .loop .inv) (c .before .before .before .before .before .read-block .ensures .0) (c .before .before .before .used .given .1)
 
 loop-again : tie.Need-loop-again Inv-loop μ-loop
 loop-again c =
-    verified-more (c .before .before .before .before .before .before .loop .inv) (c .before .before .before .before .before .read-block .ensures) (c .before .before .before .answer .given .1) (c .before .if1 .left)
+    verified-more (c .before .before .before .before .before .before .before .loop .inv) (c .before .before .before .before .before .read-block .ensures .0) (c .before .before .before .used .given .1) (c .before .if1 .left)
 
 enum-told : tie.Need-enum-told Inv-loop μ-loop
 enum-told c = search needs
 
-sub-t16 : tie.Need-sub-t16 Inv-loop μ-loop
-sub-t16 c = c .before .before .before .loop .inv .begun
+sub-t17 : tie.Need-sub-t17 Inv-loop μ-loop
+sub-t17 c = c .before .before .before .before .loop .inv .begun
 
 returns-2 : tie.Need-returns-2 Inv-loop μ-loop
-returns-2 c =
-    verified-end (c .before .before .before .loop .inv) (c .before .before .read-block .ensures) (c .enum-told .given .1)
+returns-2 c = verified-end (c .before .before .before .before .loop .inv) (c .before .before .read-block .ensures .0) (c .enum-told .given .1)
 
-enum-known-answer-2 : tie.Need-enum-known-answer-2 Inv-loop μ-loop
-enum-known-answer-2 c = search needs
+enum-known-k : tie.Need-enum-known-k Inv-loop μ-loop
+enum-known-k c = search needs
 
-cast-t18 : tie.Need-cast-t18 Inv-loop μ-loop
-cast-t18 c = search needs
+cast-t19 : tie.Need-cast-t19 Inv-loop μ-loop
+cast-t19 c = search needs
 
-add-t19 : tie.Need-add-t19 Inv-loop μ-loop
-add-t19 c =
+add-t20 : tie.Need-add-t20 Inv-loop μ-loop
+add-t20 c =
+    let v = c .before .before .before .before .before .loop .inv in
     let g = c .known-told2 .given in
-    omega (arith, c .before .before .before .before .loop .inv .begun, c .before .before .before .before .loop .inv .fits, c .before .before .before .before .loop .inv .lines, g)
+    omega (arith, v .begun, v .fits, v .lines, g)
 
 returns-3 : tie.Need-returns-3 Inv-loop μ-loop
-returns-3 c =
-    verified-bad (c .before .before .before .before .loop .inv) (c .before .before .before .read-block .ensures) (c .before .answer2 .given .1)
+returns-3 c = verified-bad (c .before .before .before .before .before .loop .inv) (c .before .before .before .read-block .ensures .0) (c .before .k .given .1)
 
 enum-told-2 : tie.Need-enum-told-2 Inv-loop μ-loop
 enum-told-2 c = search needs
 
 returns-4 : tie.Need-returns-4 Inv-loop μ-loop
 returns-4 c =
-    whole-decided _ (answer-more-e true _ _ (c .before .before .read-block .ensures) (c .enum-told2 .given .1))
+    whole-decided _ (answer-more-e true _ _ (c .before .before .read-block .ensures .0) (c .enum-told2 .given .1))
 
 pub verify-blocks-spec : {M : Type 1} → statement M
 verify-blocks-spec =
@@ -99,7 +97,7 @@ verify-blocks-spec =
     μ-loop
     loop-holds
     read-block-requires
-    enum-known-answer
+    enum-known-used
     cast-line
     add-line
     returns
@@ -110,11 +108,11 @@ verify-blocks-spec =
     loop-less
     loop-again
     enum-told
-    sub-t16
+    sub-t17
     returns-2
-    enum-known-answer-2
-    cast-t18
-    add-t19
+    enum-known-k
+    cast-t19
+    add-t20
     returns-3
     enum-told-2
     returns-4)

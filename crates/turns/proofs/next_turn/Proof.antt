@@ -1,7 +1,7 @@
 -- The block's answer says how the turn goes: a slot, the end, a bad line, or more text is needed.
 use Prim.Native.Nat.{_+_, _*_, _≤_}
 use native.Mathlib.Omega.{arith}
-use mathlib.Core.Path.{_≡_, sym}
+use mathlib.Core.Path.{_≡_, refl, sym}
 use borrow.Author.Needs.{needs}
 use lib.ListN.{length}
 use Rattle.cell.specs.declared.Refusal.the-variants.{BadLine}
@@ -10,7 +10,7 @@ use Rattle.trace.proofs.Tests.{fits32-i}
 use Rattle.layout.proofs.Table.{decode-length}
 use Rattle.play.specs.Player.{refusalText}
 use Rattle.turns.proofs.Lines.{line-le, wrote-put, wrote-refusal}
-use Rattle.turns.proofs.Turns.{block-size, next-more, next-end, next-bad, next-stopped, next-ran}
+use Rattle.turns.proofs.Turns.{block-size, numbers-size, next-more, next-end, next-bad, next-stopped, next-ran}
 use Rattle.turns.proofs.next_turn.Statement.{statement}
 use Rattle.turns.proofs.next_turn.Tie as tie
 
@@ -19,15 +19,19 @@ line-room : (c : tie.After-clock-of) → c .before .before .before .before .befo
 line-room c = omega (arith, c .before .before .before .before .before .pre .1 .0, c .clock-of .ensures, c .clock-of .ok)
 
 -- the sizes of a block
-sizes : (c : tie.After-answer) → (c .answer .given .0 .0 ≤ 16) × (c .answer .given .0 .1 .1 .0 ≤ 81)
-    × (length (c .before .before .before .read-block .result .records) ≡ 80)
+sizes : (c : tie.After-count) → (c .count .given .0 .0 ≤ 16) × (c .count .given .0 .1 .1 .0 ≤ 81)
+    × (length (c .before .before .read-block .last .1 .1 .1 .0) ≡ 80)
 sizes c =
-    let block = c .before .before .before in
-    let read = block .before in
+    let block = c .before .before in
+    let read = block .before .before in
     let start = read .before .before .before .before .before in
     let a = start .args in
-    block-size (a .last) (a .line) (a .text .now) (a .table .now) (a .out .now) (start .pre .0) (start .pre .1 .0)
-    (read .clock-of .result) (read .clock-of .ensures) (block .read-block .ensures) (c .answer .given .1)
+    let size = block-size (a .last) (a .line) (a .text .now) (a .table .now) (a .out .now) (start .pre .0) (start .pre .1 .0)
+    (read .clock-of .result) (read .clock-of .ensures) (block .read-block .ensures .0) (c .count .given .1) in
+    let length = numbers-size (a .last) (a .line) (a .text .now) (a .table .now) (a .out .now) (start .pre .0) (start .pre .1 .0)
+    (read .clock-of .result) (read .clock-of .ensures) (block .read-block .ensures .0) (c .count .given .1)
+    _ _ (block .read-block .ensures .1) refl in
+    (size .0, size .1, length)
 
 clock-of-requires : tie.Need-clock-of-requires
 clock-of-requires c κs = decode-length _ _ (c .before .before .before .before .pre .0)
@@ -35,8 +39,8 @@ clock-of-requires c κs = decode-length _ _ (c .before .before .before .before .
 read-block-requires : tie.Need-read-block-requires
 read-block-requires c κs = search needs
 
-enum-known-answer : tie.Need-enum-known-answer
-enum-known-answer c = search needs
+enum-known-count : tie.Need-enum-known-count
+enum-known-count c = search needs
 
 slice-aggregate-play-slot : tie.Need-slice-aggregate-play-slot
 slice-aggregate-play-slot c = sym (sizes (c .before .before) .2)
@@ -75,8 +79,8 @@ put-line-requires c κs = search needs
 over-requires-2 : tie.Need-over-requires-2
 over-requires-2 c κs = search needs
 
-enum-known-answer-2 : tie.Need-enum-known-answer-2
-enum-known-answer-2 c = search needs
+enum-known-k : tie.Need-enum-known-k
+enum-known-k c = search needs
 
 cast-put-refusal : tie.Need-cast-put-refusal
 cast-put-refusal c = search needs
@@ -103,12 +107,13 @@ returns : tie.Need-returns
 returns c =
     let played = c .before .before .before .before .before .before .before in
     let answer = played .before .before .before .before .before in
-    let block = answer .before .before .before in
-    let read = block .before in
+    let block = answer .before .before in
+    let read = block .before .before in
     let start = read .before .before .before .before .before in
     let a = start .args in
     next-ran (a .last) (a .line) (a .text .now) (a .table .now) (a .out .now) (start .pre .0) (start .pre .1 .0)
-    (read .clock-of .result) (read .clock-of .ensures) (block .read-block .ensures) (answer .answer .given .1)
+    (read .clock-of .result) (read .clock-of .ensures) (block .read-block .ensures .0) (answer .count .given .1)
+    _ _ (block .read-block .ensures .1) refl
     (played .play-slot .ensures) (c .before .written .given .1)
 
 same-length-3 : tie.Need-same-length-3
@@ -121,12 +126,13 @@ returns-2 : tie.Need-returns-2
 returns-2 c =
     let played = c .before .before .before .before .before .before .before .before in
     let answer = played .before .before .before .before .before in
-    let block = answer .before .before .before in
-    let read = block .before in
+    let block = answer .before .before in
+    let read = block .before .before in
     let start = read .before .before .before .before .before in
     let a = start .args in
     next-stopped (a .last) (a .line) (a .text .now) (a .table .now) (a .out .now) (start .pre .0) (start .pre .1 .0)
-    (read .clock-of .result) (read .clock-of .ensures) (block .read-block .ensures) (answer .answer .given .1)
+    (read .clock-of .result) (read .clock-of .ensures) (block .read-block .ensures .0) (answer .count .given .1)
+    _ _ (block .read-block .ensures .1) refl
     (played .play-slot .ensures) (c .before .before .written2 .given .1) (c .over .result .stage) (c .over .result .line)
     (c .over .result .used) (c .over .result .written) (c .over .ensures)
 
@@ -139,13 +145,13 @@ same-length-6 c = search needs
 returns-3 : tie.Need-returns-3
 returns-3 c =
     let put = c .before .before .before in
-    let block = put .before .before .before .before .before in
-    let read = block .before in
+    let block = put .before .before .before .before in
+    let read = block .before .before in
     let start = read .before .before .before .before .before in
     let a = start .args in
     let size = line-le End (read .clock-of .result) (fits32-i _ (omega (arith, read .clock-of .ok))) in
     next-end (a .last) (a .line) (a .text .now) (a .table .now) (a .out .now) (start .pre .0) (start .pre .1 .0)
-    (read .clock-of .result) (read .clock-of .ensures) (block .read-block .ensures) (put .put-line .last .0)
+    (read .clock-of .result) (read .clock-of .ensures) (block .read-block .ensures .0) (put .put-line .last .0)
     (c .over2 .result .stage) (c .over2 .result .line) (c .over2 .result .used) (put .put-line .result)
     (c .over2 .result .written) (c .over2 .ensures)
     (put .before .before .enum-told .given .1)
@@ -162,16 +168,16 @@ unfolding refusalText
 returns-4 c =
     let put = c .before .before .before in
     let told = put .before .before .before in
-    let block = told .before .before .before in
-    let read = block .before in
+    let block = told .before .before in
+    let read = block .before .before in
     let start = read .before .before .before .before .before in
     let a = start .args in
     next-bad (a .last) (a .line) (a .text .now) (a .table .now) (a .out .now) (start .pre .0) (start .pre .1 .0)
-    (read .clock-of .result) (read .clock-of .ensures) (block .read-block .ensures) (put .put-refusal .last .0)
+    (read .clock-of .result) (read .clock-of .ensures) (block .read-block .ensures .0) (put .put-refusal .last .0)
     (c .over3 .result .stage) (c .over3 .result .line) (c .over3 .result .used) (put .put-refusal .result)
     (c .over3 .result .written) (c .over3 .ensures)
-    (told .answer2 .given .1)
-    (wrote-refusal BadLine (a .line + told .answer2 .given .0 .0) (omega (arith, line-room read, put .before)) (start .pre .1 .1)
+    (told .k .given .1)
+    (wrote-refusal BadLine (a .line + told .k .given .0 .0) (omega (arith, line-room read, put .before)) (start .pre .1 .1)
     (omega (arith, start .good)) (put .put-refusal .ensures))
 
 same-length-9 : tie.Need-same-length-9
@@ -179,12 +185,12 @@ same-length-9 c = search needs
 
 returns-5 : tie.Need-returns-5
 returns-5 c =
-    let block = c .before .before .before in
-    let read = block .before in
+    let block = c .before .before in
+    let read = block .before .before in
     let start = read .before .before .before .before .before in
     let a = start .args in
     next-more (a .last) (a .line) (a .text .now) (a .table .now) (a .out .now) (start .pre .0) (start .pre .1 .0)
-    (read .clock-of .result) (read .clock-of .ensures) (block .read-block .ensures) (c .enum-told2 .given .1)
+    (read .clock-of .result) (read .clock-of .ensures) (block .read-block .ensures .0) (c .enum-told2 .given .1)
 
 pub next-turn-spec : {M : Type 1} → statement M
 next-turn-spec =
@@ -192,7 +198,7 @@ next-turn-spec =
     (tie.spec
     clock-of-requires
     read-block-requires
-    enum-known-answer
+    enum-known-count
     slice-aggregate-play-slot
     play-slot-requires
     enum-known-written
@@ -203,7 +209,7 @@ next-turn-spec =
     enum-told
     put-line-requires
     over-requires-2
-    enum-known-answer-2
+    enum-known-k
     cast-put-refusal
     add-put-refusal
     put-refusal-requires
