@@ -1,0 +1,347 @@
+-- The laws of sets by their members.
+--     has-setFrom, has-setOf, setOf-is      the members of the set at which a test holds, and when a set is that one
+--     setFrom-lt, setFrom-ext               its size as a number, and by what it is known
+--     minus-setFrom                         the difference of two such sets
+--     has-withOne, .., has-from             the members of the sets that the code makes
+--     first-is, first-before, first-member  what the first member is
+--     members-none, members-cons            the members of the empty set; of another, the first and those of the rest
+--     members-in, in-members                which numbers are listed
+--     members-rising                        in which order
+--     members-setFrom                       the numbers of a run that pass a test
+--     Visited, visited-..                   a loop over a set: the members passed, rising, and those left
+use mathlib.Core.Path.{_≡_, refl, sym, ap, ap₂, _∙_, subst}
+use mathlib.Core.Bool.{Bool, true, false, not, cond, _&&_, _||_, and-true}
+use mathlib.Core.Logic.{_⊎_, inl, inr}
+use mathlib.Core.List.{List, [], _∷_, _++_, map, append-assoc, append-nil}
+use mathlib.Core.List.{List·Memᴰ, List·Memᴰ·head, Memᴰ·append-right}
+use Prim.Native.Nat.{ℕ, zero, suc, _+_, _-_, _*_, _/_, _%_, _^_, _≤_, _<_}
+use native.Mathlib.Nat.{pow-suc, add-zero, zero-add}
+use native.Mathlib.Numerals.{add-one}
+use native.Mathlib.Omega.{arith}
+use borrow.Author.Tests.{lt-ltb, le-ltb, ltb-true, ltb-false, eq-eqb, ne-eqb}
+use lib.Bits.{bitAnd, and-le-l, and-le-r}
+use lib.Count.{trailingZeros, trailing-le, ones, ones-step}
+use lib.Dec.{eqb, ltb, leb·suc-suc, leb·zero, leb·suc-zero}
+use lib.ListN.{length}
+use lib.Pow.{pow-mono}
+use Rattle.laws.specs.Lists.{keep, all?, count, pairwise, numbersFrom, upTo}
+use Rattle.laws.proofs.Tests.{either, and-i, and-false-l, and-false-r}
+use Rattle.laws.proofs.Lists.{keep-append, keep-pass, keep-fail, keep-none, keep-ext, keep-map, keep-mem, mem-keep}
+use Rattle.laws.proofs.Lists.{none?-i, all?-i}
+use Rattle.laws.proofs.Pairwise.{pairwise-keep}
+use Rattle.laws.proofs.Count.{count-cons, count-ext, count-map, length-keep}
+use Rattle.laws.proofs.Numbers.{numbersFrom-add, numbersFrom-mem, mem-numbersFrom}
+use Rattle.sets.specs.Sets.{positions, has, pushed, setFrom, setOf, withOne, withoutOne, minus, below, from, members}
+use Rattle.sets.specs.Sets.{headOr, firstOf, restOf}
+use Rattle.sets.proofs.Digits.{has-zero, has-suc, has-past, same-members, has-and, has-pred, digit, half-lt}
+use Rattle.sets.proofs.Digits.{trailing-none, trailing-member}
+
+------------------------------------------------------------------------
+-- the set of the positions at which a test holds
+
+pushed-half : (set : ℕ) (member : Bool) → pushed set member / 2 ≡ set
+pushed-half set true = omega arith
+pushed-half set false = omega arith
+
+pushed-last : (set : ℕ) (member : Bool) → eqb (pushed set member % 2) 1 ≡ member
+pushed-last set true = let odd : (2 * set + 1) % 2 ≡ 1 = omega arith in ap (λ n. eqb n 1) odd
+pushed-last set false = let even : (2 * set + 0) % 2 ≡ 0 = omega arith in ap (λ n. eqb n 1) even
+
+pub has-setFrom : (p : ℕ → Bool) (k n j : ℕ) → has (setFrom p k n) j ≡ (ltb j n && p (k + j))
+unfolding setFrom
+has-setFrom p k zero j = has-past 0 0 j (omega arith) (omega arith) ∙ ap (λ b. b && p (k + j)) (sym (leb·suc-zero j))
+has-setFrom p k (suc n) zero =
+    has-zero (setFrom p k (suc n))
+    ∙ pushed-last (setFrom p (k + 1) n) (p k)
+    ∙ ap₂ (λ b i. b && p i) (sym (leb·suc-suc 0 n ∙ leb·zero n)) (sym (add-zero k))
+has-setFrom p k (suc n) (suc j) =
+    let next : k + 1 + j ≡ k + suc j = omega arith in
+    has-suc (setFrom p k (suc n)) j
+    ∙ ap (λ s. has s j) (pushed-half (setFrom p (k + 1) n) (p k))
+    ∙ has-setFrom p (k + 1) n j
+    ∙ ap₂ (λ b i. b && p i) (sym (leb·suc-suc (suc j) n)) next
+
+pub setFrom-lt : (p : ℕ → Bool) (k n : ℕ) → setFrom p k n < 2 ^ n
+unfolding setFrom
+setFrom-lt p k zero = omega arith
+setFrom-lt p k (suc n) = twice (p k) (setFrom-lt p (k + 1) n)
+  where
+    twice : (b : Bool) → setFrom p (k + 1) n < 2 ^ n → pushed (setFrom p (k + 1) n) b < 2 ^ suc n
+    twice true h = omega (arith, pow-suc 2 n)
+    twice false h = omega (arith, pow-suc 2 n)
+
+pub setFrom-ext : (p q : ℕ → Bool) (k n : ℕ) → ((j : ℕ) → j < n → p (k + j) ≡ q (k + j)) → setFrom p k n ≡ setFrom q k n
+setFrom-ext p q k n same =
+    same-members n (setFrom p k n) (setFrom q k n) (setFrom-lt p k n) (setFrom-lt q k n)
+    (λ j h. has-setFrom p k n j ∙ ap (λ b. ltb j n && b) (same j h) ∙ sym (has-setFrom q k n j))
+
+module _ (p : ℕ → Bool) where
+  pub has-setOf : (j : ℕ) → j < positions → has (setOf p) j ≡ p j
+  unfolding setOf
+  has-setOf j h = has-setFrom p 0 positions j ∙ ap₂ (λ b i. b && p i) (lt-ltb j positions h) (zero-add j)
+
+  pub setOf-lt : setOf p < 2 ^ positions
+  unfolding setOf
+  setOf-lt = setFrom-lt p 0 positions
+
+  -- a set whose members are the positions at which the test holds
+  pub setOf-is : (set : ℕ) → set < 2 ^ positions → ((j : ℕ) → j < positions → has set j ≡ p j) → set ≡ setOf p
+  setOf-is set h same =
+      same-members positions set (setOf p) h setOf-lt (λ j k. same j k ∙ sym (has-setOf j k))
+
+-- a set of fewer positions is one of them all
+setFrom-fits : (p : ℕ → Bool) (k n : ℕ) → n ≤ positions → setFrom p k n < 2 ^ positions
+setFrom-fits p k n h = let most : 2 ^ n ≤ 2 ^ positions = pow-mono h in omega (arith, setFrom-lt p k n)
+
+pub minus-setFrom : (p q : ℕ → Bool) (k n : ℕ) → n ≤ positions
+    → minus (setFrom p k n) (setFrom q k n) ≡ setFrom (λ i. p i && not (q i)) k n
+unfolding minus
+minus-setFrom p q k n h =
+    sym (setOf-is _ (setFrom (λ i. p i && not (q i)) k n) (setFrom-fits (λ i. p i && not (q i)) k n h)
+    (λ j l. has-setFrom (λ i. p i && not (q i)) k n j
+    ∙ go (ltb j n) (p (k + j)) (q (k + j))
+    ∙ ap₂ (λ b c. b && not c) (sym (has-setFrom p k n j)) (sym (has-setFrom q k n j))))
+  where
+    go : (b x y : Bool) → (b && (x && not y)) ≡ ((b && x) && not (b && y))
+    go true x y = refl
+    go false x y = refl
+
+-- each position by the sets and the position that a set is made of
+module _ (set k j : ℕ) (position : j < positions) where
+  pub has-withOne : has (withOne set k) j ≡ (has set j || eqb j k)
+  unfolding withOne
+  has-withOne = has-setOf (λ j. has set j || eqb j k) j position
+
+  pub has-withoutOne : has (withoutOne set k) j ≡ (has set j && not (eqb j k))
+  unfolding withoutOne
+  has-withoutOne = has-setOf (λ j. has set j && not (eqb j k)) j position
+
+  pub has-minus : has (minus set k) j ≡ (has set j && not (has k j))
+  unfolding minus
+  has-minus = has-setOf (λ j. has set j && not (has k j)) j position
+
+  pub has-below : has (below set k) j ≡ (has set j && ltb j k)
+  unfolding below
+  has-below = has-setOf (λ j. has set j && ltb j k) j position
+
+  pub has-from : has (from set k) j ≡ (has set j && not (ltb j k))
+  unfolding from
+  has-from = has-setOf (λ j. has set j && not (ltb j k)) j position
+
+------------------------------------------------------------------------
+-- members
+
+-- the positions after one
+abbrev after : ℕ → List ℕ
+after f = numbersFrom (f + 1) (positions - 1 - f)
+
+module _ (set f : ℕ) (position : f < positions) (before : (j : ℕ) → j < f → has set j ≡ false) where
+  positions-split : upTo positions ≡ numbersFrom 0 f ++ (f ∷ after f)
+  unfolding upTo numbersFrom
+  positions-split =
+      let size : positions ≡ f + suc (positions - 1 - f) = omega arith in
+      ap (numbersFrom 0) size
+      ∙ numbersFrom-add 0 f (suc (positions - 1 - f))
+      ∙ ap (λ k. numbersFrom 0 f ++ numbersFrom k (suc (positions - 1 - f))) (zero-add f)
+
+  members-later : members set ≡ keep (has set) (f ∷ after f)
+  unfolding members
+  members-later =
+      ap (keep (has set)) positions-split
+      ∙ keep-append (has set) (numbersFrom 0 f) (f ∷ after f)
+      ∙ ap (λ l. l ++ keep (has set) (f ∷ after f))
+      (keep-none (has set) (numbersFrom 0 f)
+      (none?-i (has set) (numbersFrom 0 f) (λ j m. before j (omega (arith, mem-numbersFrom 0 f m)))))
+
+  first-member-list : has set f ≡ true → members set ≡ f ∷ keep (has set) (after f)
+  first-member-list member = members-later ∙ keep-pass (has set) f (after f) member
+
+-- no position before f is a member, and f is, if it is a position
+module _ (set f : ℕ) (position : f ≤ positions) (before : (j : ℕ) → j < f → has set j ≡ false)
+    (member : f < positions → has set f ≡ true) where
+  pub first-is : firstOf set ≡ f
+  unfolding firstOf members upTo
+  first-is = go (either (ltb f positions))
+    where
+      go : (ltb f positions ≡ true) ⊎ (ltb f positions ≡ false) → firstOf set ≡ f
+      go (inl t) =
+          let inside : f < positions = ltb-true f positions t in
+          ap (headOr positions) (first-member-list set f inside before (member inside))
+      go (inr t) =
+          let end : f ≡ positions = omega (arith, ltb-false f positions t) in
+          ap (headOr positions)
+          (keep-none (has set) (numbersFrom 0 positions)
+          (none?-i (has set) (numbersFrom 0 positions)
+          (λ j m. before j (omega (arith, mem-numbersFrom 0 positions m)))))
+          ∙ sym end
+
+pub first-trailing : (set : ℕ) → trailingZeros positions set ≡ firstOf set
+first-trailing set =
+    sym (first-is set (trailingZeros positions set) (trailing-le positions set) (trailing-none positions set)
+    (trailing-member positions set))
+
+pub first-before : (set j : ℕ) → j < firstOf set → has set j ≡ false
+first-before set j h = trailing-none positions set j (omega (arith, first-trailing set))
+
+-- a set that is not empty
+module _ (set : ℕ) (some : 0 < set) (fits : set < 2 ^ positions) where
+  pub first-position : firstOf set < positions
+  first-position = go (either (ltb (firstOf set) positions))
+    where
+      go : (ltb (firstOf set) positions ≡ true) ⊎ (ltb (firstOf set) positions ≡ false) → firstOf set < positions
+      go (inl t) = ltb-true (firstOf set) positions t
+      go (inr t) =
+          let none : set ≡ 0 =
+          same-members positions set 0 fits (omega arith)
+          (λ j h. first-before set j (omega (arith, ltb-false (firstOf set) positions t))
+          ∙ sym (has-past 0 0 j (omega arith) (omega arith))) in
+          absurd (omega arith)
+
+  pub first-member : has set (firstOf set) ≡ true
+  first-member =
+      ap (has set) (sym (first-trailing set))
+      ∙ trailing-member positions set (omega (arith, first-trailing set, first-position))
+
+  pub rest-and : bitAnd set (set - 1) ≡ restOf set
+  unfolding restOf withoutOne
+  rest-and =
+      setOf-is (λ j. has set j && not (eqb j (firstOf set))) (bitAnd set (set - 1)) (omega (arith, and-le-l set (set - 1)))
+      (λ j h. has-and set (set - 1) j
+      ∙ has-pred positions set j some fits
+      ∙ ap (λ f. has set j && not (eqb j f)) (first-trailing set))
+
+  pub rest-less : restOf set < set
+  rest-less = omega (arith, rest-and, and-le-r set (set - 1))
+
+  has-restOf : (j : ℕ) → j < positions → has (restOf set) j ≡ (has set j && not (eqb j (firstOf set)))
+  unfolding restOf withoutOne
+  has-restOf = has-setOf (λ j. has set j && not (eqb j (firstOf set)))
+
+  pub members-cons : members set ≡ firstOf set ∷ members (restOf set)
+  members-cons =
+      let f = firstOf set in
+      first-member-list set f first-position (first-before set) first-member
+      ∙ ap (λ l. f ∷ l)
+      (keep-ext (has set) (has (restOf set)) (after f) behind
+      ∙ sym
+      (members-later (restOf set) f first-position
+      (λ j h. has-restOf j (omega (arith, first-position))
+      ∙ and-false-l (has set j) (not (eqb j f)) (first-before set j h))
+      ∙ keep-fail (has (restOf set)) f (after f)
+      (has-restOf f first-position ∙ and-false-r (has set f) (not (eqb f f)) (ap not (eq-eqb f f refl)))))
+    where
+      behind : (j : ℕ) → List·Memᴰ j (after (firstOf set))
+          → has set j ≡ has (restOf set) j
+      behind j m =
+          let b = mem-numbersFrom (firstOf set + 1) (positions - 1 - firstOf set) m in
+          let other : j ≡ firstOf set → ⊥ = λ e. omega arith in
+          sym
+          (has-restOf j (omega (arith, first-position))
+          ∙ ap (λ b. has set j && not b) (ne-eqb j (firstOf set) other)
+          ∙ and-true (has set j))
+
+pub members-none : members 0 ≡ []
+unfolding members
+members-none =
+    keep-none (has 0) (upTo positions)
+    (none?-i (has 0) (upTo positions) (λ j m. has-past 0 0 j (omega arith) (omega arith)))
+
+pub members-in : (set j : ℕ) → j < positions → has set j ≡ true → List·Memᴰ j (members set)
+unfolding members upTo
+members-in set j h member = keep-mem (has set) (numbersFrom-mem 0 positions (omega arith) (omega arith)) member
+
+pub in-members : (set : ℕ) {j : ℕ} → List·Memᴰ j (members set) → (j < positions) × (has set j ≡ true)
+unfolding members upTo
+in-members set m =
+    let k = mem-keep (has set) (numbersFrom 0 positions) m in
+    (omega (arith, mem-numbersFrom 0 positions (k .0)), k .1)
+
+numbersFrom-rising : (k n : ℕ) → pairwise ltb (numbersFrom k n) ≡ true
+unfolding numbersFrom pairwise
+numbersFrom-rising k zero = refl
+numbersFrom-rising k (suc n) =
+    and-i (all? (ltb k) (numbersFrom (k + 1) n)) (pairwise ltb (numbersFrom (k + 1) n))
+    (all?-i (ltb k) (numbersFrom (k + 1) n) (λ j m. lt-ltb k j (omega (arith, mem-numbersFrom (k + 1) n m))))
+    (numbersFrom-rising (k + 1) n)
+
+pub members-rising : (set : ℕ) → pairwise ltb (members set) ≡ true
+unfolding members upTo
+members-rising set = pairwise-keep ltb (has set) (numbersFrom 0 positions) (numbersFrom-rising 0 positions)
+
+-- the numbers from k on, by their distance from it
+numbersFrom-shift : (k a n : ℕ) → map (λ j. k + j) (numbersFrom a n) ≡ numbersFrom (k + a) n
+unfolding numbersFrom
+numbersFrom-shift k a zero = refl
+numbersFrom-shift k a (suc n) =
+    let next : k + (a + 1) ≡ k + a + 1 = omega arith in
+    ap (λ l. (k + a) ∷ l) (numbersFrom-shift k (a + 1) n ∙ ap (λ b. numbersFrom b n) next)
+
+pub members-setFrom : (p : ℕ → Bool) (k n : ℕ) → n ≤ positions
+    → map (λ j. k + j) (members (setFrom p k n)) ≡ keep p (numbersFrom k n)
+unfolding members upTo
+members-setFrom p k n h =
+    let set = setFrom p k n in
+    let size : positions ≡ n + (positions - n) = omega arith in
+    let all : members set ≡ keep (λ j. p (k + j)) (numbersFrom 0 n) =
+    ap (λ m. keep (has set) (numbersFrom 0 m)) size
+    ∙ ap (keep (has set)) (numbersFrom-add 0 n (positions - n))
+    ∙ keep-append (has set) (numbersFrom 0 n) (numbersFrom (0 + n) (positions - n))
+    ∙ ap₂ _++_
+    (keep-ext (has set) (λ j. p (k + j)) (numbersFrom 0 n)
+    (λ j m. has-setFrom p k n j ∙ ap (λ b. b && p (k + j)) (lt-ltb j n (omega (arith, mem-numbersFrom 0 n m)))))
+    (keep-none (has set) (numbersFrom (0 + n) (positions - n))
+    (none?-i (has set) (numbersFrom (0 + n) (positions - n))
+    (λ j m. has-setFrom p k n j
+    ∙ ap (λ b. b && p (k + j)) (le-ltb j n (omega (arith, mem-numbersFrom (0 + n) (positions - n) m))))))
+    ∙ append-nil (keep (λ j. p (k + j)) (numbersFrom 0 n)) in
+    ap (map (λ j. k + j)) all
+    ∙ sym (keep-map p (λ j. k + j) (numbersFrom 0 n))
+    ∙ ap (keep p) (numbersFrom-shift k 0 n ∙ ap (λ b. numbersFrom b n) (add-zero k))
+
+-- how many there are
+numbersFrom-suc : (k n : ℕ) → map suc (numbersFrom k n) ≡ numbersFrom (k + 1) n
+unfolding numbersFrom
+numbersFrom-suc k zero = refl
+numbersFrom-suc k (suc n) = ap₂ _∷_ (sym (add-one k)) (numbersFrom-suc (k + 1) n)
+
+pub ones-count : (d set : ℕ) → set < 2 ^ d → ones set ≡ count (has set) (numbersFrom 0 d)
+unfolding numbersFrom ones count
+ones-count zero set h = let none : set ≡ 0 = omega arith in ap ones none
+ones-count (suc d) set h =
+    ones-step set
+    ∙ ap₂ _+_ (digit set ∙ ap (λ b. cond b 1 0) (sym (has-zero set)))
+    (ones-count d (set / 2) (half-lt d set h)
+    ∙ sym (count-ext (λ j. has set (suc j)) (has (set / 2)) (numbersFrom 0 d) (λ j m. has-suc set j))
+    ∙ sym (count-map (has set) suc (numbersFrom 0 d))
+    ∙ ap (count (has set)) (numbersFrom-suc 0 d))
+    ∙ sym (count-cons (has set) 0 (numbersFrom 1 d))
+
+------------------------------------------------------------------------
+-- a loop over a set that takes the first of those left
+
+pub record Visited (set left : ℕ) : Type 0 where
+  pub passed : List ℕ
+  pub split : members set ≡ passed ++ members left
+
+pub visited-start : (set : ℕ) → Visited set set
+visited-start set = record { passed = []; split = refl }
+
+pub visited-next : {set left : ℕ} → Visited set left → 0 < left → left < 2 ^ positions → Visited set (restOf left)
+visited-next {set} {left} v some fits =
+    record {
+      passed = v .passed ++ (firstOf left ∷ []);
+      split =
+          v .split
+          ∙ ap (λ l. v .passed ++ l) (members-cons left some fits)
+          ∙ sym (append-assoc (v .passed) (firstOf left ∷ []) (members (restOf left)));
+    }
+
+-- the member at hand is one of the set
+pub visited-member : {set left : ℕ} → Visited set left → 0 < left → left < 2 ^ positions
+    → List·Memᴰ (firstOf left) (members set)
+visited-member {set} {left} v some fits =
+    subst (List·Memᴰ (firstOf left)) (sym (v .split ∙ ap (λ l. v .passed ++ l) (members-cons left some fits)))
+    (Memᴰ·append-right (v .passed) (List·Memᴰ·head refl))
+
+pub visited-end : {set : ℕ} (v : Visited set 0) → members set ≡ v .passed
+visited-end v = v .split ∙ ap (λ l. v .passed ++ l) members-none ∙ append-nil (v .passed)

@@ -1,0 +1,81 @@
+-- The sets that the code makes, as operations on digits.
+use mathlib.Core.Path.{_≡_, refl, sym, ap, ap₂, _∙_}
+use mathlib.Core.Bool.{true, not, _&&_, _||_}
+use Prim.Native.Nat.{ℕ, suc, _+_, _-_, _*_, _/_, _%_, _^_, _≤_, _<_}
+use native.Mathlib.Nat.{one-mul, mod-eq-of-lt, pow-suc}
+use native.Mathlib.Omega.{arith}
+use lib.Arith.{digits-div}
+use lib.Bits.{bitAnd, bitOr, and-le-l, or-lt}
+use lib.Count.{leadingZeros, leading-top, ones}
+use lib.Dec.{eqb, ltb}
+use lib.Pow.{pow-lt, ones-lt}
+use Rattle.laws.specs.Lists.{upTo}
+use Rattle.laws.proofs.Count.{length-keep}
+use Rattle.sets.specs.Sets.{positions, has, withOne, withoutOne, minus, below, from, members, sizeOf, Last}
+use Rattle.sets.proofs.Digits.{has-past, has-and, has-or, has-not, has-one, has-ones}
+use Rattle.sets.proofs.Members.{setOf-is, ones-count}
+
+-- one position as a set
+pub shifted-one : (k : ℕ) → k < positions → 1 * 2 ^ k % 2 ^ positions ≡ 2 ^ k
+shifted-one k h = ap (λ n. n % 2 ^ positions) (one-mul (2 ^ k)) ∙ mod-eq-of-lt (pow-lt h)
+
+module _ (set : ℕ) (fits : set < 2 ^ positions) where
+  and-fits : (mask : ℕ) → bitAnd set mask < 2 ^ positions
+  and-fits mask = omega (arith, and-le-l set mask)
+
+  module _ (k : ℕ) (position : k < positions) where
+    pub withOne-or : bitOr set (1 * 2 ^ k % 2 ^ positions) ≡ withOne set k
+    unfolding withOne
+    withOne-or =
+        ap (bitOr set) (shifted-one k position)
+        ∙ setOf-is (λ j. has set j || eqb j k) (bitOr set (2 ^ k)) (or-lt positions set (2 ^ k) fits (pow-lt position))
+        (λ j h. has-or set (2 ^ k) j ∙ ap (λ b. has set j || b) (has-one k j))
+
+    pub withoutOne-and : bitAnd set (2 ^ positions - 1 - 1 * 2 ^ k % 2 ^ positions) ≡ withoutOne set k
+    unfolding withoutOne
+    withoutOne-and =
+        let others = 2 ^ positions - 1 - 2 ^ k in
+        ap (λ n. bitAnd set (2 ^ positions - 1 - n)) (shifted-one k position)
+        ∙ setOf-is (λ j. has set j && not (eqb j k)) (bitAnd set others) (and-fits others)
+        (λ j h. has-and set others j
+        ∙ ap (λ b. has set j && b) (has-not positions (2 ^ k) j (pow-lt position) h ∙ ap not (has-one k j)))
+
+    pub below-and : bitAnd set (1 * 2 ^ k % 2 ^ positions - 1) ≡ below set k
+    unfolding below
+    below-and =
+        ap (λ n. bitAnd set (n - 1)) (shifted-one k position)
+        ∙ setOf-is (λ j. has set j && ltb j k) (bitAnd set (2 ^ k - 1)) (and-fits (2 ^ k - 1))
+        (λ j h. has-and set (2 ^ k - 1) j ∙ ap (λ b. has set j && b) (has-ones k j))
+
+    pub from-and : bitAnd set (2 ^ positions - 1 - (1 * 2 ^ k % 2 ^ positions - 1)) ≡ from set k
+    unfolding from
+    from-and =
+        let others = 2 ^ positions - 1 - (2 ^ k - 1) in
+        let few : 2 ^ k - 1 < 2 ^ positions = omega (arith, ones-lt k, pow-lt position) in
+        ap (λ n. bitAnd set (2 ^ positions - 1 - (n - 1))) (shifted-one k position)
+        ∙ setOf-is (λ j. has set j && not (ltb j k)) (bitAnd set others) (and-fits others)
+        (λ j h. has-and set others j
+        ∙ ap (λ b. has set j && b) (has-not positions (2 ^ k - 1) j few h ∙ ap not (has-ones k j)))
+
+  pub minus-and : (b : ℕ) → b < 2 ^ positions → bitAnd set (2 ^ positions - 1 - b) ≡ minus set b
+  unfolding minus
+  minus-and b small =
+      setOf-is (λ j. has set j && not (has b j)) (bitAnd set (2 ^ positions - 1 - b)) (and-fits (2 ^ positions - 1 - b))
+      (λ j h. has-and set (2 ^ positions - 1 - b) j ∙ ap (λ t. has set j && t) (has-not positions b j small h))
+
+  pub size-ones : ones set ≡ sizeOf set
+  unfolding sizeOf members upTo
+  size-ones = ones-count positions set fits ∙ sym (length-keep (has set) _)
+
+  pub last-leading : 0 < set → (leadingZeros positions set ≤ 63) × Last set (63 - leadingZeros positions set)
+  unfolding has
+  last-leading some = go (leading-top positions set some fits)
+    where
+      go : (j : ℕ) × (leadingZeros positions set + suc j ≡ positions) × (2 ^ j ≤ set) × (set < 2 ^ suc j)
+          → (leadingZeros positions set ≤ 63) × Last set (63 - leadingZeros positions set)
+      go (j, sum, low, high) =
+          let last : 63 - leadingZeros positions set ≡ j = omega arith in
+          let rest : set - 2 ^ j < 2 ^ j = omega (arith, pow-suc 2 j) in
+          let top : set ≡ 1 * 2 ^ j + (set - 2 ^ j) = omega arith in
+          let one : set / 2 ^ j ≡ 1 = ap (λ n. n / 2 ^ j) top ∙ digits-div 1 rest in
+          (omega arith, rw last (record { member = ap (λ n. eqb (n % 2) 1) one; after = λ i h. has-past (suc j) set i high h }))

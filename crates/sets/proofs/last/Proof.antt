@@ -1,0 +1,14 @@
+-- Above the last member stand the leading zeros.
+use native.Mathlib.Omega.{arith}
+use Rattle.sets.proofs.Operations.{last-leading}
+use Rattle.sets.proofs.last.Statement.{statement}
+use Rattle.sets.proofs.last.Tie as tie
+
+sub-result : tie.Need-sub-result
+sub-result c = omega (arith, last-leading (c .args .set) (c .fits .set .fits) (c .pre) .0)
+
+returns : tie.Need-returns
+returns c = last-leading (c .args .set) (c .fits .set .fits) (c .pre) .1
+
+pub last-spec : {M : Type 1} → statement M
+last-spec = tie.close (tie.spec sub-result returns)

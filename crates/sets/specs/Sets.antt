@@ -1,0 +1,71 @@
+-- Sets of positions below 64, as the bits of a number.
+--     has set j       position j is a member
+--     setFrom p k n   those of the first n positions, counted from k, at which the test holds
+--     setOf p         the positions at which the test holds
+--     members set     the members, rising
+--     firstOf set     the first member; 64 where there is none
+use Prim.Native.Nat.{ℕ, zero, suc, _+_, _*_, _/_, _%_, _^_, _<_}
+use mathlib.Core.Bool.{Bool, true, false, cond, not, _&&_, _||_}
+use mathlib.Core.Path.{_≡_}
+use mathlib.Core.List.{List, [], _∷_}
+use lib.Dec.{eqb, ltb}
+use lib.ListN.{length}
+use Rattle.laws.specs.Lists.{keep, upTo}
+
+abbrev pub positions : ℕ
+positions = 64
+
+unfoldable pub has : ℕ → ℕ → Bool
+has set j = eqb (set / 2 ^ j % 2) 1
+
+-- a set with each member one position later, and position 0 a member or not
+abbrev pub pushed : ℕ → Bool → ℕ
+pushed set member = 2 * set + cond member 1 0
+
+-- position j is a member if j is below n and the test holds of k + j
+unfoldable pub setFrom : (ℕ → Bool) → ℕ → ℕ → ℕ
+setFrom p k zero = 0
+setFrom p k (suc n) = pushed (setFrom p (k + 1) n) (p k)
+
+unfoldable pub setOf : (ℕ → Bool) → ℕ
+setOf p = setFrom p 0 positions
+
+-- with one position more, and with one less
+unfoldable pub withOne : ℕ → ℕ → ℕ
+withOne set k = setOf (λ j. has set j || eqb j k)
+
+unfoldable pub withoutOne : ℕ → ℕ → ℕ
+withoutOne set k = setOf (λ j. has set j && not (eqb j k))
+
+-- the members of one set that another does not have
+unfoldable pub minus : ℕ → ℕ → ℕ
+minus a b = setOf (λ j. has a j && not (has b j))
+
+-- the members before a position, and those from it on
+unfoldable pub below : ℕ → ℕ → ℕ
+below set k = setOf (λ j. has set j && ltb j k)
+
+unfoldable pub from : ℕ → ℕ → ℕ
+from set k = setOf (λ j. has set j && not (ltb j k))
+
+unfoldable pub members : ℕ → List ℕ
+members set = keep (has set) (upTo positions)
+
+-- the first of a list, or another number where it is empty
+abbrev pub headOr : ℕ → List ℕ → ℕ
+headOr n [] = n
+headOr n (x ∷ l) = x
+
+unfoldable pub firstOf : ℕ → ℕ
+firstOf set = headOr positions (members set)
+
+unfoldable pub restOf : ℕ → ℕ
+restOf set = withoutOne set (firstOf set)
+
+unfoldable pub sizeOf : ℕ → ℕ
+sizeOf set = length (members set)
+
+-- r is the last member
+pub record Last (set r : ℕ) : Type 0 where
+  pub member : has set r ≡ true
+  pub after : (j : ℕ) → r < j → has set j ≡ false
