@@ -2,9 +2,8 @@
 --     headerIn-known, -more, nextIn-known, -more   a piece of a text
 --     opening-short, -bad-ports, ..                the header
 --     block-known, -more                           a block, or the end
---     numbers-known, -more, -end                   the numbers that the block's reader was lent
---     end-bad, -other, -more, -end                 by the line of `end`
---     slot-bad, -other, -same, -whole              by the line of `slot`
+--     end-bad, -other, -more, -end, numbers-end    by the line of `end`
+--     slot-bad, -other, -same                      by the line of `slot`
 use Prim.Native.Nat.{ℕ, _+_, _-_, _≤_, _<_}
 use native.Mathlib.Omega.{arith}
 use mathlib.Core.Bool.{Bool, true, false}
@@ -20,11 +19,12 @@ use Rattle.cell.specs.declared.Refusal.the-variants.{BadSize, BadLine}
 use Rattle.cell.specs.Limits.{portsInRange}
 use Rattle.trace.specs.declared.Key.the-variants.{Ports, First, Slot, End as EndKey}
 use Rattle.trace.specs.declared.Opening.the-variants.{Open, Refused, Short}
+use Rattle.trace.specs.declared.Answer.{Answer}
 use Rattle.trace.specs.declared.Answer.the-variants.{End, Bad, More}
 use Rattle.trace.specs.Contents.{blockLimit}
 use Rattle.trace.specs.Reader.{Cursor, Read, got, badAt, number, exactly, begins, arrivals, block}
 use Rattle.trace.specs.Reader.{Next, finished, faulty, afterEnd, next, refusedAt, header}
-use Rattle.trace.specs.Piece.{known, more, decided, nextIn, headerIn, numbersOf, answerOf, openingOf}
+use Rattle.trace.specs.Piece.{Piece, known, more, decided, nextIn, headerIn, numbersOf, answerOf, openingOf}
 use Rattle.reader.specs.Reading.{from, ahead, wholeArrivals, wholeOf, numbersAfter}
 use Rattle.trace.proofs.Blocks.{bind-got, bind-bad, exactly-same, exactly-other, exactly-bad, afterEnd-nil, afterEnd-cons}
 use Rattle.trace.proofs.Blocks.{next-block, next-no-block, next-last, next-no-last}
@@ -82,26 +82,18 @@ answerOf-faulty : (t : List ℕ) {n : Next} {l : ℕ} → n ≡ faulty l → Bad
 unfolding answerOf
 answerOf-faulty t h = rw (h, answerOf)
 
-answerOf-finished : (t : List ℕ) {n : Next} → n ≡ finished → End ≡ answerOf t (known n)
-unfolding answerOf
-answerOf-finished t h = rw (h, answerOf)
+-- what is answered, and the numbers that were lent, by what stands in the text
+abbrev Left : ℕ → List ℕ → List ℕ → Piece Next → Answer → List ℕ → Type 0
+Left clock t ns x r ms = (r ≡ answerOf t x) × (ms ≡ numbersAfter (wholeOf clock (from 0 t)) x ns)
 
 module _ (last : Bool) (clock : ℕ) (t : List ℕ) where
-  pub block-more : decided last t ≡ false → More ≡ answerOf t (nextIn last clock t)
-  unfolding answerOf
-  block-more h = rw (nextIn-more last t clock h)
+  pub block-more : decided last t ≡ false → (ns : List ℕ) → Left clock t ns (nextIn last clock t) More ns
+  unfolding answerOf numbersAfter
+  block-more h ns = rw (nextIn-more last t clock h) (refl, refl)
 
-  pub block-known : decided last t ≡ true → answerOf t (known (next clock (from 0 t))) ≡ answerOf t (nextIn last clock t)
-  block-known h = ap (answerOf t) (sym (nextIn-known last t clock h))
-
-  module _ (whole : List Arrival) (ns : List ℕ) where
-    pub numbers-more : decided last t ≡ false → ns ≡ numbersAfter whole (nextIn last clock t) ns
-    unfolding numbersAfter
-    numbers-more h = rw (nextIn-more last t clock h)
-
-    pub numbers-known : decided last t ≡ true
-        → numbersAfter whole (known (next clock (from 0 t))) ns ≡ numbersAfter whole (nextIn last clock t) ns
-    numbers-known h = ap (λ x. numbersAfter whole x ns) (sym (nextIn-known last t clock h))
+  pub block-known : decided last t ≡ true → (ns : List ℕ) {r : Answer} {ms : List ℕ}
+      → Left clock t ns (known (next clock (from 0 t))) r ms → Left clock t ns (nextIn last clock t) r ms
+  block-known h ns e = rw (nextIn-known last t clock h) e
 
 -- a fault before any arrival
 numbers-faulty : (ns : List ℕ) {n : Next} {l : ℕ} {whole : List Arrival} → n ≡ faulty l → whole ≡ []
@@ -127,10 +119,13 @@ module _ (clock : ℕ) (t : List ℕ) where
           ∙ afterEnd-cons (from 1 (drop i t)) (drop-cons t i 0 l))
 
       pub end-end : n ≡ clock → length t ≤ i → End ≡ answerOf t (known (next clock (from 0 t)))
+      unfolding answerOf
       end-end h l =
-          answerOf-finished t
-          (next-last clock (from 0 t) b (exactly-same EndKey clock (from 0 t) p (eq-eqb n clock h))
-          ∙ afterEnd-nil (from 1 (drop i t)) (drop-of-length-le t l))
+          rw (
+            next-last clock (from 0 t) b (exactly-same EndKey clock (from 0 t) p (eq-eqb n clock h))
+                ∙ afterEnd-nil (from 1 (drop i t)) (drop-of-length-le t l),
+            answerOf,
+          )
 
     -- no numbers come with it
     pub numbers-end : (ns : List ℕ) → ns ≡ numbersAfter (wholeOf clock (from 0 t)) (known (next clock (from 0 t))) ns
@@ -162,22 +157,18 @@ module _ (clock : ℕ) (t : List ℕ) where
         go (badAt l) e = next-no-block clock (from 0 t) b e ∙ sym (rw e)
 
     slot-fault : exactly Slot clock (from 0 t) ≡ badAt 0 → (ns : List ℕ)
-        → (Bad 0 ≡ answerOf t (known (next clock (from 0 t))))
-        × (ns ≡ numbersAfter (wholeOf clock (from 0 t)) (known (next clock (from 0 t))) ns)
+        → Left clock t ns (known (next clock (from 0 t))) (Bad 0) ns
     unfolding block wholeOf
     slot-fault h ns =
         let n = next-no-block clock (from 0 t) b (bind-bad (exactly Slot clock) (λ _. arrivals blockLimit) (from 0 t) h) in
         (answerOf-faulty t n, numbers-faulty ns n (rw (b, wholeOf, h)))
 
     pub slot-bad : number Slot (from 0 t) ≡ badAt 0 → (ns : List ℕ)
-        → (Bad 0 ≡ answerOf t (known (next clock (from 0 t))))
-        × (ns ≡ numbersAfter (wholeOf clock (from 0 t)) (known (next clock (from 0 t))) ns)
+        → Left clock t ns (known (next clock (from 0 t))) (Bad 0) ns
     slot-bad h = slot-fault (exactly-bad Slot clock (from 0 t) h)
 
     module _ (i : ℕ) {n : ℕ} (p : number Slot (from 0 t) ≡ got n (from 1 (drop i t))) where
-      pub slot-other : n ≢ clock → (ns : List ℕ)
-          → (Bad 0 ≡ answerOf t (known (next clock (from 0 t))))
-          × (ns ≡ numbersAfter (wholeOf clock (from 0 t)) (known (next clock (from 0 t))) ns)
+      pub slot-other : n ≢ clock → (ns : List ℕ) → Left clock t ns (known (next clock (from 0 t))) (Bad 0) ns
       slot-other h = slot-fault (exactly-other Slot clock (from 0 t) p (ne-eqb n clock h))
 
       module _ (h : n ≡ clock) where
@@ -185,10 +176,12 @@ module _ (clock : ℕ) (t : List ℕ) where
         same = exactly-same Slot clock (from 0 t) p (eq-eqb n clock h)
 
         -- the arrivals are what stands after it
-        pub slot-same : next clock (from 0 t) ≡ ahead (arrivals blockLimit (from 1 (drop i t)))
-        unfolding block
-        slot-same = next-ahead ∙ ap ahead (bind-got (exactly Slot clock) (λ _. arrivals blockLimit) (from 0 t) same)
-
-        pub slot-whole : wholeOf clock (from 0 t) ≡ wholeArrivals blockLimit (from 1 (drop i t))
-        unfolding wholeOf
-        slot-whole = rw (b, wholeOf, same)
+        pub slot-same : (ns : List ℕ) {r : Answer} {ms : List ℕ}
+            → r ≡ answerOf t (known (ahead (arrivals blockLimit (from 1 (drop i t)))))
+            → ms ≡ numbersAfter (wholeArrivals blockLimit (from 1 (drop i t)))
+            (known (ahead (arrivals blockLimit (from 1 (drop i t))))) ns
+            → Left clock t ns (known (next clock (from 0 t))) r ms
+        unfolding block wholeOf
+        slot-same ns e f =
+            let w : wholeOf clock (from 0 t) ≡ wholeArrivals blockLimit (from 1 (drop i t)) = rw (b, wholeOf, same) in
+            rw (w, next-ahead, bind-got (exactly Slot clock) (λ _. arrivals blockLimit) (from 0 t) same) (e, f)

@@ -1,11 +1,12 @@
 -- The reader of a line:
 --     lineOf-none, -some           its answer, by what was read
---     readLine-missing, -before    a line, by its key
---     readLine-bad, -number        a line, by the answer
+--     readMarked-missing, -before  a line, by its mark
+--     lineOf-key                   a line, by its key
 --     rest                         the slice from a place
 --     number-bad, -got, taken      a line as a cursor has it
 use Prim.Native.Nat.{ℕ, _+_, _-_, _≤_}
 use native.Mathlib.Omega.{arith}
+use mathlib.Core.Bool.{true, false}
 use mathlib.Core.List.{List, _++_}
 use mathlib.Core.Option.{Option, none, some, bind}
 use mathlib.Core.Path.{_≡_, refl, sym, ap, _∙_}
@@ -14,13 +15,12 @@ use lib.Seq.{take-all, drop-at}
 use Rattle.trace.specs.declared.Key.{Key}
 use Rattle.reader.specs.declared.Line.{Line}
 use Rattle.reader.specs.declared.Line.the-variants.{Number, Bad}
-use Rattle.reader.specs.declared.Mark.the-variants.{Before, Missing}
 use Rattle.trace.specs.Line.{keyText, line, readLine}
 use Rattle.trace.specs.Reader.{got, badAt, number}
-use Rattle.reader.specs.Reading.{from, markOf, readBody, lineOf}
+use Rattle.reader.specs.Reading.{from, beginsWith, readBody, readMarked, lineOf}
 use Rattle.trace.proofs.Line.{readLine-exact}
 use Rattle.trace.proofs.Blocks.{number-some, number-none}
-use Rattle.reader.proofs.Marks.{markOf-missing-e, markOf-before-e}
+use Rattle.reader.proofs.Marks.{beginsWith-false, beginsWith-true}
 
 -- the rest of a text, by how much was read
 pub drop-rest : (x rest t : List ℕ) → t ≡ x ++ rest
@@ -58,22 +58,21 @@ module _ (t : List ℕ) where
       let (r, l) = drop-rest (line k (s .0)) (s .1) t (readLine-exact k t (s .0) (s .1) e .0) in
       rw (← x, ← y) (ap (λ u. some (s .0, u)) r, l)
 
--- a line is its key and what stands behind it
-module _ (k : Key) (t : List ℕ) where
-  pub readLine-missing : markOf (keyText k) t ≡ Missing → readLine k t ≡ none
-  unfolding readLine bind
-  readLine-missing h = rw (markOf-missing-e (keyText k) t h)
+-- a line is its mark and what stands behind it
+module _ (p t : List ℕ) where
+  pub readMarked-missing : beginsWith p t ≡ false → readMarked p t ≡ none
+  unfolding readMarked bind
+  readMarked-missing h = rw (beginsWith-false p t h)
 
-  pub readLine-before : {i : ℕ} → markOf (keyText k) t ≡ Before i → readLine k t ≡ readBody (drop i t)
-  unfolding readLine readBody bind
-  readLine-before h = rw (markOf-before-e (keyText k) t h .0)
+  pub readMarked-before : beginsWith p t ≡ true → readMarked p t ≡ readBody (drop (length p) t)
+  unfolding readMarked bind
+  readMarked-before h = rw (beginsWith-true p t h)
 
-  readLine-bad : lineOf t (readLine k t) ≡ Bad → readLine k t ≡ none
-  readLine-bad h = lineOf-bad t (readLine k t) h
-
-  readLine-number : {n i : ℕ} → lineOf t (readLine k t) ≡ Number n i
-      → (readLine k t ≡ some (n, drop i t)) × (i ≤ length t)
-  readLine-number h = lineOf-number t k (readLine k t) refl h
+-- the mark of a line is its key and `=`
+pub lineOf-key : (t : List ℕ) {k j : Key} {r : Line} → k ≡ j → r ≡ lineOf t (readMarked (keyText j) t)
+    → r ≡ lineOf t (readLine k t)
+unfolding readMarked readBody readLine
+lineOf-key t e h = h ∙ ap (λ x. lineOf t (readLine x t)) (sym e)
 
 -- the slice from a place is the rest of the text
 abbrev pub rest : List ℕ → ℕ → List ℕ
@@ -88,18 +87,18 @@ pub length-rest : (t : List ℕ) (i : ℕ) → length (rest t i) ≡ length t - 
 length-rest t i = ap length (rest-drop t i) ∙ length-drop i t
 
 -- A line as a cursor has it, by what the reader of the line answered.
-module _ (k : Key) (l : ℕ) (t : List ℕ) {r : Line} (e : r ≡ lineOf t (readLine k t)) where
+module _ (k : Key) (l : ℕ) (t : List ℕ) {r : Line} (e : r ≡ lineOf t (readMarked (keyText k) t)) where
+  same : r ≡ lineOf t (readLine k t)
+  same = lineOf-key t refl e
+
   pub number-bad : r ≡ Bad → number k (from l t) ≡ badAt l
-  number-bad h = number-none k (from l t) (readLine-bad k t (sym e ∙ h))
+  number-bad h = number-none k (from l t) (lineOf-bad t (readLine k t) (sym same ∙ h))
 
   pub number-got : {n i : ℕ} → r ≡ Number n i → number k (from l t) ≡ got n (from (l + 1) (drop i t))
-  number-got h = number-some k (from l t) (readLine-number k t (sym e ∙ h) .0)
+  number-got h = number-some k (from l t) (lineOf-number t k (readLine k t) refl (sym same ∙ h) .0)
 
   pub number-within : {n i : ℕ} → r ≡ Number n i → i ≤ length t
-  number-within h = readLine-number k t (sym e ∙ h) .1
-
-  pub number-next : {n i : ℕ} → r ≡ Number n i → number k (from l t) ≡ got n (from (l + 1) (rest t i))
-  number-next {n} {i} h = rw (rest-drop t i) (number-got h)
+  number-within h = lineOf-number t k (readLine k t) refl (sym same ∙ h) .1
 
 -- A line was read: where, and what is left.
 pub record Taken (k : Key) (l : ℕ) (t : List ℕ) (n i : ℕ) : Type 0 where
@@ -107,8 +106,8 @@ pub record Taken (k : Key) (l : ℕ) (t : List ℕ) (n i : ℕ) : Type 0 where
   pub within : i ≤ length t
   pub left : i + length (rest t i) ≡ length t
 
-pub taken : (k : Key) (l : ℕ) (t : List ℕ) {r : Line} {n i : ℕ} → r ≡ lineOf t (readLine k t) → r ≡ Number n i
+pub taken : (k : Key) (l : ℕ) (t : List ℕ) {r : Line} {n i : ℕ} → r ≡ lineOf t (readMarked (keyText k) t) → r ≡ Number n i
     → Taken k l t n i
 taken k l t {r} {n} {i} e h =
     let w : i ≤ length t = number-within k l t e h in
-    record { read = number-next k l t e h; within = w; left = omega (arith, length-rest t i) }
+    record { read = rw (rest-drop t i) (number-got k l t e h); within = w; left = omega (arith, length-rest t i) }

@@ -1,11 +1,11 @@
 -- Whether a text begins with some bytes, as the code looks: byte by byte.
 --     after-short, -next, -other, -end       what follows a prefix, by the first i bytes of both
---     markOf-missing, -before, with -e       what the reader of a mark answers
---     begins-before, -missing                whether a text begins with a key
+--     beginsWith-none, -some, -false, -true  whether a text begins with a prefix
+--     begins-with                            whether it begins with a key
 use Prim.Native.Nat.{ℕ, _+_, _≤_, _<_}
 use native.Mathlib.Numerals.{add-one}
 use native.Mathlib.Omega.{arith}
-use mathlib.Core.Bool.{true, false}
+use mathlib.Core.Bool.{Bool, true, false}
 use mathlib.Core.List.{List, _∷_, _++_}
 use mathlib.Core.Logic.{_≢_}
 use mathlib.Core.Option.{Option, none, some}
@@ -13,14 +13,12 @@ use mathlib.Core.Path.{_≡_, refl, sym, ap, _∙_}
 use borrow.Author.Tests.{eq-eqb, ne-eqb}
 use lib.ListN.{length, getD, drop, length-append, drop-of-length-le}
 use lib.Seq.{drop-cons, drop-at}
+use Rattle.laws.proofs.Tests.{clash}
 use Rattle.trace.specs.declared.Key.{Key}
-use Rattle.reader.specs.declared.Mark.{Mark}
-use Rattle.reader.specs.declared.Mark.the-variants.{Before, Missing}
 use Rattle.trace.specs.Line.{keyText, after}
-use Rattle.reader.specs.Reading.{from, markOf}
+use Rattle.reader.specs.Reading.{from, beginsWith}
 use Rattle.trace.specs.Reader.{begins}
 use Rattle.trace.proofs.Line.{after-exact}
-use Rattle.trace.proofs.Blocks.{begins-some, begins-none}
 
 -- what follows a prefix
 
@@ -51,45 +49,35 @@ pub after-end : (p t : List ℕ) (i : ℕ) → length p ≤ i → after (drop i 
 unfolding after
 after-end p t i h = rw (drop-of-length-le p h)
 
--- the reader of a mark
+-- whether a text begins with a prefix
 
 module _ (p t : List ℕ) where
-  pub markOf-missing : after p t ≡ none → markOf p t ≡ Missing
-  unfolding markOf
-  markOf-missing h = rw (h, markOf)
+  pub beginsWith-none : after p t ≡ none → beginsWith p t ≡ false
+  unfolding beginsWith
+  beginsWith-none h = rw (h, beginsWith)
 
-  pub markOf-before : {u : List ℕ} → after p t ≡ some u → markOf p t ≡ Before (length p)
-  unfolding markOf
-  markOf-before h = rw (h, markOf)
+  pub beginsWith-some : {u : List ℕ} → after p t ≡ some u → beginsWith p t ≡ true
+  unfolding beginsWith
+  beginsWith-some h = rw (h, beginsWith)
 
-  pub markOf-missing-e : markOf p t ≡ Missing → after p t ≡ none
-  markOf-missing-e h = go (after p t) refl
+  pub beginsWith-false : beginsWith p t ≡ false → after p t ≡ none
+  beginsWith-false h = go (after p t) refl
     where
       go : (o : Option (List ℕ)) → after p t ≡ o → after p t ≡ none
       go none e = e
-      go (some u) e = cc (markOf-before e)
+      go (some u) e = absurd (clash (beginsWith-some e) h)
 
-  -- what follows the mark is the text from there
-  pub markOf-before-e : {n : ℕ} → markOf p t ≡ Before n → (after p t ≡ some (drop n t)) × (n ≤ length t)
-  markOf-before-e {n} h = go (after p t) refl
+  -- what follows the prefix is the text from there
+  pub beginsWith-true : beginsWith p t ≡ true → after p t ≡ some (drop (length p) t)
+  beginsWith-true h = go (after p t) refl
     where
-      go : (o : Option (List ℕ)) → after p t ≡ o → (after p t ≡ some (drop n t)) × (n ≤ length t)
-      go none e =
-          let z : _≡_ {A = ℕ} 0 1 = cc (markOf-missing e) in
-          absurd (omega arith)
+      go : (o : Option (List ℕ)) → after p t ≡ o → after p t ≡ some (drop (length p) t)
+      go none e = absurd (clash h (beginsWith-none e))
       go (some u) e =
           let f : t ≡ p ++ u = after-exact p t u e in
-          let g : length p ≡ n = cc (markOf-before e) in
-          let d : drop n t ≡ u = rw f (drop-at p u n g) in
-          (e ∙ ap some (sym d), omega (arith, simp length-append at (ap length f)))
+          e ∙ ap some (sym (rw f (drop-at p u (length p) refl)))
 
--- the mark of a key
-pub markOf-key : (t : List ℕ) {k j : Key} {r : Mark} → k ≡ j → r ≡ markOf (keyText j) t → r ≡ markOf (keyText k) t
-markOf-key t e h = h ∙ ap (λ x. markOf (keyText x) t) (sym e)
-
-module _ (k : Key) (l : ℕ) (t : List ℕ) where
-  pub begins-before : {n : ℕ} → markOf (keyText k) t ≡ Before n → begins k (from l t) ≡ true
-  begins-before h = begins-some k (from l t) (markOf-before-e (keyText k) t h .0)
-
-  pub begins-missing : markOf (keyText k) t ≡ Missing → begins k (from l t) ≡ false
-  begins-missing h = begins-none k (from l t) (markOf-missing-e (keyText k) t h)
+-- a key and `=`
+pub begins-with : (k : Key) (l : ℕ) (t : List ℕ) {b : Bool} → beginsWith (keyText k) t ≡ b → begins k (from l t) ≡ b
+unfolding begins beginsWith
+begins-with k l t h = h

@@ -2,9 +2,9 @@
 --     lineOf t o      a line at the start of t
 --     verdictOf o     a whole text
 --     numbersAfter    the numbers lent to the block reader
---     withDigit, markOf, readBody, cameOf, ahead, endedOf    the same of parts, for the private functions
+--     withDigit, beginsWith, readBody, readMarked, cameOf, ahead, endedOf    the same of parts, for the private functions
 use Prim.Native.Nat.{ℕ, zero, suc, _+_, _*_, _-_}
-use mathlib.Core.Bool.{true, false, _&&_}
+use mathlib.Core.Bool.{Bool, true, false, _&&_}
 use mathlib.Core.List.{List, [], _∷_}
 use mathlib.Core.Option.{Option, none, some, bind, Option·map}
 use lib.ListN.{length}
@@ -15,8 +15,6 @@ use Rattle.cell.specs.Limits.{fits32}
 use Rattle.trace.specs.declared.Key.the-variants.{Slot, In, End}
 use Rattle.reader.specs.declared.Line.{Line}
 use Rattle.reader.specs.declared.Line.the-variants.{Number, Bad}
-use Rattle.reader.specs.declared.Mark.{Mark}
-use Rattle.reader.specs.declared.Mark.the-variants.{Before, Missing}
 use Rattle.reader.specs.declared.Digits.{Digits}
 use Rattle.reader.specs.declared.Digits.the-variants.{Worth, Bad as NoDigits}
 use Rattle.reader.specs.declared.Came.{Came}
@@ -47,13 +45,17 @@ unfoldable pub withDigit : ℕ → ℕ → Digits
 withDigit n b =
     elim (isDigit b && fits32 (10 * n + (b - 48))) [ true ↦ Worth (10 * n + (b - 48)) | false ↦ NoDigits ]
 
--- whether a text begins with p, and how long p is
-unfoldable pub markOf : List ℕ → List ℕ → Mark
-markOf p t = elim (after p t) [ none ↦ Missing | some u ↦ Before (length p) ]
+-- whether a text begins with p
+unfoldable pub beginsWith : List ℕ → List ℕ → Bool
+beginsWith p t = elim (after p t) [ none ↦ false | some u ↦ true ]
 
 -- a line behind its key: the number, and what follows the line feed
 unfoldable pub readBody : List ℕ → Option (ℕ × List ℕ)
 readBody t = bind (upToLineFeed t) (λ s. Option·map (λ n. (n, s .1)) (readNumber (s .0)))
+
+-- a line that begins with p
+unfoldable pub readMarked : List ℕ → List ℕ → Option (ℕ × List ℕ)
+readMarked p t = bind (after p t) readBody
 
 unfoldable pub cameOf : List ℕ → Read Arrival → Came
 cameOf t (got a d) = Whole a (length t - length (d .text))

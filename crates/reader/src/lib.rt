@@ -14,11 +14,11 @@ ghost use Prim.Native.Nat.{_*_, _≤_, _<_};
 ghost use lib.ListN.{length, drop};
 ghost use lib.Seq.{sets};
 ghost use Rattle.trace.specs.declared.Key.the-variants.{End};
-ghost use Rattle.trace.specs.Line.{keyText, readLine};
+ghost use Rattle.trace.specs.Line.{readLine};
 ghost use Rattle.trace.specs.Contents.{blockLimit};
 ghost use Rattle.trace.specs.Reader.{arrival, arrivals, begins, next, read};
 ghost use Rattle.trace.specs.Piece.{known, decided, nextIn, headerIn, numbersOf, answerOf, openingOf};
-ghost use Rattle.reader.specs.Reading.{from, withDigit, markOf, readBody, lineOf, cameOf, ahead};
+ghost use Rattle.reader.specs.Reading.{from, withDigit, beginsWith, readBody, readMarked, lineOf, cameOf, ahead};
 ghost use Rattle.reader.specs.Reading.{wholeArrivals, wholeOf, numbersAfter, endedOf, verdictOf};
 
 // The arrivals of a block as numbers: input, output, flow, rank, tag of each of sixteen.
@@ -37,13 +37,6 @@ pub enum Verdict {
     Accepted(u32),
     // A refusal and its line, counted from 1.
     Refused(Refusal, usize),
-}
-
-// Whether a text begins with a key and `=`.
-enum Mark {
-    // How many bytes these have.
-    Before(usize),
-    Missing,
 }
 
 // The value of some digits.
@@ -80,19 +73,20 @@ pub fn read_header(text: &[u8], last: bool) -> Opening
     if !decided(text, last) {
         return Opening::Short;
     }
-    let Line::Number(ports, used) = read_line(text, Key::Ports) else {
+    let Line::Number(ports, used) = read_marked(text, b"ports=") else {
         return Opening::Refused(Refusal::BadLine, 1);
     };
     if !Switch::ports_in_range(ports) {
         return Opening::Refused(Refusal::BadSize, 1);
     }
-    let Line::Number(first, more) = read_line(&text[used..], Key::First) else {
+    let Line::Number(first, more) = read_marked(&text[used..], b"first=") else {
         return Opening::Refused(Refusal::BadLine, 2);
     };
     Opening::Open(ports, first, used + more)
 }
 
-// next = block | end; the numbers of the arrivals come first among those that are lent, and the others are kept
+// next = block | end. The numbers of the block's arrivals, of a bad block those that are whole before the fault, come
+// first among the lent ones; the others are kept.
 pub fn read_block(text: &[u8], clock: u32, last: bool, numbers: &mut [u32; NUMBERS]) -> Answer
     ensures { λ r. ⌜ r ≡ answerOf (now (text .entry)) (nextIn last clock (now (text .entry))) ⌝ }
     ensures { λ _. ⌜ now (numbers .exit) ≡ numbersAfter (wholeOf clock (from 0 (now (text .entry))))
@@ -101,7 +95,7 @@ pub fn read_block(text: &[u8], clock: u32, last: bool, numbers: &mut [u32; NUMBE
     if !decided(text, last) {
         return Answer::More;
     }
-    if begins(text, Key::End) {
+    if begins(text, b"end=") {
         return read_end(text, clock);
     }
     read_slot(text, clock, numbers)
@@ -111,10 +105,19 @@ pub fn read_block(text: &[u8], clock: u32, last: bool, numbers: &mut [u32; NUMBE
 pub fn read_line(text: &[u8], key: Key) -> Line
     ensures { λ r. ⌜ r ≡ lineOf (now (text .entry)) (readLine key (now (text .entry))) ⌝ }
 {
-    let Mark::Before(start) = read_key(text, key) else {
-        return Line::Bad;
-    };
-    read_number(text, start)
+    match key {
+        Key::Ports => read_marked(text, b"ports="),
+        Key::First => read_marked(text, b"first="),
+        Key::Slot => read_marked(text, b"slot="),
+        Key::In => read_marked(text, b"in="),
+        Key::Out => read_marked(text, b"out="),
+        Key::Flow => read_marked(text, b"flow="),
+        Key::Rank => read_marked(text, b"rank="),
+        Key::Tag => read_marked(text, b"tag="),
+        Key::End => read_marked(text, b"end="),
+        Key::Refused => read_marked(text, b"refused="),
+        Key::Line => read_marked(text, b"line="),
+    }
 }
 
 // { block } end, from line 3 on; no line has the number after 4,294,967,295
@@ -164,7 +167,7 @@ fn read_end(text: &[u8], clock: u32) -> Answer
     requires { ⌜ begins End (from 0 (now text)) ≡ true ⌝ }
     ensures { λ r. ⌜ r ≡ answerOf (now (text .entry)) (known (next clock (from 0 (now (text .entry))))) ⌝ }
 {
-    let Line::Number(number, used) = read_line(text, Key::End) else {
+    let Line::Number(number, used) = read_marked(text, b"end=") else {
         return Answer::Bad(0);
     };
     if number != clock {
@@ -183,7 +186,7 @@ fn read_slot(text: &[u8], clock: u32, numbers: &mut [u32; NUMBERS]) -> Answer
     ensures { λ _. ⌜ now (numbers .exit) ≡ numbersAfter (wholeOf clock (from 0 (now (text .entry))))
         (known (next clock (from 0 (now (text .entry))))) (now (numbers .entry)) ⌝ }
 {
-    let Line::Number(number, used) = read_line(text, Key::Slot) else {
+    let Line::Number(number, used) = read_marked(text, b"slot=") else {
         return Answer::Bad(0);
     };
     if number != clock {
@@ -195,8 +198,10 @@ fn read_slot(text: &[u8], clock: u32, numbers: &mut [u32; NUMBERS]) -> Answer
 // { arrival }, up to the first line that does not begin `in=`
 fn read_arrivals(text: &[u8], start: usize, numbers: &mut [u32; NUMBERS]) -> Answer
     requires { ⌜ start ≤ length (now text) ⌝ }
-    ensures { λ r. ⌜ r ≡ answerOf (now (text .entry)) (known (ahead (arrivals blockLimit (from 1 (drop start (now (text .entry))))))) ⌝ }
-    ensures { λ _. ⌜ now (numbers .exit) ≡ numbersAfter (wholeArrivals blockLimit (from 1 (drop start (now (text .entry)))))
+    ensures { λ r. ⌜ r ≡ answerOf (now (text .entry))
+        (known (ahead (arrivals blockLimit (from 1 (drop start (now (text .entry))))))) ⌝ }
+    ensures { λ _. ⌜ now (numbers .exit)
+        ≡ numbersAfter (wholeArrivals blockLimit (from 1 (drop start (now (text .entry)))))
         (known (ahead (arrivals blockLimit (from 1 (drop start (now (text .entry))))))) (now (numbers .entry)) ⌝ }
 {
     let mut at = start;
@@ -204,7 +209,7 @@ fn read_arrivals(text: &[u8], start: usize, numbers: &mut [u32; NUMBERS]) -> Ans
     while k < 16 {
         let rest = &text[at..];
         let line = (5 * k + 1) as u32;
-        if !begins(rest, Key::In) {
+        if !begins(rest, b"in=") {
             return Answer::Slot(k as u32, at, line);
         }
         match read_arrival(rest, line) {
@@ -226,23 +231,23 @@ fn read_arrival(text: &[u8], line: u32) -> Came
     requires { ⌜ line ≤ 76 ⌝ }
     ensures { λ r. ⌜ r ≡ cameOf (now (text .entry)) (arrival (from line (now (text .entry)))) ⌝ }
 {
-    let Line::Number(input, a) = read_line(text, Key::In) else {
+    let Line::Number(input, a) = read_marked(text, b"in=") else {
         return Came::Bad(line);
     };
     let after_in = &text[a..];
-    let Line::Number(output, b) = read_line(after_in, Key::Out) else {
+    let Line::Number(output, b) = read_marked(after_in, b"out=") else {
         return Came::Bad(line + 1);
     };
     let after_out = &after_in[b..];
-    let Line::Number(flow, c) = read_line(after_out, Key::Flow) else {
+    let Line::Number(flow, c) = read_marked(after_out, b"flow=") else {
         return Came::Bad(line + 2);
     };
     let after_flow = &after_out[c..];
-    let Line::Number(rank, d) = read_line(after_flow, Key::Rank) else {
+    let Line::Number(rank, d) = read_marked(after_flow, b"rank=") else {
         return Came::Bad(line + 3);
     };
     let after_rank = &after_flow[d..];
-    let Line::Number(tag, e) = read_line(after_rank, Key::Tag) else {
+    let Line::Number(tag, e) = read_marked(after_rank, b"tag=") else {
         return Came::Bad(line + 4);
     };
     let arrival = Arrival {
@@ -268,51 +273,31 @@ fn store(numbers: &mut [u32; NUMBERS], k: usize, a: Arrival)
     numbers[at + 4] = a.tag;
 }
 
-// Whether the text begins with a key and `=`.
-fn begins(text: &[u8], key: Key) -> bool
-    ensures { λ r. ⌜ r ≡ begins key (from 0 (now (text .entry))) ⌝ }
+// A line whose key and `=` are these bytes.
+fn read_marked(text: &[u8], mark: &[u8]) -> Line
+    ensures { λ r. ⌜ r ≡ lineOf (now (text .entry)) (readMarked (now (mark .entry)) (now (text .entry))) ⌝ }
 {
-    if let Mark::Before(_) = read_key(text, key) {
-        true
-    } else {
-        false
+    if !begins(text, mark) {
+        return Line::Bad;
     }
+    read_number(text, mark.len())
 }
 
-// key "="
-fn read_key(text: &[u8], key: Key) -> Mark
-    ensures { λ r. ⌜ r ≡ markOf (keyText key) (now (text .entry)) ⌝ }
-{
-    match key {
-        Key::Ports => read_mark(text, b"ports="),
-        Key::First => read_mark(text, b"first="),
-        Key::Slot => read_mark(text, b"slot="),
-        Key::In => read_mark(text, b"in="),
-        Key::Out => read_mark(text, b"out="),
-        Key::Flow => read_mark(text, b"flow="),
-        Key::Rank => read_mark(text, b"rank="),
-        Key::Tag => read_mark(text, b"tag="),
-        Key::End => read_mark(text, b"end="),
-        Key::Refused => read_mark(text, b"refused="),
-        Key::Line => read_mark(text, b"line="),
-    }
-}
-
-// These very bytes.
-fn read_mark(text: &[u8], mark: &[u8]) -> Mark
-    ensures { λ r. ⌜ r ≡ markOf (now (mark .entry)) (now (text .entry)) ⌝ }
+// Whether the text begins with these very bytes.
+fn begins(text: &[u8], mark: &[u8]) -> bool
+    ensures { λ r. ⌜ r ≡ beginsWith (now (mark .entry)) (now (text .entry)) ⌝ }
 {
     if text.len() < mark.len() {
-        return Mark::Missing;
+        return false;
     }
     let mut i = 0;
     while i < mark.len() {
         if text[i] != mark[i] {
-            return Mark::Missing;
+            return false;
         }
         i += 1;
     }
-    Mark::Before(i)
+    true
 }
 
 // number "\n" from a place of the text; number = "0" | digit { digit }, the first not "0", at most 4294967295

@@ -261,7 +261,7 @@ module _ (last : Bool) (l : ℕ) (t table buffer : List ℕ) (good : IsTable tab
     where
       go : (x : Bool) → decided last t ≡ x → nextIn last clock t ≡ known (next clock (from 0 t))
       go true d = nextIn-known last t clock d
-      go false d = absurd (h (e ∙ sym (block-more last clock t d)))
+      go false d = absurd (h (e ∙ sym (block-more last clock t d [] .0)))
 
   pub next-more : b ≡ More → Turned atNext t table buffer table buffer Playing l 0 0
   unfolding nextTurn standing lineAt

@@ -45,7 +45,7 @@ sub-rest : tie.Need-sub-rest Inv-loop μ-loop
 sub-rest c = verified-within (c .before .before .before .before .before .before .loop .inv) (c .before .before .before .before .read-block .ensures .0) (c .before .before .used .given .1)
 
 part-rest-start : tie.Need-part-rest-start Inv-loop μ-loop
-part-rest-start c = verified-within (c .before .before .before .before .before .before .loop .inv) (c .before .before .before .before .read-block .ensures .0) (c .before .before .used .given .1)
+part-rest-start c = sub-rest c
 
 part-rest-end : tie.Need-part-rest-end Inv-loop μ-loop
 part-rest-end c = search needs
