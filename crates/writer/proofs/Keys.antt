@@ -1,19 +1,17 @@
--- The keys in a row, each with its `=`:
+-- The keys, each with its `=`:
 --     length-keyText, keyLength-le   how long a key is
---     keyStart-within, keysPart      where it stands in the row
---     poured-key                     the part of the row that is poured
-use Prim.Native.Nat.{ℕ, _+_, _-_, _≤_}
+--     keyIs, length-keyIs            the bytes that the writer has of one
+use Prim.Native.Nat.{ℕ, _≤_}
 use native.Mathlib.Omega.{arith}
 use mathlib.Core.List.{List}
-use mathlib.Core.Path.{_≡_, refl}
-use lib.ListN.{length, take, drop}
+use mathlib.Core.Path.{_≡_, refl, sym, ap, _∙_}
+use lib.ListN.{length, take}
 use Rattle.trace.specs.Ascii.{ascii}
 use Rattle.trace.specs.declared.Key.{Key}
 use Rattle.trace.specs.declared.Key.the-variants.{Ports, First, Slot, In, Out, Flow, Rank, Tag, End}
 use Rattle.trace.specs.declared.Key.the-variants.{Refused, Line}
 use Rattle.trace.specs.Line.{keyName, keyText}
-use Rattle.writer.specs.Keys.{keyLength, keyStart}
-use Rattle.writer.specs.Writing.{Poured}
+use Rattle.writer.specs.Keys.{keyLength, KeyIs}
 
 pub length-keyText : (k : Key) → length (keyText k) ≡ keyLength k
 unfolding keyText keyName ascii
@@ -42,40 +40,10 @@ keyLength-le End = omega arith
 keyLength-le Refused = omega arith
 keyLength-le Line = omega arith
 
--- the row
-unfoldable pub keys : List ℕ
-keys = ascii "ports=first=slot=in=out=flow=rank=tag=end=refused=line="
+-- the bytes of an arm are those of its key
+pub keyIs : {bytes : List ℕ} {size : ℕ} {k key : Key} → key ≡ k → take size bytes ≡ keyText k → size ≡ keyLength k
+    → KeyIs key bytes size
+keyIs e t l = rw e (record { text = t; length = l })
 
-pub keyStart-within : (k : Key) → keyStart k + keyLength k ≤ 55
-keyStart-within Ports = omega arith
-keyStart-within First = omega arith
-keyStart-within Slot = omega arith
-keyStart-within In = omega arith
-keyStart-within Out = omega arith
-keyStart-within Flow = omega arith
-keyStart-within Rank = omega arith
-keyStart-within Tag = omega arith
-keyStart-within End = omega arith
-keyStart-within Refused = omega arith
-keyStart-within Line = omega arith
-
-keysPart : (k : Key) → take (keyLength k) (drop (keyStart k) keys) ≡ keyText k
-unfolding keys keyText keyName ascii
-keysPart Ports = refl
-keysPart First = refl
-keysPart Slot = refl
-keysPart In = refl
-keysPart Out = refl
-keysPart Flow = refl
-keysPart Rank = refl
-keysPart Tag = refl
-keysPart End = refl
-keysPart Refused = refl
-keysPart Line = refl
-
-pub poured-key : {b c : List ℕ} {at next start size : ℕ} (k : Key) → start ≡ keyStart k → size ≡ keyLength k
-    → Poured b at (take (start + size - start) (drop start keys)) c next
-    → Poured b at (keyText k) c next
-poured-key {b} {c} {at} {next} {start} {size} k s l p =
-    let e : start + size - start ≡ keyLength k = omega arith in
-    rw (e, s, keysPart k) at p
+pub length-keyIs : {bytes : List ℕ} {size : ℕ} {k : Key} → KeyIs k bytes size → length (take size bytes) ≡ size
+length-keyIs {k} i = ap length (i .text) ∙ length-keyText k ∙ sym (i .length)

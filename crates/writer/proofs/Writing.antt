@@ -1,6 +1,6 @@
 -- The writer's steps, and what it answers:
---     rest-arrival, rest-slot   an arrival and a slot of those that are left to pour
---     poured-contents           a header and slots
+--     rest-arrival, rest-slot   an arrival and a slot of those that are left to put
+--     tried-contents            a header and slots
 --     write-                    what the writer answers, test by test
 --     writeFlat-read            what it wrote is read back
 use Prim.Native.Nat.{ℕ, _+_, _*_, _-_, _≤_, _<_}
@@ -24,15 +24,16 @@ use Rattle.trace.specs.Contents.{Contents, arrivalText, arrivalsText, slotsText
 use Rattle.trace.specs.Contents.{Written, write, wrote, turnedBack}
 use Rattle.trace.specs.Flat.{arrivalAt, arrivalsFrom, slotsFrom, fitTogether, contentsOf}
 use Rattle.trace.specs.Flat.{writeFlat, outputOf, bufferAfter}
-use Rattle.writer.specs.Writing.{lastPlace, placeAfter, Poured, flatHasText}
+use Rattle.writer.specs.Writing.{lastPlace, placeAfter, Put, Tried, flatHasText}
 use Rattle.trace.specs.Reader.{accepted, read}
 use Rattle.laws.proofs.Tests.{and-l}
 use Rattle.trace.proofs.RoundTrip.{write-bad-line, write-short, write-fits, write-read}
 use Rattle.writer.proofs.Flat.{Fit32, hasText-flat}
 use Rattle.writer.proofs.Flat.{arrivalsText-more, slotsText-more, slotsText-end}
-use Rattle.writer.proofs.Pour.{Rest, rest-start, rest-step, rest-end, poured-then, poured-whole, poured-none}
+use Rattle.writer.proofs.Pour.{poured-whole, poured-tried, tried-put, tried-then, tried-none}
+use Rattle.writer.proofs.Pour.{Rest, rest-start, rest-step, rest-end}
 
--- what is left to pour
+-- what is left to put
 
 -- the largest place is past the end
 drop-place : (from size : ℕ) (ns : List ℕ) → length ns ≤ lastPlace
@@ -54,16 +55,16 @@ pub rest-slots : {b : List ℕ} {at : ℕ} (clock : ℕ) (counts ns : List ℕ) 
     → Rest b at (slotsText clock (slotsFrom counts ns)) b at (slotsText (clock + 0) (slotsFrom counts ns))
 rest-slots clock counts ns h = rw (add-zero clock) (rest-start h)
 
-module _ {b₀ : List ℕ} {at₀ : ℕ} {whole b : List ℕ} {at : ℕ} (room : length b₀ ≤ lastPlace) where
+module _ {b₀ : List ℕ} {at₀ : ℕ} {whole b : List ℕ} {at : ℕ} (room : length b₀ < lastPlace) where
   -- an arrival, whose numbers stand at `from`
   pub rest-arrival : (left from : ℕ) (ns : List ℕ) {a : Arrival} {l c : List ℕ} {next : ℕ} → 0 < left
       → Rest b₀ at₀ whole b at (arrivalsText (arrivalsFrom left (drop from ns)))
       → l ≡ drop from ns
       → a ≡ arrivalAt l
-      → Poured b at (arrivalText a) c next
+      → Put b at (arrivalText a) c next
       → Rest b₀ at₀ whole c next (arrivalsText (arrivalsFrom (left - 1) (drop (from + 5) ns)))
   rest-arrival left from ns h r d e p =
-      rest-step room (rw (arrivalsText-more left from ns h) at r) (rw (e, d) at p)
+      rest-step room (rw (arrivalsText-more left from ns h) at r) (tried-put (rw (e, d) at p))
 
   -- slot i, whose numbers stand at `from`
   pub rest-slot : (clock : ℕ) (counts : List ℕ) (i from : ℕ) (ns : List ℕ) {l c : List ℕ} {next after : ℕ}
@@ -71,7 +72,7 @@ module _ {b₀ : List ℕ} {at₀ : ℕ} {whole b : List ℕ} {at : ℕ} (room :
       → length ns ≤ lastPlace
       → Rest b₀ at₀ whole b at (slotsText (clock + i) (slotsFrom (drop i counts) (drop from ns)))
       → l ≡ drop from ns
-      → Poured b at (line Slot (clock + i) ++ arrivalsText (arrivalsFrom (getD counts i 0) l)) c next
+      → Tried b at (line Slot (clock + i) ++ arrivalsText (arrivalsFrom (getD counts i 0) l)) c next
       → after ≡ placeAfter from (5 * getD counts i 0)
       → Rest b₀ at₀ whole c next (slotsText (clock + (i + 1)) (slotsFrom (drop (i + 1) counts) (drop after ns)))
   rest-slot clock counts i from ns h k r d p e =
@@ -82,19 +83,19 @@ module _ {b₀ : List ℕ} {at₀ : ℕ} {whole b : List ℕ} {at : ℕ} (room :
   pub rest-slots-end : (clock : ℕ) (counts : List ℕ) (i from : ℕ) (ns : List ℕ) {c : List ℕ} {next : ℕ}
       → length counts ≤ i
       → Rest b₀ at₀ whole b at (slotsText (clock + i) (slotsFrom (drop i counts) (drop from ns)))
-      → Poured b at (line End (clock + i)) c next
-      → Poured b₀ at₀ whole c next
-  rest-slots-end clock counts i from ns h r p = rest-end (rw (slotsText-end clock counts i from ns h) at r) p
+      → Put b at (line End (clock + i)) c next
+      → Tried b₀ at₀ whole c next
+  rest-slots-end clock counts i from ns h r p = rest-end room (rw (slotsText-end clock counts i from ns h) at r) (tried-put p)
 
 -- the header and the slots
-pub poured-contents : {b c d : List ℕ} {i j : ℕ} (ports first : ℕ) (counts ns : List ℕ) → length b ≤ lastPlace
-    → Poured b 0 (line Ports ports ++ line First first) c i
-    → Poured c i (slotsText first (slotsFrom counts ns)) d j
-    → Poured b 0 (text (contentsOf ports first counts ns)) d j
+pub tried-contents : {b c d : List ℕ} {i j : ℕ} (ports first : ℕ) (counts ns : List ℕ) → length b < lastPlace
+    → Put b 0 (line Ports ports ++ line First first) c i
+    → Tried c i (slotsText first (slotsFrom counts ns)) d j
+    → Tried b 0 (text (contentsOf ports first counts ns)) d j
 unfolding text contentsOf
-poured-contents ports first counts ns h p q =
+tried-contents ports first counts ns h p q =
     let slots : List ℕ = slotsText first (slotsFrom counts ns) in
-    rw (append-assoc (line Ports ports) (line First first) slots) at (poured-then h p q)
+    rw (append-assoc (line Ports ports) (line First first) slots) at (tried-then h (tried-put p) q)
 
 -- what the writer answers, and what it leaves of the buffer
 
@@ -160,19 +161,19 @@ module _ (ports first : ℕ) (counts ns b : List ℕ) where
       written-together = writeFlat-together ports first counts ns (length b) r together
 
       -- the text was measured, and does not fit, or fits and was written
-      module _ {c : List ℕ} {size : ℕ} (p : Poured [] 0 (text contents) c size) where
+      module _ {c : List ℕ} {size : ℕ} (p : Tried [] 0 (text contents) c size) where
         same-room : length (c ++ b) ≡ length b
-        same-room = rw (poured-none p)
+        same-room = rw (tried-none p)
 
         pub write-too-long : length (c ++ b) < size → Answers written b (TurnedBack ShortBuffer) (c ++ b)
         unfolding contentsOf
         write-too-long l =
             let s : length b < length (text contents) = omega (arith, same-room, p .ends .place) in
             answers-refused (written-together ∙ write-short contents (length b) r has-text (lt-leb _ _ s))
-            (rw (poured-none p))
+            (rw (tried-none p))
 
         pub write-whole : {d : List ℕ} {next : ℕ} → size ≤ length (c ++ b) → length b < lastPlace
-            → Poured (c ++ b) 0 (text contents) d next
+            → Tried (c ++ b) 0 (text contents) d next
             → Answers written b (Text next) d
         unfolding contentsOf
         write-whole l m q =
@@ -180,7 +181,7 @@ module _ (ports first : ℕ) (counts ns b : List ℕ) where
             let s : length t ≤ length b = omega (arith, same-room, p .ends .place) in
             answers-wrote b (written-together ∙ write-fits contents (length b) r has-text (le-leb _ _ s))
             (omega (arith, q .ends .place))
-            (poured-whole s (rw (poured-none p) at q))
+            (poured-whole s (poured-tried s (rw (tried-none p) at q)))
 
 -- what was written is read back as the contents that were lent
 pub writeFlat-read : (ports first : ℕ) (counts ns : List ℕ) (room : ℕ) (t : List ℕ)

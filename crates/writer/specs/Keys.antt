@@ -1,8 +1,12 @@
--- The keys in a row, `ports=first=slot=in=out=flow=rank=tag=end=refused=line=`, as the writer has them.
+-- The keys as the writer has them.
 use Prim.Native.Nat.{ℕ}
+use mathlib.Core.List.{List}
+use mathlib.Core.Path.{_≡_}
+use lib.ListN.{take}
 use Rattle.trace.specs.declared.Key.{Key}
 use Rattle.trace.specs.declared.Key.the-variants.{Ports, First, Slot, In, Out, Flow, Rank, Tag, End}
 use Rattle.trace.specs.declared.Key.the-variants.{Refused, Line}
+use Rattle.trace.specs.Line.{keyText}
 
 -- how many bytes a key and its `=` have
 abbrev pub keyLength : Key → ℕ
@@ -18,16 +22,7 @@ keyLength End = 4
 keyLength Refused = 8
 keyLength Line = 5
 
--- where they stand in the row
-abbrev pub keyStart : Key → ℕ
-keyStart Ports = 0
-keyStart First = 6
-keyStart Slot = 12
-keyStart In = 17
-keyStart Out = 20
-keyStart Flow = 24
-keyStart Rank = 29
-keyStart Tag = 34
-keyStart End = 38
-keyStart Refused = 42
-keyStart Line = 50
+-- the first bytes, so many, are the key and its `=`
+pub record KeyIs (k : Key) (bytes : List ℕ) (size : ℕ) : Type 0 where
+  pub text : take size bytes ≡ keyText k
+  pub length : size ≡ keyLength k

@@ -1,9 +1,10 @@
 -- Putting a text into a buffer, from a place on, and the writer's test of what it is lent.
 --     placeAfter at size     the place after so many bytes
 --     withText buffer at t   the buffer with the text there, if it fits
---     Ends, Put, Poured      what a function that measures the text or writes it does
+--     Ends, Put, Tried       what a function that measures the text or puts it does
+--     Room, Written          what one that writes it without a test asks for and does
 --     flatHasText            whether lists are the contents of some text
-use Prim.Native.Nat.{ℕ, _+_, min}
+use Prim.Native.Nat.{ℕ, _+_, _≤_, min}
 use mathlib.Core.Bool.{Bool, true, false, _&&_}
 use mathlib.Core.List.{List, _++_}
 use mathlib.Core.Path.{_≡_}
@@ -40,11 +41,21 @@ pub record Put (buffer : List ℕ) (at : ℕ) (t : List ℕ) (after : List ℕ) 
   pub bytes : after ≡ withText buffer at t
   pub ends : Ends at t next
 
--- What a private function leaves and answers: the bytes of the text that fit, one by one, and the place after them all.
--- So one text after another is the two as one.
-pub record Poured (buffer : List ℕ) (at : ℕ) (t : List ℕ) (after : List ℕ) (next : ℕ) : Type 0 where
-  pub bytes : after ≡ sets buffer at t
+-- What a function that puts line after line leaves and answers: all of the text where it fits, as many bytes as there
+-- were, and the place after the text. So one text after another is the two as one.
+pub record Tried (buffer : List ℕ) (at : ℕ) (t : List ℕ) (after : List ℕ) (next : ℕ) : Type 0 where
+  pub bytes : at + length t ≤ length buffer → after ≡ sets buffer at t
+  pub same : length after ≡ length buffer
   pub ends : Ends at t next
+
+-- a text that ends at a place of a buffer of so many bytes has room before it
+abbrev pub Room : List ℕ → ℕ → ℕ → Type 0
+Room t end size = (length t ≤ end) × (end ≤ size)
+
+-- What a function that writes a text before a place leaves and answers: the text, and where it starts.
+pub record Written (buffer : List ℕ) (end : ℕ) (t : List ℕ) (after : List ℕ) (start : ℕ) : Type 0 where
+  pub bytes : after ≡ sets buffer start t
+  pub starts : start + length t ≡ end
 
 -- no more arrivals than a block may have
 abbrev pub few : ℕ → Bool

@@ -1,8 +1,9 @@
 // The writer, scope 7.6: from contents to text, and the lines that the player writes.
-// No function has a `requires`. Each that writes answers the place after its text, and a place past the end of the
-// buffer says that the text does not fit. The public ones write all of a text or nothing of it. The private ones,
-// `pour_..`, write what fits of it, so that one text after another needs no test, and a text poured into no bytes is
-// measured.
+// Each function that puts a text answers the place after it, and a place past the end of the buffer says that the text
+// does not fit. The public ones put all of a text or nothing of it. So do `pour_line`, `pour_pair` and `pour_cell`; the
+// other `pour_..` put line after line, and a text poured into no bytes is measured.
+// A text that fits is written from its end to its start with no test of the room: the `write_..` below ask for the room,
+// which every caller has measured, and answer where the text starts. No other function has a `requires`.
 use cell::Arrival;
 use cell::Cell;
 use cell::Refusal;
@@ -10,17 +11,20 @@ use cell::Switch;
 use trace::Key;
 use trace::Output;
 ghost use mathlib.Core.Path.{_≡_};
-ghost use mathlib.Core.List.{_∷_, [], _++_};
+ghost use mathlib.Core.List.{_++_};
 ghost use lib.ListN.{length, getD, drop};
 ghost use Rattle.laws.specs.Lists.{all?};
 ghost use Rattle.cell.specs.Refusal.{number};
 ghost use Rattle.trace.specs.declared.Key.the-variants.{Slot, In, Out, Flow, Rank, Tag, Refused, Line};
 ghost use Rattle.trace.specs.Line.{keyText, decimal, line};
-ghost use Rattle.trace.specs.Contents.{arrivalText, arrivalsText, slotsText, text};
+ghost use Rattle.trace.specs.Contents.{arrivalsText, slotsText, text};
 ghost use Rattle.trace.specs.Flat.{arrivalAt, arrivalsFrom, slotsFrom, fitTogether, contentsOf};
 ghost use Rattle.trace.specs.Flat.{writeFlat, outputOf, bufferAfter};
-ghost use Rattle.writer.specs.Keys.{keyLength, keyStart};
-ghost use Rattle.writer.specs.Writing.{few, flatHasText, placeAfter, Ends, Put, Poured};
+ghost use Rattle.writer.specs.Keys.{KeyIs};
+ghost use Rattle.writer.specs.Writing.{few, flatHasText, placeAfter, Room, Ends, Put, Tried, Written};
+
+// A key and `=`, filled up with blanks, and how many bytes they have.
+struct KeyText([u8; 8], usize);
 
 const BLOCK_LIMIT: u32 = 16;
 
@@ -54,10 +58,6 @@ pub fn write(ports: u32, first: u32, counts: &[u32], numbers: &[u32], out: &mut 
 pub fn put_line(out: &mut [u8], at: usize, key: Key, n: u32) -> usize
     ensures { λ r. ⌜ Put (now (out .entry)) at (line key n) (now (out .exit)) r ⌝ }
 {
-    let end = line_end(at, key, n as usize);
-    if out.len() < end {
-        return end;
-    }
     pour_line(out, at, key, n as usize)
 }
 
@@ -68,13 +68,17 @@ pub fn put_departure(out: &mut [u8], at: usize, cell: Cell) -> usize
         ++ (line In (cell .input) ++ (line Flow (cell .flow) ++ (line Rank (cell .rank) ++ line Tag (cell .tag)))))
         (now (out .exit)) r ⌝ }
 {
-    let flow = pair_end(at, Key::Out, cell.output, Key::In, cell.input as usize);
-    let end = fields_end(flow, cell.flow, cell.rank, cell.tag);
-    if out.len() < end {
-        return end;
-    }
-    let fields = pour_pair(out, at, Key::Out, cell.output, Key::In, cell.input as usize);
-    pour_fields(out, fields, cell.flow, cell.rank, cell.tag)
+    pour_cell(
+        out,
+        at,
+        Key::Out,
+        cell.output,
+        Key::In,
+        cell.input,
+        cell.flow,
+        cell.rank,
+        cell.tag,
+    )
 }
 
 // The lines of a refusal, `refused` and `line`, the line at fault, if they fit.
@@ -83,19 +87,15 @@ pub fn put_refusal(out: &mut [u8], at: usize, refusal: Refusal, fault: usize) ->
         (line Refused (number refusal) ++ line Line fault)
         (now (out .exit)) r ⌝ }
 {
-    let number = refusal.number();
-    let end = pair_end(at, Key::Refused, number, Key::Line, fault);
-    if out.len() < end {
-        return end;
-    }
-    pour_pair(out, at, Key::Refused, number, Key::Line, fault)
+    pour_pair(out, at, Key::Refused, refusal.number(), Key::Line, fault)
 }
 
 // How many bytes a line has.
 pub fn line_length(key: Key, n: usize) -> usize
     ensures { λ r. ⌜ r ≡ length (line key n) ⌝ }
 {
-    key_length(key) + digits(n) + 1
+    let text = key_text(key);
+    text.1 + digits(n) + 1
 }
 
 // Whether the lists are the contents of some text.
@@ -144,7 +144,7 @@ fn blocks_fit(counts: &[u32]) -> bool
 
 // text = ports-line first-line slots
 fn pour_contents(out: &mut [u8], ports: u32, first: u32, counts: &[u32], numbers: &[u32]) -> usize
-    ensures { λ r. ⌜ Poured (now (out .entry)) 0
+    ensures { λ r. ⌜ Tried (now (out .entry)) 0
         (text (contentsOf ports first (now (counts .entry)) (now (numbers .entry))))
         (now (out .exit)) r ⌝ }
 {
@@ -154,7 +154,7 @@ fn pour_contents(out: &mut [u8], ports: u32, first: u32, counts: &[u32], numbers
 
 // slots = block* end-line
 fn pour_slots(out: &mut [u8], at: usize, first: u32, counts: &[u32], numbers: &[u32]) -> usize
-    ensures { λ r. ⌜ Poured (now (out .entry)) at
+    ensures { λ r. ⌜ Tried (now (out .entry)) at
         (slotsText first (slotsFrom (now (counts .entry)) (now (numbers .entry))))
         (now (out .exit)) r ⌝ }
 {
@@ -178,7 +178,7 @@ fn pour_slots(out: &mut [u8], at: usize, first: u32, counts: &[u32], numbers: &[
 
 // block = slot-line arrival*
 fn pour_block(out: &mut [u8], at: usize, clock: usize, count: u32, numbers: &[u32]) -> usize
-    ensures { λ r. ⌜ Poured (now (out .entry)) at
+    ensures { λ r. ⌜ Tried (now (out .entry)) at
         (line Slot clock ++ arrivalsText (arrivalsFrom count (now (numbers .entry))))
         (now (out .exit)) r ⌝ }
 {
@@ -188,7 +188,7 @@ fn pour_block(out: &mut [u8], at: usize, clock: usize, count: u32, numbers: &[u3
 
 // arrival*
 fn pour_arrivals(out: &mut [u8], at: usize, count: u32, numbers: &[u32]) -> usize
-    ensures { λ r. ⌜ Poured (now (out .entry)) at
+    ensures { λ r. ⌜ Tried (now (out .entry)) at
         (arrivalsText (arrivalsFrom count (now (numbers .entry))))
         (now (out .exit)) r ⌝ }
 {
@@ -205,101 +205,134 @@ fn pour_arrivals(out: &mut [u8], at: usize, count: u32, numbers: &[u32]) -> usiz
 
 // arrival = in-line out-line fields
 fn pour_arrival(out: &mut [u8], at: usize, a: Arrival) -> usize
-    ensures { λ r. ⌜ Poured (now (out .entry)) at (arrivalText a) (now (out .exit)) r ⌝ }
-{
-    let flow = pour_pair(out, at, Key::In, a.input, Key::Out, a.output as usize);
-    pour_fields(out, flow, a.flow, a.rank, a.tag)
-}
-
-// fields = flow-line rank-line tag-line
-fn pour_fields(out: &mut [u8], at: usize, flow: u32, rank: u32, tag: u32) -> usize
-    ensures { λ r. ⌜ Poured (now (out .entry)) at
-        (line Flow flow ++ (line Rank rank ++ line Tag tag))
+    ensures { λ r. ⌜ Put (now (out .entry)) at
+        (line In (a .input)
+        ++ (line Out (a .output) ++ (line Flow (a .flow) ++ (line Rank (a .rank) ++ line Tag (a .tag)))))
         (now (out .exit)) r ⌝ }
 {
-    let next = pour_pair(out, at, Key::Flow, flow, Key::Rank, rank as usize);
-    pour_line(out, next, Key::Tag, tag as usize)
+    pour_cell(
+        out,
+        at,
+        Key::In,
+        a.input,
+        Key::Out,
+        a.output,
+        a.flow,
+        a.rank,
+        a.tag,
+    )
+}
+
+// The lines of a cell: its ports and its fields.
+fn pour_cell(
+    out: &mut [u8],
+    at: usize,
+    first: Key,
+    m: u32,
+    second: Key,
+    n: u32,
+    flow: u32,
+    rank: u32,
+    tag: u32,
+) -> usize
+    ensures { λ r. ⌜ Put (now (out .entry)) at
+        (line first m ++ (line second n ++ (line Flow flow ++ (line Rank rank ++ line Tag tag))))
+        (now (out .exit)) r ⌝ }
+{
+    let second_at = line_end(at, first, m as usize);
+    let flow_at = line_end(second_at, second, n as usize);
+    let rank_at = line_end(flow_at, Key::Flow, flow as usize);
+    let tag_at = line_end(rank_at, Key::Rank, rank as usize);
+    let end = line_end(tag_at, Key::Tag, tag as usize);
+    if out.len() < end {
+        return end;
+    }
+    write_line(out, second_at, first, m as usize);
+    write_line(out, flow_at, second, n as usize);
+    write_line(out, rank_at, Key::Flow, flow as usize);
+    write_line(out, tag_at, Key::Rank, rank as usize);
+    write_line(out, end, Key::Tag, tag as usize);
+    end
 }
 
 // Two lines. The second's number may count the lines of a text, which can be more than 32 bits hold.
 fn pour_pair(out: &mut [u8], at: usize, first: Key, m: u32, second: Key, n: usize) -> usize
-    ensures { λ r. ⌜ Poured (now (out .entry)) at (line first m ++ line second n) (now (out .exit)) r ⌝ }
+    ensures { λ r. ⌜ Put (now (out .entry)) at (line first m ++ line second n) (now (out .exit)) r ⌝ }
 {
-    let next = pour_line(out, at, first, m as usize);
-    pour_line(out, next, second, n)
+    let second_at = line_end(at, first, m as usize);
+    let end = line_end(second_at, second, n);
+    if out.len() < end {
+        return end;
+    }
+    write_line(out, second_at, first, m as usize);
+    write_line(out, end, second, n);
+    end
+}
+
+// A line.
+fn pour_line(out: &mut [u8], at: usize, key: Key, n: usize) -> usize
+    ensures { λ r. ⌜ Put (now (out .entry)) at (line key n) (now (out .exit)) r ⌝ }
+{
+    let end = line_end(at, key, n);
+    if out.len() < end {
+        return end;
+    }
+    write_line(out, end, key, n);
+    end
 }
 
 // line = key `=` number line-feed
-fn pour_line(out: &mut [u8], at: usize, key: Key, n: usize) -> usize
-    ensures { λ r. ⌜ Poured (now (out .entry)) at (line key n) (now (out .exit)) r ⌝ }
+fn write_line(out: &mut [u8], end: usize, key: Key, n: usize) -> usize
+    requires { ⌜ Room (line key n) end (length (now out)) ⌝ }
+    ensures { λ r. ⌜ Written (now (out .entry)) end (line key n) (now (out .exit)) r ⌝ }
 {
-    let number = pour_key(out, at, key);
-    let end = pour_number(out, number, n);
-    pour_byte(out, end, 10)
-}
-
-// A key and `=`.
-fn pour_key(out: &mut [u8], at: usize, key: Key) -> usize
-    ensures { λ r. ⌜ Poured (now (out .entry)) at (keyText key) (now (out .exit)) r ⌝ }
-{
-    let keys = *b"ports=first=slot=in=out=flow=rank=tag=end=refused=line=";
-    let start = key_start(key);
-    let end = start + key_length(key);
-    pour_text(out, at, &keys[start..end])
-}
-
-// Where a key stands in the row of keys.
-fn key_start(key: Key) -> usize
-    ensures { λ r. ⌜ r ≡ keyStart key ⌝ }
-{
-    match key {
-        Key::Ports => 0,
-        Key::First => 6,
-        Key::Slot => 12,
-        Key::In => 17,
-        Key::Out => 20,
-        Key::Flow => 24,
-        Key::Rank => 29,
-        Key::Tag => 34,
-        Key::End => 38,
-        Key::Refused => 42,
-        Key::Line => 50,
-    }
+    let feed = end - 1;
+    out[feed] = 10;
+    let number = write_number(out, feed, n);
+    write_key(out, number, key)
 }
 
 // The decimal digits of a number.
-fn pour_number(out: &mut [u8], at: usize, n: usize) -> usize
-    ensures { λ r. ⌜ Poured (now (out .entry)) at (decimal n) (now (out .exit)) r ⌝ }
+fn write_number(out: &mut [u8], end: usize, n: usize) -> usize
+    requires { ⌜ Room (decimal n) end (length (now out)) ⌝ }
+    ensures { λ r. ⌜ Written (now (out .entry)) end (decimal n) (now (out .exit)) r ⌝ }
 {
-    if n < 10 {
-        return pour_byte(out, at, 48 + n as u8);
+    let mut rest = n;
+    let mut place = end;
+    while 10 <= rest {
+        place -= 1;
+        out[place] = 48 + (rest % 10) as u8;
+        rest = rest / 10;
     }
-    let next = pour_number(out, at, n / 10);
-    pour_byte(out, next, 48 + (n % 10) as u8)
-}
-
-// Any text.
-fn pour_text(out: &mut [u8], at: usize, text: &[u8]) -> usize
-    ensures { λ r. ⌜ Poured (now (out .entry)) at (now (text .entry)) (now (out .exit)) r ⌝ }
-{
-    let mut place = at;
-    let mut i = 0;
-    while i < text.len() {
-        place = pour_byte(out, place, text[i]);
-        i += 1;
-    }
+    place -= 1;
+    out[place] = 48 + rest as u8;
     place
 }
 
-// One byte, where there is room for it.
-fn pour_byte(out: &mut [u8], at: usize, byte: u8) -> usize
-    ensures { λ r. ⌜ Poured (now (out .entry)) at (byte ∷ []) (now (out .exit)) r ⌝ }
+// A key and `=`.
+fn write_key(out: &mut [u8], end: usize, key: Key) -> usize
+    requires { ⌜ Room (keyText key) end (length (now out)) ⌝ }
+    ensures { λ r. ⌜ Written (now (out .entry)) end (keyText key) (now (out .exit)) r ⌝ }
 {
-    if at < out.len() {
-        out[at] = byte;
-        return at + 1;
+    let text = key_text(key);
+    let bytes = text.0;
+    let size = text.1;
+    write_text(out, end, &bytes[..size])
+}
+
+// Any text.
+fn write_text(out: &mut [u8], end: usize, text: &[u8]) -> usize
+    requires { ⌜ Room (now text) end (length (now out)) ⌝ }
+    ensures { λ r. ⌜ Written (now (out .entry)) end (now (text .entry)) (now (out .exit)) r ⌝ }
+{
+    let mut left = text.len();
+    let mut place = end;
+    while 0 < left {
+        left -= 1;
+        place -= 1;
+        out[place] = text[left];
     }
-    place_after(at, 1)
+    place
 }
 
 // The arrival that these numbers begin with.
@@ -335,24 +368,6 @@ fn numbers_from(numbers: &[u32], from: usize) -> &[u32]
     &numbers[..0]
 }
 
-// The place after the lines of `flow`, `rank`, `tag`.
-fn fields_end(at: usize, flow: u32, rank: u32, tag: u32) -> usize
-    ensures { λ r. ⌜ Ends at (line Flow flow ++ (line Rank rank ++ line Tag tag)) r ⌝ }
-{
-    line_end(
-        pair_end(at, Key::Flow, flow, Key::Rank, rank as usize),
-        Key::Tag,
-        tag as usize,
-    )
-}
-
-// The place after two lines.
-fn pair_end(at: usize, first: Key, m: u32, second: Key, n: usize) -> usize
-    ensures { λ r. ⌜ Ends at (line first m ++ line second n) r ⌝ }
-{
-    line_end(line_end(at, first, m as usize), second, n)
-}
-
 // The place after a line.
 fn line_end(at: usize, key: Key, n: usize) -> usize
     ensures { λ r. ⌜ Ends at (line key n) r ⌝ }
@@ -360,22 +375,22 @@ fn line_end(at: usize, key: Key, n: usize) -> usize
     place_after(at, line_length(key, n))
 }
 
-// How many bytes a key and `=` have.
-fn key_length(key: Key) -> usize
-    ensures { λ r. ⌜ r ≡ keyLength key ⌝ }
+// What a key is in a text.
+fn key_text(key: Key) -> KeyText
+    ensures { λ r. ⌜ KeyIs key (r .0) (r .1) ⌝ }
 {
     match key {
-        Key::Ports => 6,
-        Key::First => 6,
-        Key::Slot => 5,
-        Key::In => 3,
-        Key::Out => 4,
-        Key::Flow => 5,
-        Key::Rank => 5,
-        Key::Tag => 4,
-        Key::End => 4,
-        Key::Refused => 8,
-        Key::Line => 5,
+        Key::Ports => KeyText(*b"ports=  ", 6),
+        Key::First => KeyText(*b"first=  ", 6),
+        Key::Slot => KeyText(*b"slot=   ", 5),
+        Key::In => KeyText(*b"in=     ", 3),
+        Key::Out => KeyText(*b"out=    ", 4),
+        Key::Flow => KeyText(*b"flow=   ", 5),
+        Key::Rank => KeyText(*b"rank=   ", 5),
+        Key::Tag => KeyText(*b"tag=    ", 4),
+        Key::End => KeyText(*b"end=    ", 4),
+        Key::Refused => KeyText(*b"refused=", 8),
+        Key::Line => KeyText(*b"line=   ", 5),
     }
 }
 
@@ -385,11 +400,14 @@ fn digits(n: usize) -> usize
 {
     let mut rest = n;
     let mut count = 1;
-    while 10 <= rest {
-        rest = rest / 10;
-        count += 1;
+    while 100 <= rest {
+        rest = rest / 100;
+        count += 2;
     }
-    count
+    if rest < 10 {
+        return count;
+    }
+    count + 1
 }
 
 // The place after `size` bytes.

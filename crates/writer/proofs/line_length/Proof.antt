@@ -8,25 +8,25 @@ use Rattle.writer.proofs.Keys.{keyLength-le}
 use Rattle.writer.proofs.line_length.Statement.{statement}
 use Rattle.writer.proofs.line_length.Tie as tie
 
-key-length-requires : tie.Need-key-length-requires
-key-length-requires c κs = search needs
+key-text-requires : tie.Need-key-text-requires
+key-text-requires c κs = search needs
 
 digits-requires : tie.Need-digits-requires
 digits-requires c κs = search needs
 
 add-result : tie.Need-add-result
 add-result c =
-    let s = c .before .before .args in
+    let s = c .before .before .before .args in
     omega (arith, keyLength-le (s .key), length-decimal-below 19 (s .n) (omega arith))
 
 add-result-2 : tie.Need-add-result-2
 add-result-2 c =
-    let s = c .before .before .args in
+    let s = c .before .before .before .args in
     omega (arith, keyLength-le (s .key), length-decimal-below 19 (s .n) (omega arith))
 
 returns : tie.Need-returns
-returns c = omega (arith, length-line-parts (c .before .before .args .key) (c .before .before .args .n))
+returns c = omega (arith, length-line-parts (c .before .before .before .args .key) (c .before .before .before .args .n))
 
 pub line-length-spec : {M : Type 1} → statement M
 line-length-spec =
-    tie.close (tie.spec key-length-requires digits-requires add-result add-result-2 returns)
+    tie.close (tie.spec key-text-requires digits-requires add-result add-result-2 returns)

@@ -5,7 +5,7 @@ use Prim.Native.Nat.{_+_, _*_}
 use native.Mathlib.Omega.{arith}
 use mathlib.Core.Path.{_≡_}
 use lib.ListN.{drop}
-use Rattle.trace.specs.Contents.{arrivalsText}
+use Rattle.trace.specs.Contents.{arrivalText, arrivalsText}
 use Rattle.trace.specs.Flat.{arrivalsFrom}
 use Rattle.writer.proofs.Flat.{arrivalsText-end}
 use Rattle.writer.proofs.Pour.{Rest, rest-start, rest-done}
@@ -44,6 +44,7 @@ loop-less : tie.Need-loop-less Inv-loop μ-loop
 loop-less c = omega arith
 
 loop-again : tie.Need-loop-again Inv-loop μ-loop
+unfolding arrivalText
 loop-again c =
     let p = c .before .before in
     let a = p .before in

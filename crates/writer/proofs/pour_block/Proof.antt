@@ -1,7 +1,7 @@
 -- `writer::pour_block` meets its contract: the line of the slot and its arrivals.
 -- Assumes nothing.
 use native.Mathlib.Omega.{arith}
-use Rattle.writer.proofs.Pour.{poured-then}
+use Rattle.writer.proofs.Pour.{tried-put, tried-then}
 use borrow.Author.Needs.{needs}
 use Rattle.writer.proofs.pour_block.Statement.{statement}
 use Rattle.writer.proofs.pour_block.Tie as tie
@@ -18,7 +18,7 @@ same-length c = search needs
 returns : tie.Need-returns
 returns c =
     let n = c .before .before in
-    poured-then (omega arith) (n .before .before .before .before .pour-line .ensures) (n .pour-arrivals .ensures)
+    tried-then (omega arith) (tried-put (n .before .before .before .before .pour-line .ensures)) (n .pour-arrivals .ensures)
 
 pub pour-block-spec : {M : Type 1} → statement M
 pour-block-spec =

@@ -1,7 +1,7 @@
 -- `writer::pour_contents` meets its contract: the two lines of the header, then the slots.
 -- Assumes nothing.
 use native.Mathlib.Omega.{arith}
-use Rattle.writer.proofs.Writing.{poured-contents}
+use Rattle.writer.proofs.Writing.{tried-contents}
 use borrow.Author.Needs.{needs}
 use Rattle.writer.proofs.pour_contents.Statement.{statement}
 use Rattle.writer.proofs.pour_contents.Tie as tie
@@ -19,7 +19,7 @@ returns : tie.Need-returns
 returns c =
     let n = c .before .before in
     let m = n .before .before .before .before in
-    poured-contents _ _ _ _ (omega arith) (m .pour-pair .ensures) (n .pour-slots .ensures)
+    tried-contents _ _ _ _ (omega arith) (m .pour-pair .ensures) (n .pour-slots .ensures)
 
 pub pour-contents-spec : {M : Type 1} → statement M
 pour-contents-spec =

@@ -1,34 +1,35 @@
--- `writer::pour_line` meets its contract: a line is a key, a number and a line feed.
+-- `writer::pour_line` meets its contract: a line that was measured is written where it fits.
 -- Assumes nothing.
 use borrow.Author.Needs.{needs}
 use native.Mathlib.Omega.{arith}
-use Rattle.trace.specs.Line.{line}
-use Rattle.writer.proofs.Pour.{poured-then}
+use Rattle.writer.proofs.Pour.{put-short, tried-written, put-tried}
 use Rattle.writer.proofs.pour_line.Statement.{statement}
 use Rattle.writer.proofs.pour_line.Tie as tie
 
-pour-key-requires : tie.Need-pour-key-requires
-pour-key-requires c κs = search needs
+line-end-requires : tie.Need-line-end-requires
+line-end-requires c κs = search needs
 
-pour-number-requires : tie.Need-pour-number-requires
-pour-number-requires c κs = search needs
+returns : tie.Need-returns
+returns c = put-short (c .before .line-end .ensures) (c .if1 .taken)
 
-pour-byte-requires : tie.Need-pour-byte-requires
-pour-byte-requires c κs = search needs
+write-line-requires : tie.Need-write-line-requires
+write-line-requires c κs = search needs
 
 same-length : tie.Need-same-length
 same-length c = search needs
 
-returns : tie.Need-returns
-unfolding line
-returns c =
-    let d = c .before .before in
-    let n = d .before .before .before .before in
-    let k = n .before .before .before .before in
-    poured-then (omega arith) (k .pour-key .ensures)
-    (poured-then (omega arith) (n .pour-number .ensures) (d .pour-byte .ensures))
+returns-2 : tie.Need-returns-2
+returns-2 c =
+    let w = c .before .before in
+    let e = w .before .before .before in
+    put-tried (omega arith) (omega arith) (tried-written (omega arith) (e .line-end .ensures) (w .write-line .ensures))
 
 pub pour-line-spec : {M : Type 1} → statement M
 pour-line-spec =
     tie.close
-    (tie.spec pour-key-requires pour-number-requires pour-byte-requires same-length returns)
+    (tie.spec
+    line-end-requires
+    returns
+    write-line-requires
+    same-length
+    returns-2)
