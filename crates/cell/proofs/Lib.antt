@@ -1,2 +1,3 @@
 pub mod Flow
+pub mod Keys
 pub mod Order

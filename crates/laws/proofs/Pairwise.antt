@@ -1,18 +1,21 @@
 -- Laws of pairwise: every one of a list stands in r to every later one.
 --     pairwise-head, pairwise-tail, pairwise-cons    one more at the front
 --     pairwise-append, pairwise-split                two lists one after the other
+--     pairwise-snoc                                  one more at the end
 --     pairwise-mono, pairwise-keep, pairwise-map
+--     pairwise-both                                  a relation that is asked only of those that pass
 --     pairwise-le-one                                no two pass: at most one passes
 use Prim.Native.Nat.{_≤_}
 use native.Mathlib.Omega.{arith}
-use mathlib.Core.Bool.{Bool, true, false, not, _&&_}
-use mathlib.Core.Path.{_≡_, refl, sym, _∙_, ap}
+use mathlib.Core.Bool.{Bool, true, false, cond, not, _&&_}
+use mathlib.Core.Path.{_≡_, refl, sym, _∙_, ap, ap₂}
 use mathlib.Core.Logic.{_⊎_, inl, inr}
 use mathlib.Core.List.{List, [], _∷_, _++_, map, List·Memᴰ, List·Memᴰ·head, List·Memᴰ·tail, List·Memᴰ·cases-cons}
 use mathlib.Core.List.{List·Memᴰ·not-nil, Memᴰ·append-left, Memᴰ·append-right, List·Memᴰ·append-cases}
 use Rattle.laws.specs.Lists.{keep, none?, all?, count, pairwise}
-use Rattle.laws.proofs.Tests.{and-i, and-l, and-r, not-e}
-use Rattle.laws.proofs.Lists.{all?-e, all?-i, all?-map, none?-i, keep-pass, keep-fail, keep-nil, mem-keep-in}
+use Rattle.laws.proofs.Tests.{and-i, and-l, and-r, and-false-r, not-e}
+use Rattle.laws.proofs.Lists.{all?-e, all?-i, all?-map, all?-append, none?-i, keep-pass, keep-fail, keep-nil}
+use Rattle.laws.proofs.Lists.{mem-keep-in}
 use Rattle.laws.proofs.Count.{count-nil, count-pass, count-fail, count-zero}
 
 module _ {A : Type 0} where
@@ -84,6 +87,19 @@ module _ {A : Type 0} where
       go y (inl i) = pairwise-head r h i
       go y (inr j) = c x y (List·Memᴰ·head refl) j
 
+  pub pairwise-snoc : (r : A → A → Bool) (l : List A) (y : A)
+      → pairwise r (l ++ (y ∷ [])) ≡ (pairwise r l && all? (λ x. r x y) l)
+  unfolding pairwise all?
+  pairwise-snoc r [] y = refl
+  pairwise-snoc r (x ∷ l) y =
+      ap₂ _&&_ (all?-append (r x) l (y ∷ [])) (pairwise-snoc r l y)
+      ∙ regroup (all? (r x) l) (r x y) (pairwise r l) (all? (λ x. r x y) l)
+    where
+      regroup : (a b c d : Bool) → ((a && (b && true)) && (c && d)) ≡ ((a && c) && (b && d))
+      regroup true true c d = refl
+      regroup true false c d = sym (and-false-r c false refl)
+      regroup false b c d = refl
+
   ------------------------------------------------------------------------
   -- another relation, another list
 
@@ -105,6 +121,31 @@ module _ {A : Type 0} where
       go true e rec =
           rw (keep-pass p x l e) (pairwise-cons r x (keep p l) (λ y m. pairwise-head r h (mem-keep-in p l m)) rec)
       go false e rec = rw (keep-fail p x l e) rec
+
+  all?-kept : (t p : A → Bool) (l : List A) → all? (λ y. not (p y && t y)) l ≡ all? (λ y. not (t y)) (keep p l)
+  unfolding all? keep
+  all?-kept t p [] = refl
+  all?-kept t p (x ∷ l) = go (p x) (all?-kept t p l)
+    where
+      go : (b : Bool) → all? (λ y. not (p y && t y)) l ≡ all? (λ y. not (t y)) (keep p l)
+          → (not (b && t x) && all? (λ y. not (p y && t y)) l)
+          ≡ all? (λ y. not (t y)) (cond b (x ∷ keep p l) (keep p l))
+      go true rec = ap (λ c. not (t x) && c) rec
+      go false rec = rec
+
+  pub pairwise-both : (q : A → A → Bool) (p : A → Bool) (l : List A)
+      → pairwise (λ x y. not (p x && (p y && q x y))) l ≡ pairwise (λ x y. not (q x y)) (keep p l)
+  unfolding pairwise keep
+  pairwise-both q p [] = refl
+  pairwise-both q p (x ∷ l) = go (p x) (pairwise-both q p l)
+    where
+      go : (b : Bool)
+          → pairwise (λ x y. not (p x && (p y && q x y))) l ≡ pairwise (λ x y. not (q x y)) (keep p l)
+          → (all? (λ y. not (b && (p y && q x y))) l && pairwise (λ x y. not (p x && (p y && q x y))) l)
+          ≡ pairwise (λ x y. not (q x y)) (cond b (x ∷ keep p l) (keep p l))
+      go true rec = ap₂ _&&_ (all?-kept (q x) p l) rec
+      go false rec =
+          ap (λ c. c && pairwise (λ x y. not (p x && (p y && q x y))) l) (all?-i (λ y. true) l (λ y m. refl)) ∙ rec
 
   ------------------------------------------------------------------------
   -- counts

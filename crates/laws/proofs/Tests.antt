@@ -2,11 +2,15 @@
 --     either, clash        a test passes or fails, and not both
 --     by-pass, by-fail     from the other one's absurdity
 --     same                 two tests are equal when each passes where the other does
+--     eqb-turned           equality of numbers is tested alike both ways round
 --     and-, or-, not-      when the connective passes (-i, -l, -r, -e, -cases) and when it fails (-false-)
 --     cond-pass, cond-fail the branch that a known test takes
 use mathlib.Core.Bool.{Bool, true, false, cond, not, _&&_, _||_, true≢false, false≢true}
 use mathlib.Core.Path.{_≡_, refl, sym, _∙_, ap}
 use mathlib.Core.Logic.{_⊎_, inl, inr}
+use Prim.Native.Nat.{ℕ}
+use borrow.Author.Tests.{eqb-true, eq-eqb}
+use lib.Dec.{eqb}
 
 ------------------------------------------------------------------------
 -- one test
@@ -30,6 +34,11 @@ pub same : (a b : Bool) → (a ≡ true → b ≡ true) → (b ≡ true → a �
 same true b f g = sym (f refl)
 same false true f g = g refl
 same false false f g = refl
+
+-- two numbers compared either way round
+pub eqb-turned : (m n : ℕ) → eqb m n ≡ eqb n m
+eqb-turned m n =
+    same (eqb m n) (eqb n m) (λ t. eq-eqb n m (sym (eqb-true m n t))) (λ t. eq-eqb m n (sym (eqb-true n m t)))
 
 ------------------------------------------------------------------------
 -- and

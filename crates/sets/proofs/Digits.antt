@@ -8,7 +8,6 @@
 --     has-pred                           a set and the number before it share all but the first member
 use mathlib.Core.Path.{_≡_, refl, sym, ap, ap₂, _∙_, subst}
 use mathlib.Core.Bool.{Bool, true, false, cond, not, _&&_, _||_, and-self, and-true}
-use mathlib.Core.Logic.{_⊎_, inl, inr}
 use Prim.Native.Nat.{ℕ, zero, suc, _+_, _-_, _*_, _/_, _%_, _^_, _≤_, _<_, min, max}
 use native.Mathlib.Nat.{zero-lt-suc, div-one, pow-suc, pow-succ', div-div-eq-div-mul, div-lt-iff-lt-mul, div-eq-of-lt}
 use native.Mathlib.Nat.{lt-of-lt-of-le}
@@ -19,7 +18,6 @@ use lib.Bits.{bitAnd, bitOr, and-step, or-step}
 use lib.Count.{trailingZeros, under}
 use lib.Dec.{eqb, ltb, eqb·suc-suc, eqb·zero-suc, eqb·suc-zero, leb·suc-suc, leb·zero, leb·suc-zero, lit<}
 use lib.Pow.{pow-pos, pow-mono}
-use Rattle.laws.proofs.Tests.{either}
 use Rattle.sets.specs.Sets.{has}
 
 ------------------------------------------------------------------------
@@ -170,8 +168,8 @@ has-ones (suc k) (suc j) =
 -- the first member
 
 -- whether the last digit is set, and the zeros at the end by that
-trailing-cases : (d set : ℕ) (P : ℕ → Type 0) → (set % 2 ≡ 1 → P 0) → (set % 2 ≡ 0 → P (suc (trailingZeros d (set / 2))))
-    → P (trailingZeros (suc d) set)
+trailing-cases : (d set : ℕ) (P : ℕ → Type 0) → (set % 2 ≡ 1 → P 0)
+    → (set % 2 ≡ 0 → P (suc (trailingZeros d (set / 2)))) → P (trailingZeros (suc d) set)
 unfolding trailingZeros
 trailing-cases d set P odd even = go (set % 2) refl
   where

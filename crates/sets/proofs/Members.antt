@@ -22,17 +22,16 @@ use borrow.Author.Tests.{lt-ltb, le-ltb, ltb-true, ltb-false, eq-eqb, ne-eqb}
 use lib.Bits.{bitAnd, and-le-l, and-le-r}
 use lib.Count.{trailingZeros, trailing-le, ones, ones-step}
 use lib.Dec.{eqb, ltb, leb·suc-suc, leb·zero, leb·suc-zero}
-use lib.ListN.{length}
 use lib.Pow.{pow-mono}
 use Rattle.laws.specs.Lists.{keep, all?, count, pairwise, numbersFrom, upTo}
 use Rattle.laws.proofs.Tests.{either, and-i, and-false-l, and-false-r}
 use Rattle.laws.proofs.Lists.{keep-append, keep-pass, keep-fail, keep-none, keep-ext, keep-map, keep-mem, mem-keep}
 use Rattle.laws.proofs.Lists.{none?-i, all?-i}
 use Rattle.laws.proofs.Pairwise.{pairwise-keep}
-use Rattle.laws.proofs.Count.{count-cons, count-ext, count-map, length-keep}
+use Rattle.laws.proofs.Count.{count-cons, count-ext, count-map}
 use Rattle.laws.proofs.Numbers.{numbersFrom-add, numbersFrom-mem, mem-numbersFrom}
-use Rattle.sets.specs.Sets.{positions, has, pushed, setFrom, setOf, withOne, withoutOne, minus, below, from, members}
-use Rattle.sets.specs.Sets.{headOr, firstOf, restOf}
+use Rattle.sets.specs.Sets.{positions, has, pushed, setFrom, setOf, withOne, withoutOne, minus, below, from}
+use Rattle.sets.specs.Sets.{members, headOr, firstOf, restOf}
 use Rattle.sets.proofs.Digits.{has-zero, has-suc, has-past, same-members, has-and, has-pred, digit, half-lt}
 use Rattle.sets.proofs.Digits.{trailing-none, trailing-member}
 
@@ -205,7 +204,8 @@ module _ (set : ℕ) (some : 0 < set) (fits : set < 2 ^ positions) where
   pub rest-and : bitAnd set (set - 1) ≡ restOf set
   unfolding restOf withoutOne
   rest-and =
-      setOf-is (λ j. has set j && not (eqb j (firstOf set))) (bitAnd set (set - 1)) (omega (arith, and-le-l set (set - 1)))
+      setOf-is (λ j. has set j && not (eqb j (firstOf set))) (bitAnd set (set - 1))
+      (omega (arith, and-le-l set (set - 1)))
       (λ j h. has-and set (set - 1) j
       ∙ has-pred positions set j some fits
       ∙ ap (λ f. has set j && not (eqb j f)) (first-trailing set))
@@ -319,29 +319,31 @@ ones-count (suc d) set h =
 ------------------------------------------------------------------------
 -- a loop over a set that takes the first of those left
 
-pub record Visited (set left : ℕ) : Type 0 where
-  pub passed : List ℕ
+pub record Visited (set : ℕ) (passed : List ℕ) (left : ℕ) : Type 0 where
   pub split : members set ≡ passed ++ members left
+  pub fits : left < 2 ^ positions
 
-pub visited-start : (set : ℕ) → Visited set set
-visited-start set = record { passed = []; split = refl }
+pub visited-start : (set : ℕ) → set < 2 ^ positions → Visited set [] set
+visited-start set h = record { split = refl; fits = h }
 
-pub visited-next : {set left : ℕ} → Visited set left → 0 < left → left < 2 ^ positions → Visited set (restOf left)
-visited-next {set} {left} v some fits =
-    record {
-      passed = v .passed ++ (firstOf left ∷ []);
-      split =
-          v .split
-          ∙ ap (λ l. v .passed ++ l) (members-cons left some fits)
-          ∙ sym (append-assoc (v .passed) (firstOf left ∷ []) (members (restOf left)));
-    }
+-- where some are left
+module _ {set : ℕ} {passed : List ℕ} {left : ℕ} (v : Visited set passed left) (some : 0 < left) where
+  pub visited-cons : members set ≡ passed ++ (firstOf left ∷ members (restOf left))
+  visited-cons = v .split ∙ ap (λ l. passed ++ l) (members-cons left some (v .fits))
 
--- the member at hand is one of the set
-pub visited-member : {set left : ℕ} → Visited set left → 0 < left → left < 2 ^ positions
-    → List·Memᴰ (firstOf left) (members set)
-visited-member {set} {left} v some fits =
-    subst (List·Memᴰ (firstOf left)) (sym (v .split ∙ ap (λ l. v .passed ++ l) (members-cons left some fits)))
-    (Memᴰ·append-right (v .passed) (List·Memᴰ·head refl))
+  pub visited-next : Visited set (passed ++ (firstOf left ∷ [])) (restOf left)
+  visited-next =
+      record {
+        split = visited-cons ∙ sym (append-assoc passed (firstOf left ∷ []) (members (restOf left)));
+        fits = omega (arith, v .fits, rest-less left some (v .fits));
+      }
 
-pub visited-end : {set : ℕ} (v : Visited set 0) → members set ≡ v .passed
-visited-end v = v .split ∙ ap (λ l. v .passed ++ l) members-none ∙ append-nil (v .passed)
+  -- the member at hand is one of the set
+  pub visited-member : List·Memᴰ (firstOf left) (members set)
+  visited-member =
+      subst (List·Memᴰ (firstOf left)) (sym visited-cons) (Memᴰ·append-right passed (List·Memᴰ·head refl))
+
+-- where none is left
+pub visited-end : {set : ℕ} {passed : List ℕ} {left : ℕ} → Visited set passed left → left ≡ 0 → members set ≡ passed
+visited-end {set} {passed} {left} v none =
+    v .split ∙ ap (λ l. passed ++ l) (ap members none ∙ members-none) ∙ append-nil passed

@@ -1,15 +1,17 @@
 -- The sets that the code makes, as operations on digits.
-use mathlib.Core.Path.{_≡_, refl, sym, ap, ap₂, _∙_}
-use mathlib.Core.Bool.{true, not, _&&_, _||_}
+use mathlib.Core.Path.{_≡_, sym, ap, ap₂, _∙_}
+use mathlib.Core.Bool.{not, _&&_, _||_}
 use Prim.Native.Nat.{ℕ, suc, _+_, _-_, _*_, _/_, _%_, _^_, _≤_, _<_}
 use native.Mathlib.Nat.{one-mul, mod-eq-of-lt, pow-suc}
 use native.Mathlib.Omega.{arith}
+use borrow.Author.Tests.{eqb-true, eq-eqb}
 use lib.Arith.{digits-div}
-use lib.Bits.{bitAnd, bitOr, and-le-l, or-lt}
+use lib.Bits.{bitAnd, bitOr, and-le-l, and-le-r, or-lt, or-add-and, or-zero-l}
 use lib.Count.{leadingZeros, leading-top, ones}
 use lib.Dec.{eqb, ltb}
 use lib.Pow.{pow-lt, ones-lt}
 use Rattle.laws.specs.Lists.{upTo}
+use Rattle.laws.proofs.Tests.{same, and-i, and-l, and-r}
 use Rattle.laws.proofs.Count.{length-keep}
 use Rattle.sets.specs.Sets.{positions, has, withOne, withoutOne, minus, below, from, members, sizeOf, Last}
 use Rattle.sets.proofs.Digits.{has-past, has-and, has-or, has-not, has-one, has-ones}
@@ -78,4 +80,18 @@ module _ (set : ℕ) (fits : set < 2 ^ positions) where
           let rest : set - 2 ^ j < 2 ^ j = omega (arith, pow-suc 2 j) in
           let top : set ≡ 1 * 2 ^ j + (set - 2 ^ j) = omega arith in
           let one : set / 2 ^ j ≡ 1 = ap (λ n. n / 2 ^ j) top ∙ digits-div 1 rest in
-          (omega arith, rw last (record { member = ap (λ n. eqb (n % 2) 1) one; after = λ i h. has-past (suc j) set i high h }))
+          let is : Last set j =
+          record { member = ap (λ n. eqb (n % 2) 1) one; after = λ i h. has-past (suc j) set i high h } in
+          (omega arith, rw last is)
+
+-- two sets together have no member if neither has
+pub or-none : (a b : ℕ) → eqb (bitOr a b) 0 ≡ (eqb a 0 && eqb b 0)
+or-none a b =
+    same (eqb (bitOr a b) 0) (eqb a 0 && eqb b 0)
+    (λ h.
+    let none : bitOr a b ≡ 0 = eqb-true (bitOr a b) 0 h in
+    and-i (eqb a 0) (eqb b 0) (eq-eqb a 0 (omega (arith, or-add-and a b, and-le-l a b, and-le-r a b)))
+    (eq-eqb b 0 (omega (arith, or-add-and a b, and-le-l a b, and-le-r a b))))
+    (λ h.
+    eq-eqb (bitOr a b) 0
+    (ap₂ bitOr (eqb-true a 0 (and-l (eqb a 0) (eqb b 0) h)) (eqb-true b 0 (and-r (eqb a 0) (eqb b 0) h)) ∙ or-zero-l 0))

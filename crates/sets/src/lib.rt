@@ -2,18 +2,19 @@
 // member is 0, so a loop over a set takes its first member and goes on with the rest while the rest is not 0.
 ghost use mathlib.Core.Path.{_≡_};
 ghost use Prim.Native.Nat.{_<_, _^_};
-ghost use Rattle.sets.specs.Sets.{has, pushed, withOne, withoutOne, minus, below, from, firstOf, restOf, sizeOf, Last};
+ghost use Rattle.sets.specs.Sets.{has, pushed, withOne, withoutOne, minus, below, from};
+ghost use Rattle.sets.specs.Sets.{firstOf, restOf, sizeOf, Last};
 
 // Whether a position is a member.
-pub fn has(set: u64, j: u32) -> bool
+pub fn has(set: u64, j: usize) -> bool
     requires { ⌜ j < 64 ⌝ }
     ensures { λ r. ⌜ r ≡ has set j ⌝ }
 {
     (set >> j) % 2 == 1
 }
 
-// The set with each member one position later, and position 0 a member or not: how a pass over positions from the last to
-// the first makes a set.
+// The set with each member one position later, and position 0 a member or not: how a pass over positions from the last
+// to the first makes a set.
 pub fn push(set: u64, member: bool) -> u64
     requires { ⌜ set < 2 ^ 63 ⌝ }
     ensures { λ r. ⌜ r ≡ pushed set member ⌝ }
@@ -22,7 +23,7 @@ pub fn push(set: u64, member: bool) -> u64
 }
 
 // The set with a position in it.
-pub fn with(set: u64, j: u32) -> u64
+pub fn with(set: u64, j: usize) -> u64
     requires { ⌜ j < 64 ⌝ }
     ensures { λ r. ⌜ r ≡ withOne set j ⌝ }
 {
@@ -30,7 +31,7 @@ pub fn with(set: u64, j: u32) -> u64
 }
 
 // The set with a position not in it.
-pub fn without(set: u64, j: u32) -> u64
+pub fn without(set: u64, j: usize) -> u64
     requires { ⌜ j < 64 ⌝ }
     ensures { λ r. ⌜ r ≡ withoutOne set j ⌝ }
 {
@@ -45,7 +46,7 @@ pub fn minus(a: u64, b: u64) -> u64
 }
 
 // The members before a position.
-pub fn below(set: u64, j: u32) -> u64
+pub fn below(set: u64, j: usize) -> u64
     requires { ⌜ j < 64 ⌝ }
     ensures { λ r. ⌜ r ≡ below set j ⌝ }
 {
@@ -53,7 +54,7 @@ pub fn below(set: u64, j: u32) -> u64
 }
 
 // The members from a position on.
-pub fn from(set: u64, j: u32) -> u64
+pub fn from(set: u64, j: usize) -> u64
     requires { ⌜ j < 64 ⌝ }
     ensures { λ r. ⌜ r ≡ from set j ⌝ }
 {
@@ -61,10 +62,10 @@ pub fn from(set: u64, j: u32) -> u64
 }
 
 // The first member; 64 where there is none.
-pub fn first(set: u64) -> u32
+pub fn first(set: u64) -> usize
     ensures { λ r. ⌜ r ≡ firstOf set ⌝ }
 {
-    u64::trailing_zeros(set)
+    u64::trailing_zeros(set) as usize
 }
 
 // The set without its first member.
@@ -76,16 +77,16 @@ pub fn rest(set: u64) -> u64
 }
 
 // The last member.
-pub fn last(set: u64) -> u32
+pub fn last(set: u64) -> usize
     requires { ⌜ 0 < set ⌝ }
     ensures { λ r. ⌜ Last set r ⌝ }
 {
-    63 - u64::leading_zeros(set)
+    63 - u64::leading_zeros(set) as usize
 }
 
 // How many members there are.
-pub fn size(set: u64) -> u32
+pub fn size(set: u64) -> usize
     ensures { λ r. ⌜ r ≡ sizeOf set ⌝ }
 {
-    u64::count_ones(set)
+    u64::count_ones(set) as usize
 }

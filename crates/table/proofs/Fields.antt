@@ -1,6 +1,6 @@
 -- When a record is an entry of a table, and when it is not used, field by field.
 use Prim.Native.Nat.{ℕ, _+_, _/_, _≤_, _<_}
-use mathlib.Core.Bool.{Bool, true, false}
+use mathlib.Core.Bool.{Bool, true, false, _&&_}
 use mathlib.Core.Path.{_≡_, refl, sym, _∙_, ap, ap₂}
 use mathlib.Core.List.{List, _++_}
 use native.Mathlib.Nat.{add-zero}
@@ -11,7 +11,7 @@ use lib.ListN.{length, drop, getD, replicate}
 use mir.Syntax.{w8}
 use mir.Val.{Fits}
 use Rattle.laws.specs.Lists.{all?}
-use Rattle.laws.proofs.Tests.{and-i, and-l, and-r}
+use Rattle.laws.proofs.Tests.{same, and-i, and-l, and-r}
 use Rattle.laws.proofs.Lists.{all?-mono}
 use Rattle.cell.specs.Limits.{portLimit, flowLimit, cellLimit, fits32}
 use Rattle.model.specs.State.{Entry, listed, crossed, buffered, isListed, isCrossed}
@@ -199,7 +199,7 @@ module _ (bs : List ℕ) (h : bytes? bs ≡ true) (size : length bs ≡ tableSiz
       let high : numberAt 8 (recordStart k + 8) bs ≡ numberAt 8 8 r = sym (recordAt-number bs k 8 8 (lit≤ tt)) in
       sym (number-again 8 0 _ r _ bytes (omega arith) low (ap (bytesOf 8) high ∙ bytesOf-last 8 8 r bytes room))
 
-  pub isUnused-i : _≡_ {A = ℕ} (numberAt 8 (recordStart k) bs) 0 → _≡_ {A = ℕ} (numberAt 8 (recordStart k + 8) bs) 0
+  isUnused-i : _≡_ {A = ℕ} (numberAt 8 (recordStart k) bs) 0 → _≡_ {A = ℕ} (numberAt 8 (recordStart k + 8) bs) 0
       → isUnused bs k ≡ true
   unfolding isUnused bytesOf
   isUnused-i low high =
@@ -211,13 +211,25 @@ module _ (bs : List ℕ) (h : bytes? bs ≡ true) (size : length bs ≡ tableSiz
   unfolding isUnused
   unused-number e at room = sym (recordAt-number bs k 8 at room) ∙ ap (numberAt 8 at) (sym (sameBytes-exact _ _ e))
 
-  pub isUnused-low : isUnused bs k ≡ true → _≡_ {A = ℕ} (numberAt 8 (recordStart k) bs) 0
+  isUnused-low : isUnused bs k ≡ true → _≡_ {A = ℕ} (numberAt 8 (recordStart k) bs) 0
   unfolding numberAt numberOf
   isUnused-low e = ap (λ n. numberAt 8 n bs) (sym (add-zero (recordStart k))) ∙ unused-number e 0 (lit≤ tt)
 
-  pub isUnused-high : isUnused bs k ≡ true → _≡_ {A = ℕ} (numberAt 8 (recordStart k + 8) bs) 0
+  isUnused-high : isUnused bs k ≡ true → _≡_ {A = ℕ} (numberAt 8 (recordStart k + 8) bs) 0
   unfolding numberAt numberOf
   isUnused-high e = unused-number e 8 (lit≤ tt)
+
+  -- both its halves are zero
+  pub isUnused-halves : isUnused bs k
+      ≡ (eqb (numberAt 8 (recordStart k) bs) 0 && eqb (numberAt 8 (recordStart k + 8) bs) 0)
+  isUnused-halves =
+      let low = numberAt 8 (recordStart k) bs in
+      let high = numberAt 8 (recordStart k + 8) bs in
+      same (isUnused bs k) (eqb low 0 && eqb high 0)
+      (λ t. and-i (eqb low 0) (eqb high 0) (eq-eqb low 0 (isUnused-low t)) (eq-eqb high 0 (isUnused-high t)))
+      (λ t.
+      isUnused-i (eqb-true low 0 (and-l (eqb low 0) (eqb high 0) t))
+      (eqb-true high 0 (and-r (eqb low 0) (eqb high 0) t)))
 
 ------------------------------------------------------------------------
 -- the bytes of a slice are bytes

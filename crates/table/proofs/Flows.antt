@@ -1,297 +1,279 @@
--- Whether the cells of each flow stand together in output priority, found by a walk from the last entry to the first.
-use Prim.Native.Nat.{ℕ, _+_, _-_, _/_, _%_, _≤_, _<_}
-use mathlib.Core.Bool.{Bool, true, false, not, _&&_, _||_, false≢true}
-use mathlib.Core.Path.{_≡_, refl, sym, _∙_, ap, subst}
+-- Whether the cells of each flow stand together in output priority, found by a walk from the first listed entry on.
+use Prim.Native.Nat.{ℕ, _+_, _/_, _%_, _^_, _≤_, _<_}
+use mathlib.Core.Bool.{Bool, true, false, cond, not, _&&_, _||_, or-false}
+use mathlib.Core.Path.{_≡_, refl, sym, _∙_, ap, ap₂, subst}
+use mathlib.Core.List.{List, [], _∷_, _++_, map-append, List·Memᴰ, List·Memᴰ·head}
+use mathlib.Core.List.{Memᴰ·append-left, Memᴰ·append-right}
 use mathlib.Core.Logic.{_⊎_, inl, inr}
-use mathlib.Core.List.{List, [], _∷_, _++_, List·Memᴰ, List·Memᴰ·head, Memᴰ·append-right}
-use native.Mathlib.Nat.{le-refl}
 use native.Mathlib.Omega.{arith}
-use borrow.Author.Tests.{eqb-true, eq-eqb}
-use lib.Dec.{eqb, lit≤}
-use lib.ListN.{getD, set, replicate}
-use lib.Seq.{set-getD}
-use Rattle.laws.specs.Lists.{keep, some?, none?, all?}
-use Rattle.laws.proofs.Tests.{clash, by-fail, same, and-i, and-l, and-r, or-l, or-r, or-cases, not-e, not-false-e}
-use Rattle.laws.proofs.Lists.{some?-ext, some?-clash, none?-by-some?, all?-i, all?-e, mem-keep-in, keep-append}
-use Rattle.laws.proofs.Lists.{keep-pass, keep-fail}
+use borrow.Author.Tests.{eqb-true, eq-eqb, ne-eqb, ltb-true, ltb-false, le-leb, lt-leb}
+use lib.Dec.{eqb, ltb, leb}
+use lib.ListN.{length, getD, set}
+use Rattle.laws.specs.Lists.{some?, none?, all?}
+use Rattle.laws.proofs.Tests.{eqb-turned, either, clash, by-fail, same, and-l, and-false-r, not-or}
+use Rattle.laws.proofs.Lists.{some?-i, some?-ext, some?-append, none?-e, none?-false, none?-append, none?-not-some?}
+use Rattle.laws.proofs.Lists.{all?-i, all?-e, all?-map}
+use Rattle.sets.specs.Sets.{positions, members, firstOf, restOf}
+use Rattle.sets.proofs.Members.{Visited, visited-start, visited-cons, visited-next, visited-end, in-members}
 use Rattle.cell.specs.Flow.{sameFlow}
-use Rattle.cell.specs.Order.{over}
-use Rattle.cell.proofs.Flow.{flow-i, flow-e}
-use Rattle.model.specs.State.{Entry, isListed}
+use Rattle.cell.specs.Limits.{cellLimit, fits32}
+use Rattle.cell.specs.Order.{over, key}
+use Rattle.cell.proofs.Flow.{flow-i, flow-e, flow-sym, flow-trans}
+use Rattle.cell.proofs.Keys.{over-key-input}
+use Rattle.model.specs.State.{Entry}
 use Rattle.model.specs.Sound.{together}
 use Rattle.layout.specs.Entry.{entryAt}
-use Rattle.layout.specs.Records.{between, entriesBetween}
-use Rattle.table.specs.Check.{inRange, standsApart}
-use Rattle.table.specs.Entries.{flowNumber}
-use Rattle.layout.proofs.Records.{entryAt-input, between-mem, entriesBetween-nil, entriesBetween-split}
-use Rattle.layout.proofs.Records.{all?-entriesBetween}
-use Rattle.table.proofs.Walks.{inRange-e}
-use Rattle.table.proofs.Seen.{Seen, seen-none, seen-mark, entriesBetween-back}
+use Rattle.layout.specs.Table.{tableSize}
+use Rattle.layout.specs.Records.{recordStart}
+use Rattle.table.specs.Check.{inRange, entriesIn, breaksFlow, MarksBelow}
+use Rattle.table.specs.Entries.{flowNumber, recordLimit}
+use Rattle.layout.proofs.Records.{entryAt-input, entryAt-slot}
+use Rattle.layout.proofs.Number.{bytes?, word-fits, fits32-below}
+use Rattle.table.proofs.Marks.{Marked, marked-none, marked-one}
+use Rattle.table.proofs.Walks.{inRange-e, entriesAt, entriesAt-more}
 
 ------------------------------------------------------------------------
--- together
-
-abbrev inList : Entry → Bool
-inList e = isListed (e .place)
+-- together, with one entry more at the end
 
 -- of the same flow
 abbrev ofFlow : Entry → Entry → Bool
 ofFlow e g = sameFlow (e .cell) (g .cell)
 
-together-tail : (e : Entry) (l : List Entry) → together (e ∷ l) ≡ true → together l ≡ true
-unfolding together
-together-tail e [] h = refl
-together-tail e (f ∷ l) h =
-    and-r (ofFlow e f && over (e .cell) (f .cell) || none? (ofFlow e) (f ∷ l)) (together (f ∷ l)) h
+-- e may stand behind l, of which f is the last: f is of its flow and goes before it, or none of l is of its flow
+joins : Entry → Entry → List Entry → Bool
+joins f e l = cond (ofFlow f e) (over (f .cell) (e .cell)) (none? (λ x. ofFlow x e) l)
 
-together-append-r : (l m : List Entry) → together (l ++ m) ≡ true → together m ≡ true
-together-append-r [] m h = h
-together-append-r (e ∷ l) m h = together-append-r l m (together-tail e (l ++ m) h)
+module _ (x y f e : Entry) (r : List Entry) (last : List·Memᴰ f (y ∷ r)) where
+  -- one of x's flow right behind it: where e is of that flow, so is one of those between
+  follows-some : (ofFlow x y && over (x .cell) (y .cell)) ≡ true → ofFlow x e ≡ true
+      → none? (λ g. ofFlow g e) (y ∷ r) ≡ false
+  follows-some h t =
+      none?-false (λ g. ofFlow g e) (y ∷ r)
+      (some?-i (λ g. ofFlow g e) (List·Memᴰ·head refl)
+      (flow-trans (y .cell) (x .cell) (e .cell)
+      (flow-sym (x .cell) (y .cell) (and-l (ofFlow x y) (over (x .cell) (y .cell)) h)) t))
 
--- an entry before the first of a list, f
-module _ (e f : Entry) where
-  abbrev follows : Bool
-  follows = sameFlow (e .cell) (f .cell) && over (e .cell) (f .cell)
+  -- none of x's flow behind it: where e is of that flow, the last is not of e's
+  none-last : none? (ofFlow x) (y ∷ r) ≡ true → ofFlow x e ≡ true → ofFlow f e ≡ false
+  none-last h t =
+      by-fail (ofFlow f e) (λ s.
+      clash (flow-trans (x .cell) (e .cell) (f .cell) t (flow-sym (f .cell) (e .cell) s)) (none?-e (ofFlow x) h last))
 
-  together-cons : (l : List Entry) → together (e ∷ f ∷ l) ≡ ((follows || none? (ofFlow e) (f ∷ l)) && together (f ∷ l))
-  unfolding together
-  together-cons l = refl
-
-  apart-e : (later : Bool) → standsApart later e f ≡ true → (later ≡ true) × (follows ≡ false)
-  unfolding standsApart
-  apart-e later h = (and-l later (not follows) h, not-e follows (and-r later (not follows) h))
-
-  apart-false : (later : Bool) → standsApart later e f ≡ false → (later ≡ false) ⊎ (follows ≡ true)
-  unfolding standsApart
-  apart-false later h = go later refl h
+  together-more : together ((y ∷ r) ++ (e ∷ [])) ≡ (together (y ∷ r) && joins f e (y ∷ r))
+      → together (x ∷ (y ∷ r) ++ (e ∷ [])) ≡ (together (x ∷ y ∷ r) && joins f e (x ∷ y ∷ r))
+  unfolding together none? joins
+  together-more rec =
+      ap₂ (λ a b. ((ofFlow x y && over (x .cell) (y .cell)) || a) && b) (none?-append (ofFlow x) (y ∷ r) (e ∷ [])) rec
+      ∙ go (ofFlow x y && over (x .cell) (y .cell)) (none? (ofFlow x) (y ∷ r)) (ofFlow x e) (together (y ∷ r))
+      (ofFlow f e) (over (f .cell) (e .cell)) (none? (λ g. ofFlow g e) (y ∷ r)) follows-some none-last
     where
-      go : (b : Bool) → later ≡ b → (b && not follows) ≡ false → (later ≡ false) ⊎ (follows ≡ true)
-      go false t h = inl t
-      go true t h = inr (not-false-e follows h)
+      go : (follows none this t same first others : Bool) → (follows ≡ true → this ≡ true → others ≡ false)
+          → (none ≡ true → this ≡ true → same ≡ false)
+          → ((follows || (none && (not this && true))) && (t && cond same first others))
+          ≡ (((follows || none) && t) && cond same first (not this && others))
+      go true none true t same first others h k = ap (λ n. t && cond same first n) (h refl refl)
+      go true none false t same first others h k = refl
+      go false true true t same first others h k =
+          sym (ap (λ s. t && cond s first false) (k refl refl) ∙ and-false-r t false refl)
+      go false true false t same first others h k = refl
+      go false false this t same first others h k = refl
 
-  fits-at : (l : List Entry) → standsApart (some? (ofFlow e) (f ∷ l)) e f ≡ false → together (f ∷ l) ≡ true
-      → together (e ∷ f ∷ l) ≡ true
-  fits-at l h good =
-      together-cons l
-      ∙ and-i (follows || none? (ofFlow e) (f ∷ l)) (together (f ∷ l)) (go (apart-false _ h)) good
-    where
-      go : (some? (ofFlow e) (f ∷ l) ≡ false) ⊎ (follows ≡ true) → (follows || none? (ofFlow e) (f ∷ l)) ≡ true
-      go (inl t) = or-r follows (none? (ofFlow e) (f ∷ l)) (none?-by-some? (ofFlow e) (f ∷ l) t)
-      go (inr t) = or-l follows (none? (ofFlow e) (f ∷ l)) t
-
-  breaks-at : (l : List Entry) → standsApart (some? (ofFlow e) (f ∷ l)) e f ≡ true → together (e ∷ f ∷ l) ≡ false
-  breaks-at l h =
-      by-fail _
-      (λ t.
-      let first = and-l (follows || none? (ofFlow e) (f ∷ l)) (together (f ∷ l)) (sym (together-cons l) ∙ t) in
-      go (apart-e _ h) (or-cases follows (none? (ofFlow e) (f ∷ l)) first))
-    where
-      go : (some? (ofFlow e) (f ∷ l) ≡ true) × (follows ≡ false)
-          → (follows ≡ true) ⊎ (none? (ofFlow e) (f ∷ l) ≡ true) → ⊥
-      go (some, no-follow) (inl t) = clash t no-follow
-      go (some, no-follow) (inr t) = some?-clash (ofFlow e) (f ∷ l) some t
-
--- a list that is empty or begins with f
-pub Begins : Entry → List Entry → Type 0
-Begins f l = (l ≡ []) ⊎ ((rest : List Entry) × (l ≡ f ∷ rest))
-
-module _ (e f : Entry) (l : List Entry) (begins : Begins f l) where
-  together-fits : standsApart (some? (ofFlow e) l) e f ≡ false → together l ≡ true → together (e ∷ l) ≡ true
-  unfolding together Begins
-  together-fits h good = go begins
-    where
-      go : Begins f l → together (e ∷ l) ≡ true
-      go (inl none) = ap (λ l. together (e ∷ l)) none
-      go (inr (rest, is)) =
-          let fits = ap (λ l. standsApart (some? (ofFlow e) l) e f) (sym is) ∙ h in
-          ap (λ l. together (e ∷ l)) is ∙ fits-at e f rest fits (ap together (sym is) ∙ good)
-
-  together-breaks : standsApart (some? (ofFlow e) l) e f ≡ true → together (e ∷ l) ≡ false
-  unfolding Begins some? standsApart
-  together-breaks h = go begins
-    where
-      go : Begins f l → together (e ∷ l) ≡ false
-      go (inl none) = absurd (clash h (ap (λ l. standsApart (some? (ofFlow e) l) e f) none))
-      go (inr (rest, is)) =
-          let breaks = ap (λ l. standsApart (some? (ofFlow e) l) e f) (sym is) ∙ h in
-          ap (λ l. together (e ∷ l)) is ∙ breaks-at e f rest breaks
+together-snoc : (p : List Entry) (f e : Entry)
+    → together ((p ++ (f ∷ [])) ++ (e ∷ [])) ≡ (together (p ++ (f ∷ [])) && joins f e (p ++ (f ∷ [])))
+unfolding together none? joins
+together-snoc [] f e = go (ofFlow f e) (over (f .cell) (e .cell))
+  where
+    go : (s o : Bool) → (((s && o) || (not s && true)) && true) ≡ (true && cond s o (not s && true))
+    go true true = refl
+    go true false = refl
+    go false o = refl
+together-snoc (x ∷ []) f e = together-more x f f e [] (List·Memᴰ·head refl) (together-snoc [] f e)
+together-snoc (x ∷ z ∷ q) f e =
+    together-more x z f e (q ++ (f ∷ [])) (Memᴰ·append-right (z ∷ q) (List·Memᴰ·head refl)) (together-snoc (z ∷ q) f e)
 
 ------------------------------------------------------------------------
 -- the flows of an input by number
 
 -- an entry of the flow of this number
 pub flowIs : ℕ → Entry → Bool
-flowIs n e = eqb n (flowNumber e)
+flowIs n e = eqb (flowNumber e) n
 
-flow-number : (e g : Entry) → inRange e ≡ true → inRange g ≡ true → e .cell .input ≡ g .cell .input
-    → sameFlow (e .cell) (g .cell) ≡ flowIs (flowNumber e) g
-unfolding flowIs
-flow-number e g he hg input =
-    same (sameFlow (e .cell) (g .cell)) (eqb (flowNumber e) (flowNumber g))
-    (λ t.
-    let f = flow-e (e .cell) (g .cell) t in
-    eq-eqb (flowNumber e) (flowNumber g) (omega (arith, f .output, f .flow)))
-    (λ t.
-    let be = inRange-e e he in
-    let bg = inRange-e g hg in
-    let number : flowNumber e ≡ flowNumber g = eqb-true (flowNumber e) (flowNumber g) t in
-    flow-i (record { input = input; output = omega arith; flow = omega arith }))
+-- an entry of a section: its fields are in range, and it is of the section's input
+pub record Good (first : ℕ) (e : Entry) : Type 0 where
+  pub range : inRange e ≡ true
+  pub input : e .cell .input ≡ first / 64
+  pub slot : e .cell .slot < 2 ^ 32
 
--- the entries of one section
-pub section-good : (bs : List ℕ) (from to : ℕ) → _≡_ {A = ℕ} (from % 64) 0 → to ≤ from + 64
-    → all? inRange (entriesBetween bs from to) ≡ true → (g : Entry) → List·Memᴰ g (entriesBetween bs from to)
-    → (inRange g ≡ true) × (g .cell .input ≡ from / 64)
-section-good bs from to start end ranges g m =
-    let ofInput : Entry → Bool = λ e. eqb (e .cell .input) (from / 64) in
-    let inputs : all? ofInput (entriesBetween bs from to) ≡ true =
-    all?-entriesBetween ofInput bs from to
-    ∙ all?-i (λ k. ofInput (entryAt bs k)) (between from to) (λ k i. at k (between-mem from to i)) in
-    (all?-e inRange ranges m, eqb-true (g .cell .input) (from / 64) (all?-e ofInput inputs m))
+-- the entries at positions of a section, where all are in range
+pub section-good : (bs : List ℕ) → bytes? bs ≡ true → length bs ≡ tableSize → (first chosen : ℕ)
+    → first + cellLimit ≤ recordLimit → _≡_ {A = ℕ} (first % cellLimit) 0
+    → all? inRange (entriesIn bs first chosen) ≡ true
+    → (g : Entry) → List·Memᴰ g (entriesIn bs first chosen) → Good first g
+unfolding entriesIn
+section-good bs bytes size first chosen room start ranges g m =
+    let inputs =
+    all (λ e. eqb (e .cell .input) (first / 64))
+    (λ j h. eq-eqb _ (first / 64) (entryAt-input bs (first + j) ∙ omega arith)) in
+    let slots =
+    all (λ e. fits32 (e .cell .slot))
+    (λ j h. ap fits32 (entryAt-slot bs (first + j))
+    ∙ word-fits bs (recordStart (first + j) + 12) bytes (omega arith)) in
+    record {
+      range = all?-e inRange ranges m;
+      input = eqb-true (g .cell .input) (first / 64) (all?-e (λ e. eqb (e .cell .input) (first / 64)) inputs m);
+      slot = fits32-below (g .cell .slot) (all?-e (λ e. fits32 (e .cell .slot)) slots m);
+    }
   where
-    at : (k : ℕ) → (from ≤ k) × (k < to) → eqb (entryAt bs k .cell .input) (from / 64) ≡ true
-    at k b = eq-eqb (entryAt bs k .cell .input) (from / 64) (entryAt-input bs k ∙ omega arith)
+    all : (p : Entry → Bool) → ((j : ℕ) → j < positions → p (entryAt bs (first + j)) ≡ true)
+        → all? p (entriesIn bs first chosen) ≡ true
+    all p each =
+        all?-map p (λ j. entryAt bs (first + j)) (members chosen)
+        ∙ all?-i (λ j. p (entryAt bs (first + j))) (members chosen) (λ j i. each j (in-members chosen i .0))
+
+module _ {first : ℕ} {e g : Entry} (he : Good first e) (hg : Good first g) where
+  flow-number : ofFlow e g ≡ eqb (flowNumber e) (flowNumber g)
+  flow-number =
+      same (ofFlow e g) (eqb (flowNumber e) (flowNumber g))
+      (λ t.
+      let f = flow-e (e .cell) (g .cell) t in
+      eq-eqb (flowNumber e) (flowNumber g) (omega (arith, f .output, f .flow)))
+      (λ t.
+      let be = inRange-e e (he .range) in
+      let bg = inRange-e g (hg .range) in
+      let number : flowNumber e ≡ flowNumber g = eqb-true (flowNumber e) (flowNumber g) t in
+      flow-i (record { input = he .input ∙ sym (hg .input); output = omega arith; flow = omega arith }))
+
+  -- which goes first, by key
+  key-first : over (e .cell) (g .cell) ≡ not (leb (key (g .cell)) (key (e .cell)))
+  key-first =
+      over-key-input (e .cell) (g .cell) (he .slot) (hg .slot) (he .input ∙ sym (hg .input))
+      ∙ turned (key (e .cell)) (key (g .cell)) (either (ltb (key (e .cell)) (key (g .cell))))
+    where
+      turned : (m n : ℕ) → (ltb m n ≡ true) ⊎ (ltb m n ≡ false) → ltb m n ≡ not (leb n m)
+      turned m n (inl t) = t ∙ ap not (sym (lt-leb n m (ltb-true m n t)))
+      turned m n (inr t) = t ∙ ap not (sym (le-leb n m (ltb-false m n t)))
 
 ------------------------------------------------------------------------
 -- the walk
 
--- the listed entries from k on
-pub listedFrom : List ℕ → ℕ → ℕ → List Entry
-listedFrom bs k to = keep inList (entriesBetween bs k to)
+-- the number of the last entry's flow and its key, where there is one
+pub data Ends (l : List Entry) (flow number : ℕ) : Type 0 where
+  none : l ≡ [] → flow ≡ 128 → Ends l flow number
+  last : (p : List Entry) (f : Entry) → l ≡ p ++ (f ∷ []) → flow ≡ flowNumber f → number ≡ key (f .cell)
+      → Ends l flow number
 
--- they stand together, their flows are marked, and next is the first of them
-pub record Flows (bs : List ℕ) (from to k : ℕ) (seen : List Bool) (next : ℕ) : Type 0 where
-  pub low : from ≤ k
-  pub high : k ≤ to
-  pub within : next < 1024
-  pub stand : together (listedFrom bs k to) ≡ true
-  pub marks : Seen flowIs 128 seen (listedFrom bs k to)
-  pub begins : Begins (entryAt bs next) (listedFrom bs k to)
+-- the entries passed stand together unless `broken`, their flows are marked, and the last of them is known
+pub record Flows (bs : List ℕ) (first set mark : ℕ) (marks : List ℕ) (broken : Bool) (flow number left : ℕ)
+    : Type 0 where
+  pub passed : List ℕ
+  pub visited : Visited set passed left
+  pub stand : not broken ≡ together (entriesAt bs first passed)
+  pub marked : Marked mark marks (λ n. some? (flowIs n) (entriesAt bs first passed))
+  pub ends : Ends (entriesAt bs first passed) flow number
 
-pub flows-start : (bs : List ℕ) (from to : ℕ) → from ≤ to → Flows bs from to to (replicate 128 false) 0
-unfolding listedFrom keep together Begins
-flows-start bs from to h =
-    let none : listedFrom bs to to ≡ [] = ap (keep inList) (entriesBetween-nil bs to to (le-refl to)) in
-    record {
-      low = h;
-      high = le-refl to;
-      within = lit≤ tt;
-      stand = ap together none;
-      marks = subst (Seen flowIs 128 (replicate 128 false)) (sym none) (seen-none flowIs 128);
-      begins = inl none;
-    }
+module _ (bs : List ℕ) (first chosen mark : ℕ) (marks : List ℕ) where
+  pub flows-start : chosen < 2 ^ positions → MarksBelow mark marks → (number : ℕ)
+      → Flows bs first chosen mark marks false 128 number chosen
+  unfolding together some?
+  flows-start fits below number =
+      record {
+        passed = [];
+        visited = visited-start chosen fits;
+        stand = refl;
+        marked = marked-none mark marks (λ n. some? (flowIs n) []) below (λ n. refl);
+        ends = none refl refl;
+      }
 
-module _ (bs : List ℕ) (from to k : ℕ) (seen : List Bool) (next : ℕ) (w : Flows bs from to k seen next) where
-  pub flows-end : k ≤ from → true ≡ together (keep inList (entriesBetween bs from to))
-  unfolding listedFrom
-  flows-end h =
-      let end : k ≡ from = omega (arith, w .low) in
-      sym (ap (λ j. together (listedFrom bs j to)) (sym end) ∙ w .stand)
+  module _ (broken : Bool) (flow number left : ℕ) (w : Flows bs first chosen mark marks broken flow number left) where
+    pub flows-end : left ≡ 0 → not broken ≡ together (entriesIn bs first chosen)
+    unfolding entriesIn
+    flows-end done = w .stand ∙ ap (λ js. together (entriesAt bs first js)) (sym (visited-end (w .visited) done))
 
-  module _ (more : from < k) where
-    abbrev this : Entry
-    this = entryAt bs (k - 1)
+    -- the entry at hand
+    module _ (some : 0 < left) (good : (g : Entry) → List·Memᴰ g (entriesIn bs first chosen) → Good first g) where
+      abbrev this : Entry
+      this = entryAt bs (first + firstOf left)
 
-    back : entriesBetween bs (k - 1) to ≡ this ∷ entriesBetween bs k to
-    back = entriesBetween-back bs k to (omega arith) (w .high)
+      abbrev before : List Entry
+      before = entriesAt bs first (w .passed)
 
-    other-pass : isListed (this .place) ≡ false → Flows bs from to (k - 1) seen next
-    unfolding listedFrom
-    other-pass h =
-        let same : listedFrom bs k to ≡ listedFrom bs (k - 1) to =
-        sym (ap (keep inList) back ∙ keep-fail inList this (entriesBetween bs k to) h) in
-        record {
-          low = omega arith;
-          high = omega (arith, w .high);
-          within = w .within;
-          stand = ap together (sym same) ∙ w .stand;
-          marks = subst (Seen flowIs 128 seen) same (w .marks);
-          begins = subst (Begins (entryAt bs next)) same (w .begins);
-        }
+      whole : entriesIn bs first chosen ≡ before ++ (this ∷ entriesAt bs first (members (restOf left)))
+      unfolding entriesIn
+      whole =
+          ap (entriesAt bs first) (visited-cons (w .visited) some)
+          ∙ map-append (λ j. entryAt bs (first + j)) (w .passed) (firstOf left ∷ members (restOf left))
 
-    -- an entry in the list, and those of its input from it on
-    module _ (listed : isListed (this .place) ≡ true)
-        (good : (g : Entry) → List·Memᴰ g (entriesBetween bs from to)
-        → (inRange g ≡ true) × (g .cell .input ≡ from / 64))
-        (n : ℕ) (number : n ≡ flowNumber this) (few : n < 128) where
-      in-section : List·Memᴰ this (entriesBetween bs from to)
-      in-section =
-          let whole = entriesBetween-split bs from (k - 1) to (omega arith) (omega (arith, w .high)) in
-          subst (List·Memᴰ this) (sym (whole ∙ ap (λ l. entriesBetween bs from (k - 1) ++ l) back))
-          (Memᴰ·append-right (entriesBetween bs from (k - 1)) (List·Memᴰ·head refl))
+      pub this-good : Good first this
+      this-good = good this (subst (List·Memᴰ this) (sym whole) (Memᴰ·append-right before (List·Memᴰ·head refl)))
 
-      cons : listedFrom bs (k - 1) to ≡ this ∷ listedFrom bs k to
-      unfolding listedFrom
-      cons = ap (keep inList) back ∙ keep-pass inList this (entriesBetween bs k to) listed
+      before-good : {g : Entry} → List·Memᴰ g before → Good first g
+      before-good {g} m =
+          good g
+          (subst (List·Memᴰ g) (sym whole)
+          (Memᴰ·append-left (this ∷ entriesAt bs first (members (restOf left))) m))
 
-      -- the mark says whether a later one is of its flow
-      marked : getD seen n false ≡ some? (ofFlow this) (listedFrom bs k to)
-      unfolding listedFrom
-      marked =
-          w .marks .mark n few
-          ∙ ap (λ m. some? (flowIs m) (listedFrom bs k to)) number
-          ∙ some?-ext (flowIs (flowNumber this)) (ofFlow this) (listedFrom bs k to)
-          (λ g m.
-          let whole = entriesBetween-split bs from k to (w .low) (w .high) in
-          let inside : List·Memᴰ g (entriesBetween bs from to) =
-          subst (List·Memᴰ g) (sym whole)
-          (Memᴰ·append-right (entriesBetween bs from k) (mem-keep-in inList (entriesBetween bs k to) m)) in
-          sym
-          (flow-number this g (good this in-section .0) (good g inside .0)
-          (good this in-section .1 ∙ sym (good g inside .1))))
+      module _ (n k : ℕ) (is : n ≡ flowNumber this) (few : n < 128) (keyed : k ≡ key (this .cell)) where
+        -- the mark says whether one before is of its flow
+        met : eqb (getD marks n 0) mark ≡ some? (λ x. ofFlow x this) before
+        unfolding flowIs
+        met =
+            w .marked .each n (omega arith)
+            ∙ some?-ext (flowIs n) (λ x. ofFlow x this) before
+            (λ x m. ap (eqb (flowNumber x)) is ∙ sym (flow-number (before-good m) this-good))
 
-      listed-mark : to ≤ 1024 → standsApart (getD seen n false) this (entryAt bs next) ≡ false
-          → Flows bs from to (k - 1) (set seen n true) (k - 1)
-      unfolding Begins flowIs
-      listed-mark room h =
-          let fits = ap (λ b. standsApart b this (entryAt bs next)) (sym marked) ∙ h in
-          let others = listedFrom bs k to in
-          let marks = seen-mark flowIs 128 seen this others (w .marks) n few (λ m. ap (eqb m) (sym number)) in
-          record {
-            low = omega arith;
-            high = omega (arith, w .high);
-            within = omega (arith, w .high);
-            stand = ap together cons ∙ together-fits this (entryAt bs next) others (w .begins) fits (w .stand);
-            marks = subst (Seen flowIs 128 (set seen n true)) (sym cons) marks;
-            begins = inr (listedFrom bs k to, cons);
-          }
+        fits-behind : (not broken && not (breaksFlow (eqb n flow) (leb k number) (eqb (getD marks n 0) mark)))
+            ≡ together (before ++ (this ∷ []))
+        unfolding breaksFlow together some? joins
+        fits-behind = go (w .ends)
+          where
+            split : (same early met : Bool) → not (cond same early met) ≡ cond same (not early) (not met)
+            split true early met = refl
+            split false early met = refl
 
-      listed-stop : standsApart (getD seen n false) this (entryAt bs next) ≡ true
-          → false ≡ together (keep inList (entriesBetween bs from to))
-      unfolding listedFrom
-      listed-stop h =
-          let breaks = ap (λ b. standsApart b this (entryAt bs next)) (sym marked) ∙ h in
-          let others = listedFrom bs k to in
-          let broken = ap together cons ∙ together-breaks this (entryAt bs next) others (w .begins) breaks in
-          sym (by-fail _ (λ all. clash (later all) broken))
-        where
-          later : together (keep inList (entriesBetween bs from to)) ≡ true
-              → together (listedFrom bs (k - 1) to) ≡ true
-          later all =
-              let front = entriesBetween bs from (k - 1) in
-              let whole = entriesBetween-split bs from (k - 1) to (omega arith) (omega (arith, w .high)) in
-              let rest = entriesBetween bs (k - 1) to in
-              let parts = ap (keep inList) whole ∙ keep-append inList front rest in
-              together-append-r (keep inList front) (keep inList rest) (ap together (sym parts) ∙ all)
+            go : Ends before flow number
+                → (not broken && not (breaksFlow (eqb n flow) (leb k number) (eqb (getD marks n 0) mark)))
+                ≡ together (before ++ (this ∷ []))
+            go (none empty start) =
+                let other : eqb n flow ≡ false = ne-eqb n flow (λ e. omega arith) in
+                ap₂ (λ b t. b && not t) (w .stand ∙ ap together empty)
+                (ap (λ s. breaksFlow s (leb k number) (eqb (getD marks n 0) mark)) other
+                ∙ met
+                ∙ ap (some? (λ x. ofFlow x this)) empty)
+                ∙ sym (ap (λ l. together (l ++ (this ∷ []))) empty)
+            go (last p f is-last flow-is number-is) =
+                let here : List·Memᴰ f before =
+                subst (List·Memᴰ f) (sym is-last) (Memᴰ·append-right p (List·Memᴰ·head refl)) in
+                let hf = before-good here in
+                let flows : eqb n flow ≡ ofFlow f this =
+                ap₂ eqb is flow-is ∙ eqb-turned (flowNumber this) (flowNumber f) ∙ sym (flow-number hf this-good) in
+                let order : not (leb k number) ≡ over (f .cell) (this .cell) =
+                ap₂ (λ x y. not (leb x y)) keyed number-is ∙ sym (key-first hf this-good) in
+                let others : not (eqb (getD marks n 0) mark) ≡ none? (λ x. ofFlow x this) before =
+                ap not met ∙ sym (none?-not-some? (λ x. ofFlow x this) before) in
+                ap₂ _&&_ (w .stand)
+                (split (eqb n flow) (leb k number) (eqb (getD marks n 0) mark)
+                ∙ ap (λ s. cond s (not (leb k number)) (not (eqb (getD marks n 0) mark))) flows
+                ∙ ap₂ (λ o m. cond (ofFlow f this) o m) order others)
+                ∙ sym
+                (ap (λ l. together (l ++ (this ∷ []))) is-last
+                ∙ together-snoc p f this
+                ∙ ap (λ l. together l && joins f this l) (sym is-last))
 
-    -- in the list or not
-    module _ (good : (g : Entry) → List·Memᴰ g (entriesBetween bs from to)
-        → (inRange g ≡ true) × (g .cell .input ≡ from / 64))
-        (n : ℕ) (number : n ≡ flowNumber this) (few : n < 128) where
-      pub flows-mark : to ≤ 1024 → (listed : Bool) → isListed (this .place) ≡ listed → listed ≡ true
-          → standsApart (listed && getD seen n false) this (entryAt bs next) ≡ false
-          → Flows bs from to (k - 1) (set seen n (listed || getD seen n false)) (k - 1)
-      flows-mark room true t here fits = listed-mark t good n number few room fits
-      flows-mark room false t here fits = absurd (false≢true here)
-
-      pub flows-pass : (listed : Bool) → isListed (this .place) ≡ listed → listed ≡ false
-          → Flows bs from to (k - 1) (set seen n (listed || getD seen n false)) next
-      flows-pass true t here = absurd (clash refl here)
-      flows-pass false t here =
-          subst (λ s. Flows bs from to (k - 1) s next) (sym (set-getD seen n false)) (other-pass t)
-
-      pub flows-stop : (listed : Bool) → isListed (this .place) ≡ listed
-          → standsApart (listed && getD seen n false) this (entryAt bs next) ≡ true
-          → false ≡ together (keep inList (entriesBetween bs from to))
-      unfolding standsApart
-      flows-stop true t breaks = listed-stop t good n number few breaks
-      flows-stop false t breaks = absurd (false≢true breaks)
+        pub flows-next : Flows bs first chosen mark (set marks n mark)
+            (broken || breaksFlow (eqb n flow) (leb k number) (eqb (getD marks n 0) mark)) n k (restOf left)
+        unfolding flowIs some?
+        flows-next =
+            let more = entriesAt-more bs first (w .passed) (firstOf left) in
+            record {
+              passed = w .passed ++ (firstOf left ∷ []);
+              visited = visited-next (w .visited) some;
+              stand = not-or broken _ ∙ fits-behind ∙ ap together (sym more);
+              marked =
+                  marked-one (w .marked) n (omega arith)
+                  (λ m. some? (flowIs m) (entriesAt bs first (w .passed ++ (firstOf left ∷ []))))
+                  (λ m. ap (some? (flowIs m)) more
+                  ∙ some?-append (flowIs m) before (this ∷ [])
+                  ∙ ap (λ b. some? (flowIs m) before || b)
+                  (or-false _ ∙ ap (λ f. eqb f m) (sym is) ∙ eqb-turned n m));
+              ends = last before this more is keyed;
+            }

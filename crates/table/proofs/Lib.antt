@@ -1,9 +1,12 @@
 pub mod Accepted
-pub mod Apart
+pub mod Collecting
+pub mod Crossed
 pub mod Entries
 pub mod Fields
 pub mod Flows
+pub mod Marks
 pub mod Parts
 pub mod Put
-pub mod Seen
+pub mod Sections
+pub mod Spare
 pub mod Walks

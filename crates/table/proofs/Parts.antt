@@ -22,7 +22,7 @@ use Rattle.layout.specs.Table.{headerSize, entrySize, sectionSize, tableSize, e
 use Rattle.layout.specs.Table.{sectionBytes, sectionsBytes, countsBytes}
 use Rattle.layout.specs.Entry.{entryAt, countIn}
 use Rattle.layout.specs.Records.{recordStart, recordAt, between, entriesBetween, firstRecord, sectionAt}
-use Rattle.table.specs.Check.{isEntry, isUnused, roomOf, isSection}
+use Rattle.table.specs.Check.{isEntry, isUnused, roomOf, areSound, isSection}
 use Rattle.layout.proofs.Number.{length-bytesOf, sameBytes-refl, sameBytes-exact}
 use Rattle.layout.proofs.Records.{between-mem, between-nil, length-entriesBetween}
 use Rattle.layout.proofs.Records.{all?-entriesBetween}
@@ -206,36 +206,34 @@ pub roomOf-port : (ports i : ℕ) → i < ports → roomOf ports i ≡ cellLimit
 unfolding roomOf
 roomOf-port ports i h = rw (lt-ltb i ports h)
 
--- what is asked of a section of n entries, one by one
-pub record Asked (ports clock : ℕ) (bs : List ℕ) (i n : ℕ) : Type 0 where
-  pub count : n ≤ roomOf ports i
-  pub entries : all? (isEntry ports clock bs) (between (firstRecord i) (firstRecord i + n)) ≡ true
-  pub unused : all? (isUnused bs) (between (firstRecord i + n) (firstRecord i + cellLimit)) ≡ true
-  pub lists : together (keep (λ e. isListed (e .place)) (entriesBetween bs (firstRecord i) (firstRecord i + n))) ≡ true
-  pub slots : pairwise otherSlot (entriesBetween bs (firstRecord i) (firstRecord i + n)) ≡ true
-  pub crosspoints : pairwise otherCrosspoint (entriesBetween bs (firstRecord i) (firstRecord i + n)) ≡ true
+-- what is asked of a section, one by one
+record Asked (ports clock : ℕ) (bs : List ℕ) (i : ℕ) : Type 0 where
+  count : countIn bs i ≤ roomOf ports i
+  entries : all? (isEntry ports clock bs) (between (firstRecord i) (firstRecord i + countIn bs i)) ≡ true
+  unused : all? (isUnused bs) (between (firstRecord i + countIn bs i) (firstRecord i + cellLimit)) ≡ true
+  lists : together (keep (λ e. isListed (e .place)) (sectionAt bs i)) ≡ true
+  slots : pairwise otherSlot (sectionAt bs i) ≡ true
+  crosspoints : pairwise otherCrosspoint (sectionAt bs i) ≡ true
 
-module _ (ports clock : ℕ) (bs : List ℕ) (i : ℕ) {n : ℕ} (e : n ≡ countIn bs i) where
-  pub isSection-asked : isSection ports clock bs i ≡ true → Asked ports clock bs i n
-  unfolding isSection
+module _ (ports clock : ℕ) (bs : List ℕ) (i : ℕ) where
+  isSection-asked : isSection ports clock bs i ≡ true → Asked ports clock bs i
+  unfolding isSection areSound sectionAt
   isSection-asked h =
       let count : leb (countIn bs i) (roomOf ports i) ≡ true = search and-l in
-      rw e
-      (record {
+      record {
         count = leb-true (countIn bs i) (roomOf ports i) count;
         entries = search (and-l, and-r);
         unused = search (and-l, and-r);
-        lists = search (and-l, and-r);
+        lists = search (and-l, and-r) depth 7;
         slots = search (and-l, and-r) depth 7;
         crosspoints = search (and-l, and-r) depth 7;
-      })
+      }
 
-  pub asked-isSection : Asked ports clock bs i n → isSection ports clock bs i ≡ true
-  unfolding isSection
-  asked-isSection asked =
-      let q = rw e at asked in
+  asked-isSection : Asked ports clock bs i → isSection ports clock bs i ≡ true
+  unfolding isSection areSound sectionAt
+  asked-isSection q =
       and-i _ _ (le-leb (countIn bs i) (roomOf ports i) (q .count))
-      (and-i _ _ (q .entries) (and-i _ _ (q .unused) (and-i _ _ (q .lists) (and-i _ _ (q .slots) (q .crosspoints)))))
+      (and-i _ _ (q .unused) (and-i _ _ (q .entries) (and-i _ _ (q .slots) (and-i _ _ (q .crosspoints) (q .lists)))))
 
 -- what a section of a table is: it has room for its entries, its bytes are theirs, and they are sound
 pub record Section (ports clock : ℕ) (bs : List ℕ) (i : ℕ) : Type 0 where
@@ -286,7 +284,7 @@ module _ (ports clock : ℕ) (bs : List ℕ) (size : length bs ≡ tableSize) (i
       let bytes = section-e bs i few (omega arith) (s .exact) in
       let asked : soundSection ports clock i (sectionAt bs i) ≡ true = s .sound in
       let sounds : all? (soundEntry ports clock i) (entriesBetween bs here next) ≡ true = search (and-l, and-r) in
-      asked-isSection ports clock bs i refl
+      asked-isSection ports clock bs i
       (record {
         count = s .few;
         entries = entries-i few (bytes .0) (sym (all?-entriesBetween (soundEntry ports clock i) bs here next) ∙ sounds);
@@ -299,7 +297,7 @@ module _ (ports clock : ℕ) (bs : List ℕ) (size : length bs ≡ tableSize) (i
   pub isSection-e : isSection ports clock bs i ≡ true → Section ports clock bs i
   unfolding soundSection sectionAt
   isSection-e h =
-      let q = isSection-asked ports clock bs i refl h in
+      let q = isSection-asked ports clock bs i h in
       let few : countIn bs i ≤ cellLimit = roomOf-le ports i (countIn bs i) (q .count) in
       let size : length (sectionAt bs i) ≤ cellLimit = omega (arith, length-entriesBetween bs here next) in
       let sounds : all? (soundEntry ports clock i) (entriesBetween bs here next) ≡ true =

@@ -1,20 +1,19 @@
--- Whether bytes are a table, and the parts of that question in the order in which the code asks them.
-use Prim.Native.Nat.{ℕ, _+_, _/_}
+-- Whether bytes are a table, and the parts of that question as the code asks them.
+use Prim.Native.Nat.{ℕ, _+_, _-_, _/_, _%_, _<_}
 use mathlib.Core.Bool.{Bool, true, false, cond, not, _&&_}
-use mathlib.Core.List.{List}
-use mathlib.Core.Option.{none, some}
-use lib.Dec.{ltb, leb}
-use lib.ListN.{replicate}
+use mathlib.Core.Path.{_≡_}
+use mathlib.Core.List.{List, map}
+use lib.Dec.{ltb, leb, eqb}
+use lib.ListN.{length, getD, replicate}
 use Rattle.laws.specs.Lists.{keep, all?, pairwise}
-use Rattle.cell.specs.Flow.{sameFlow}
-use Rattle.cell.specs.Order.{over}
+use Rattle.sets.specs.Sets.{setFrom, members}
 use Rattle.cell.specs.Limits.{portLimit, cellLimit, flowInRange}
 use Rattle.model.specs.State.{Entry, isListed}
 use Rattle.model.specs.Sound.{soundEntry, together, otherSlot, otherCrosspoint}
 use Rattle.layout.specs.Number.{sameBytes}
-use Rattle.layout.specs.Table.{entrySize, entryBytes, decode}
+use Rattle.layout.specs.Table.{entrySize, entryBytes}
 use Rattle.layout.specs.Entry.{entryAt, countIn}
-use Rattle.layout.specs.Records.{recordAt, between, entriesBetween, firstRecord}
+use Rattle.layout.specs.Records.{recordAt, placeByteAt, between, entriesBetween, firstRecord}
 
 -- a record is the bytes of its entry, and the entry is sound
 unfoldable pub isEntry : ℕ → ℕ → List ℕ → ℕ → Bool
@@ -29,26 +28,64 @@ isUnused bs k = sameBytes (replicate entrySize 0) (recordAt bs k)
 unfoldable pub inRange : Entry → Bool
 inRange e = ltb (e .cell .output) portLimit && flowInRange (e .cell .flow)
 
--- a listed entry stands apart: a later one is of its flow, and the next one f is not, or should stand before it
-unfoldable pub standsApart : Bool → Entry → Entry → Bool
-standsApart later e f = later && not (sameFlow (e .cell) (f .cell) && over (e .cell) (f .cell))
-
--- an entry has the slot of one behind it, of those that end before `to`; asked only if some entry may have it
-unfoldable pub sharesSlot : Bool → List ℕ → ℕ → ℕ → Bool
-sharesSlot may bs k to = may && not (all? (λ j. otherSlot (entryAt bs k) (entryAt bs j)) (between (k + 1) to))
-
 -- how many entries an input may have: none where the switch does not have it
 unfoldable pub roomOf : ℕ → ℕ → ℕ
 roomOf ports input = cond (ltb input ports) cellLimit 0
 
--- the section of an input: its count, its entries, its unused records, and what is asked of its entries together
+-- records from one up to another are sound entries, one by one and together
+unfoldable pub areSound : ℕ → ℕ → List ℕ → ℕ → ℕ → Bool
+areSound ports clock bs first end =
+    all? (isEntry ports clock bs) (between first end)
+    && (pairwise otherSlot (entriesBetween bs first end)
+    && (pairwise otherCrosspoint (entriesBetween bs first end)
+    && together (keep (λ e. isListed (e .place)) (entriesBetween bs first end))))
+
+-- the section of an input: its count, its unused records, and its entries
 unfoldable pub isSection : ℕ → ℕ → List ℕ → ℕ → Bool
 isSection ports clock bs input =
     let first = firstRecord input in
     let end = first + countIn bs input in
     leb (countIn bs input) (roomOf ports input)
-    && (all? (isEntry ports clock bs) (between first end)
-    && (all? (isUnused bs) (between end (first + cellLimit))
-    && (together (keep (λ e. isListed (e .place)) (entriesBetween bs first end))
-    && (pairwise otherSlot (entriesBetween bs first end)
-    && pairwise otherCrosspoint (entriesBetween bs first end)))))
+    && (all? (isUnused bs) (between end (first + cellLimit)) && areSound ports clock bs first end)
+
+------------------------------------------------------------------------
+-- one pass over a section
+
+-- the two digits of a record's place
+unfoldable pub lowPlace : List ℕ → ℕ → Bool
+lowPlace bs k = eqb (placeByteAt bs k % 2) 1
+
+unfoldable pub highPlace : List ℕ → ℕ → Bool
+highPlace bs k = eqb (placeByteAt bs k / 2 % 2) 1
+
+-- what a pass over the records from one up to another finds: whether each is an entry; and if so, the sets of their
+-- places' digits, and no two entries of one slot unless `again`
+pub record Collected (ports clock : ℕ) (bs : List ℕ) (from to : ℕ) (good again : Bool) (low high : ℕ) : Type 0 where
+  pub entries : good ≡ all? (isEntry ports clock bs) (between from to)
+  pub lows : good ≡ true → low ≡ setFrom (lowPlace bs) from (to - from)
+  pub highs : good ≡ true → high ≡ setFrom (highPlace bs) from (to - from)
+  pub slots : good ≡ true → again ≡ false → pairwise otherSlot (entriesBetween bs from to) ≡ true
+
+-- the marks, one for each byte, are all below this one
+pub record MarksBelow (mark : ℕ) (marks : List ℕ) : Type 0 where
+  pub size : length marks ≡ 256
+  pub each : (n : ℕ) → getD marks n 0 < mark
+
+------------------------------------------------------------------------
+-- what is asked of the entries together
+
+-- an entry has the slot of one behind it, of those that end before `to`
+unfoldable pub sharesSlot : List ℕ → ℕ → ℕ → Bool
+sharesSlot bs k to = not (all? (λ j. otherSlot (entryAt bs k) (entryAt bs j)) (between (k + 1) to))
+
+-- the entries at a set of positions of a section
+unfoldable pub entriesIn : List ℕ → ℕ → ℕ → List Entry
+entriesIn bs first set = map (λ j. entryAt bs (first + j)) (members set)
+
+-- two entries go to different outputs
+unfoldable pub otherOutput : Entry → Entry → Bool
+otherOutput e f = not (eqb (e .cell .output) (f .cell .output))
+
+-- an entry breaks its flow: the one before it is of its flow and does not go first, or its flow was met before
+unfoldable pub breaksFlow : Bool → Bool → Bool → Bool
+breaksFlow same early met = cond same early met

@@ -1,30 +1,50 @@
 // Whether bytes are a table: those of one sound state (scope 5.1). The header first, then input by
-// input the count, the entries, the unused records, and what is asked of the entries together.
+// input the count, the unused records, the entries in one pass, and what is asked of the entries together.
 use crate::entry;
+use crate::entry::CELLS;
 use crate::word;
 use cell::Switch;
-ghost use mathlib.Core.Bool.{true, _&&_};
+ghost use mathlib.Core.Bool.{true, not, _||_};
 ghost use mathlib.Core.Path.{_≡_};
-ghost use Prim.Native.Nat.{_+_, _%_, _<_, _≤_};
+ghost use Prim.Native.Nat.{_+_, _*_, _%_, _<_, _≤_};
 ghost use lib.Dec.{eqb};
 ghost use lib.ListN.{length};
-ghost use Rattle.laws.specs.Lists.{keep, all?, pairwise};
-ghost use Rattle.model.specs.State.{isListed};
-ghost use Rattle.model.specs.Sound.{together, otherSlot, otherCrosspoint};
+ghost use Rattle.laws.specs.Lists.{all?, pairwise};
+ghost use Rattle.cell.specs.Limits.{portLimit, cellLimit};
+ghost use Rattle.model.specs.Sound.{together, otherSlot};
 ghost use Rattle.layout.specs.Table.{tableSize, isTable};
-ghost use Rattle.layout.specs.Entry.{entryAt};
 ghost use Rattle.layout.specs.Records.{between, entriesBetween};
-ghost use Rattle.table.specs.Check.{isSection, isEntry, isUnused, roomOf, inRange};
-ghost use Rattle.table.specs.Check.{standsApart, sharesSlot};
+ghost use Rattle.table.specs.Check.{isSection, isEntry, isUnused, roomOf, areSound, inRange, sharesSlot};
+ghost use Rattle.table.specs.Check.{entriesIn, otherOutput, breaksFlow, Collected, MarksBelow};
+ghost use Rattle.table.specs.Entries.{recordLimit};
+
+// What one pass over the entries of a section finds: whether all are entries, whether two may have one slot, and the
+// low and the high digits of their places, as sets of positions.
+struct Places {
+    good: bool,
+    again: bool,
+    low: u64,
+    high: u64,
+}
+
+// So many unused records are gathered together: their number is known, and the processor's wide registers serve.
+const BLOCK: usize = 8;
+
+// The number of no flow.
+const NO_FLOW: usize = 128;
+
+// The bits of a record's first four bytes that no entry has: those of an output above 15, a flow above 7 and a place
+// above 3, and all of the fourth byte.
+const SPARE_BITS: u32 = 0xfffc_f8f0;
 
 // Whether the bytes are a table.
 pub fn is_table(bytes: &[u8]) -> bool
     ensures { λ r. ⌜ r ≡ isTable (now (bytes .entry)) ⌝ }
 {
-    if bytes.len() != 16416 {
+    if bytes.len() != entry::TABLE_BYTES {
         return false;
     }
-    if word::read_u32(bytes, 0) != 1 {
+    if word::read_u32(bytes, 0) != entry::LAYOUT {
         return false;
     }
     let ports = word::read_u32(bytes, 4);
@@ -37,14 +57,16 @@ pub fn is_table(bytes: &[u8]) -> bool
     are_sections(bytes, ports, entry::clock_of(bytes))
 }
 
-// Whether each of the sixteen sections is one of a table.
+// Whether each of the sixteen sections is one of a table. The marks serve all of them: each pass over a section has a
+// greater mark of its own, so they are cleared once.
 fn are_sections(bytes: &[u8], ports: u32, clock: u32) -> bool
-    requires { ⌜ (length (now bytes) ≡ tableSize) × (ports ≤ 16) ⌝ }
-    ensures { λ r. ⌜ r ≡ all? (isSection ports clock (now (bytes .entry))) (between 0 16) ⌝ }
+    requires { ⌜ (length (now bytes) ≡ tableSize) × (ports ≤ portLimit) ⌝ }
+    ensures { λ r. ⌜ r ≡ all? (isSection ports clock (now (bytes .entry))) (between 0 portLimit) ⌝ }
 {
+    let mut marks = [0u8; 256];
     let mut i = 0;
-    while i < 16 {
-        if !is_section(bytes, ports, clock, i) {
+    while i < entry::PORTS {
+        if !is_section(bytes, ports, clock, i, &mut marks) {
             return false;
         }
         i += 1;
@@ -53,85 +75,187 @@ fn are_sections(bytes: &[u8], ports: u32, clock: u32) -> bool
 }
 
 // Whether the section of an input is one of a table. An input that the switch does not have has no entries.
-fn is_section(bytes: &[u8], ports: u32, clock: u32, input: usize) -> bool
-    requires { ⌜ (length (now bytes) ≡ tableSize) × (ports ≤ 16) × (input < 16) ⌝ }
+fn is_section(bytes: &[u8], ports: u32, clock: u32, input: usize, marks: &mut [u8; 256]) -> bool
+    requires { ⌜ (length (now bytes) ≡ tableSize) × (ports ≤ portLimit) × (input < portLimit) ⌝ }
+    requires { ⌜ MarksBelow (2 * input + 1) (now marks) ⌝ }
     ensures { λ r. ⌜ r ≡ isSection ports clock (now (bytes .entry)) input ⌝ }
+    ensures { λ _. ⌜ MarksBelow (2 * input + 3) (now (marks .exit)) ⌝ }
 {
     let count = entry::count_of(bytes, input);
     if room(ports, input) < count {
         return false;
     }
-    let first = 64 * input;
+    let first = CELLS * input;
     let end = first + count;
-    if !are_entries(bytes, ports, clock, first, end) {
+    if !are_unused(bytes, end, first + CELLS) {
         return false;
     }
-    if !are_unused(bytes, end, first + 64) {
-        return false;
-    }
-    if !flows_together(bytes, first, end) {
-        return false;
-    }
-    if !slots_differ(bytes, first, end) {
-        return false;
-    }
-    crosspoints_differ(bytes, first, end)
+    are_sound(
+        bytes,
+        ports,
+        clock,
+        first,
+        end,
+        (2 * input + 1) as u8,
+        marks,
+    )
 }
 
 // How many entries an input may have.
 fn room(ports: u32, input: usize) -> usize
     ensures { λ r. ⌜ r ≡ roomOf ports input ⌝ }
 {
-    if input < ports as usize { 64 } else { 0 }
+    if input < ports as usize { CELLS } else { 0 }
 }
 
-// Whether each of these records is an entry.
-fn are_entries(bytes: &[u8], ports: u32, clock: u32, from: usize, to: usize) -> bool
-    requires { ⌜ (length (now bytes) ≡ tableSize) × (to ≤ 1024) ⌝ }
-    ensures { λ r. ⌜ r ≡ all? (isEntry ports clock (now (bytes .entry))) (between from to) ⌝ }
+// Whether each of these records is zero, of which there are at most those of a section. The bits of whole blocks are
+// gathered, the last block's first, so that the block before it may reach into it; nothing else is looked at twice.
+fn are_unused(bytes: &[u8], from: usize, to: usize) -> bool
+    requires { ⌜ (length (now bytes) ≡ tableSize) × (from ≤ to) × (to ≤ recordLimit) ⌝ }
+    ensures { λ r. ⌜ r ≡ all? (isUnused (now (bytes .entry))) (between from to) ⌝ }
 {
+    if to < from + BLOCK {
+        return bits_of(bytes, from, to) == 0;
+    }
+    let mut bits = bits_of(bytes, to - BLOCK, to);
+    let mut k = from;
+    while k + BLOCK < to {
+        bits = bits | bits_of(bytes, k, k + BLOCK);
+        k += BLOCK;
+    }
+    bits == 0
+}
+
+// The bits of these records.
+fn bits_of(bytes: &[u8], from: usize, to: usize) -> u64
+    requires { ⌜ (length (now bytes) ≡ tableSize) × (from ≤ to) × (to ≤ recordLimit) ⌝ }
+    ensures { λ r. ⌜ eqb r 0 ≡ all? (isUnused (now (bytes .entry))) (between from to) ⌝ }
+{
+    let mut bits = 0;
     let mut k = from;
     while k < to {
-        if !is_entry(bytes, ports, clock, k) {
-            return false;
-        }
+        bits = bits | record_bits(bytes, k);
         k += 1;
     }
-    true
+    bits
+}
+
+// The bits of a record.
+fn record_bits(bytes: &[u8], k: usize) -> u64
+    requires { ⌜ (length (now bytes) ≡ tableSize) × (k < recordLimit) ⌝ }
+    ensures { λ r. ⌜ eqb r 0 ≡ isUnused (now (bytes .entry)) k ⌝ }
+{
+    word::read_u64(bytes, entry::start_of(k)) | word::read_u64(bytes, entry::start_of(k) + 8)
+}
+
+// Whether the records of a section from the first up to an end are sound entries, one by one and together.
+fn are_sound(
+    bytes: &[u8],
+    ports: u32,
+    clock: u32,
+    first: usize,
+    end: usize,
+    mark: u8,
+    marks: &mut [u8; 256],
+) -> bool
+    requires { ⌜ (length (now bytes) ≡ tableSize) × (ports ≤ portLimit) × (mark < 255) × MarksBelow mark (now marks) ⌝ }
+    requires { ⌜ (first + cellLimit ≤ recordLimit) × (first % cellLimit ≡ 0) ⌝ }
+    requires { ⌜ (first ≤ end) × (end ≤ first + cellLimit) ⌝ }
+    ensures { λ r. ⌜ r ≡ areSound ports clock (now (bytes .entry)) first end ⌝ }
+    ensures { λ _. ⌜ MarksBelow (mark + 2) (now (marks .exit)) ⌝ }
+{
+    let places = collect(bytes, ports, clock, first, end, mark, marks);
+    if !places.good {
+        return false;
+    }
+    if !slots_differ(bytes, places.again, first, end) {
+        return false;
+    }
+    if !crosspoints_differ(bytes, first, sets::minus(places.high, places.low)) {
+        return false;
+    }
+    flows_together(
+        bytes,
+        first,
+        sets::minus(places.low, places.high),
+        mark + 1,
+        marks,
+    )
+}
+
+// One pass over the entries of a section, from the last to the first, so that the digits of their places can be pushed
+// into sets. The low bytes of their slots are marked: where one is met again, two entries may have one slot.
+fn collect(
+    bytes: &[u8],
+    ports: u32,
+    clock: u32,
+    from: usize,
+    to: usize,
+    mark: u8,
+    marks: &mut [u8; 256],
+) -> Places
+    requires { ⌜ (length (now bytes) ≡ tableSize) × (from ≤ to) × (to ≤ recordLimit) × (to ≤ from + cellLimit) ⌝ }
+    requires { ⌜ (ports ≤ portLimit) × MarksBelow mark (now marks) ⌝ }
+    ensures { λ r. ⌜ Collected ports clock (now (bytes .entry)) from to (r .good) (r .again) (r .low) (r .high) ⌝ }
+    ensures { λ _. ⌜ MarksBelow (mark + 1) (now (marks .exit)) ⌝ }
+{
+    let mut again = false;
+    let mut low = 0;
+    let mut high = 0;
+    let mut k = to;
+    while from < k {
+        k -= 1;
+        if !is_entry(bytes, ports, clock, k) {
+            return Places {
+                good: false,
+                again,
+                low,
+                high,
+            };
+        }
+        let byte = entry::slot_byte_of(bytes, k) as usize;
+        again = again | (marks[byte] == mark);
+        marks[byte] = mark;
+        let place = entry::place_of(bytes, k);
+        low = sets::push(low, place % 2 == 1);
+        high = sets::push(high, place / 2 % 2 == 1);
+    }
+    Places {
+        good: true,
+        again,
+        low,
+        high,
+    }
 }
 
 // Whether a record is an entry: its fields are in range, its place is one, its zero byte is zero.
 fn is_entry(bytes: &[u8], ports: u32, clock: u32, k: usize) -> bool
-    requires { ⌜ (length (now bytes) ≡ tableSize) × (k < 1024) ⌝ }
+    requires { ⌜ (length (now bytes) ≡ tableSize) × (ports ≤ portLimit) × (k < recordLimit) ⌝ }
     ensures { λ r. ⌜ r ≡ isEntry ports clock (now (bytes .entry)) k ⌝ }
 {
+    if word::read_u32(bytes, entry::start_of(k)) & SPARE_BITS != 0 {
+        return false;
+    }
+    if entry::place_of(bytes, k) < entry::LISTED {
+        return false;
+    }
     if ports <= entry::output_of(bytes, k) as u32 {
-        return false;
-    }
-    if !Switch::flow_in_range(entry::flow_of(bytes, k) as u32) {
-        return false;
-    }
-    let place = entry::place_of(bytes, k);
-    if place < entry::LISTED {
-        return false;
-    }
-    if entry::BUFFERED < place {
-        return false;
-    }
-    if bytes[entry::start_of(k) + 3] != 0 {
         return false;
     }
     entry::slot_of(bytes, k) < clock
 }
 
-// Whether each of these records is zero.
-fn are_unused(bytes: &[u8], from: usize, to: usize) -> bool
-    requires { ⌜ (length (now bytes) ≡ tableSize) × (to ≤ 1024) ⌝ }
-    ensures { λ r. ⌜ r ≡ all? (isUnused (now (bytes .entry))) (between from to) ⌝ }
+// Whether no two entries have one slot; asked pair by pair only if two may.
+fn slots_differ(bytes: &[u8], may: bool, from: usize, to: usize) -> bool
+    requires { ⌜ (length (now bytes) ≡ tableSize) × (to ≤ recordLimit) ⌝ }
+    ensures { λ r. ⌜ r ≡ (not may || pairwise otherSlot (entriesBetween (now (bytes .entry)) from to)) ⌝ }
 {
+    if !may {
+        return true;
+    }
     let mut k = from;
     while k < to {
-        if !is_unused(bytes, k) {
+        if shares_slot(bytes, k, to) {
             return false;
         }
         k += 1;
@@ -139,95 +263,11 @@ fn are_unused(bytes: &[u8], from: usize, to: usize) -> bool
     true
 }
 
-// Whether a record is zero.
-fn is_unused(bytes: &[u8], k: usize) -> bool
-    requires { ⌜ (length (now bytes) ≡ tableSize) × (k < 1024) ⌝ }
-    ensures { λ r. ⌜ r ≡ isUnused (now (bytes .entry)) k ⌝ }
+// Whether an entry has the slot of one behind it.
+fn shares_slot(bytes: &[u8], k: usize, to: usize) -> bool
+    requires { ⌜ (length (now bytes) ≡ tableSize) × (k < recordLimit) × (to ≤ recordLimit) ⌝ }
+    ensures { λ r. ⌜ r ≡ sharesSlot (now (bytes .entry)) k to ⌝ }
 {
-    if word::read_u64(bytes, entry::start_of(k)) != 0 {
-        return false;
-    }
-    word::read_u64(bytes, entry::start_of(k) + 8) == 0
-}
-
-// Whether the cells of each flow stand together in output priority. From the last entry to the first; `seen` has the
-// flows of the listed entries passed, of which `next` is the first. Nothing branches on the place alone, which would be
-// guessed badly.
-fn flows_together(bytes: &[u8], from: usize, to: usize) -> bool
-    requires { ⌜ (length (now bytes) ≡ tableSize) × (from ≤ to) × (to ≤ 1024) ⌝ }
-    requires { ⌜ (from % 64 ≡ 0) × (to ≤ from + 64) ⌝ }
-    requires { ⌜ all? inRange (entriesBetween (now bytes) from to) ≡ true ⌝ }
-    ensures { λ r. ⌜ r ≡ together (keep (λ e. isListed (e .place)) (entriesBetween (now (bytes .entry)) from to)) ⌝ }
-{
-    let mut seen = [false; 128];
-    let mut next = 0;
-    let mut k = to;
-    while from < k {
-        k -= 1;
-        let place = entry::place_of(bytes, k);
-        let flow = entry::flow_number(bytes, k);
-        let was = seen[flow];
-        if stands_apart(bytes, is_again(place, entry::LISTED, was), k, next) {
-            return false;
-        }
-        let listed = place == entry::LISTED;
-        seen[flow] = listed | was;
-        next = if listed { k } else { next };
-    }
-    true
-}
-
-// Whether an entry with this byte for its place is at that one, and was seen there before. One comparison of one number:
-// the compiler makes two branches of two.
-fn is_again(place: u8, at: u8, seen: bool) -> bool
-    ensures { λ r. ⌜ r ≡ (eqb place at && seen) ⌝ }
-{
-    place as u32 + 256 * seen as u32 == at as u32 + 256
-}
-
-// Whether an entry stands apart from those of its flow behind it, if there are such; `next` is the one right behind it.
-fn stands_apart(bytes: &[u8], seen: bool, k: usize, next: usize) -> bool
-    requires { ⌜ (length (now bytes) ≡ tableSize) × (k < 1024) × (next < 1024) ⌝ }
-    ensures { λ r. ⌜ r ≡ standsApart seen (entryAt (now (bytes .entry)) k) (entryAt (now (bytes .entry)) next) ⌝ }
-{
-    if !seen {
-        return false;
-    }
-    let this = entry::cell_of(bytes, k);
-    let that = entry::cell_of(bytes, next);
-    if !cell::same_flow(this, that) {
-        return true;
-    }
-    !cell::over(this, that)
-}
-
-// Whether no two entries have one slot. From the last entry to the first; `seen` has the low bits of the slots passed,
-// so that only an entry which shares them is compared with those behind it.
-fn slots_differ(bytes: &[u8], from: usize, to: usize) -> bool
-    requires { ⌜ (length (now bytes) ≡ tableSize) × (from ≤ to) × (to ≤ 1024) ⌝ }
-    ensures { λ r. ⌜ r ≡ pairwise otherSlot (entriesBetween (now (bytes .entry)) from to) ⌝ }
-{
-    let mut seen = [false; 256];
-    let mut k = to;
-    while from < k {
-        k -= 1;
-        let low = (entry::slot_of(bytes, k) % 256) as usize;
-        if shares_slot(bytes, seen[low], k, to) {
-            return false;
-        }
-        seen[low] = true;
-    }
-    true
-}
-
-// Whether an entry has the slot of one behind it, if one may have it.
-fn shares_slot(bytes: &[u8], may: bool, k: usize, to: usize) -> bool
-    requires { ⌜ (length (now bytes) ≡ tableSize) × (k < 1024) × (to ≤ 1024) ⌝ }
-    ensures { λ r. ⌜ r ≡ sharesSlot may (now (bytes .entry)) k to ⌝ }
-{
-    if !may {
-        return false;
-    }
     let slot = entry::slot_of(bytes, k);
     let mut j = k + 1;
     while j < to {
@@ -239,24 +279,55 @@ fn shares_slot(bytes: &[u8], may: bool, k: usize, to: usize) -> bool
     false
 }
 
-// Whether no crosspoint holds two cells. From the last entry to the first; `seen` has the outputs of the crossed ones
-// passed. Nothing branches on the place alone, which would be guessed badly.
-fn crosspoints_differ(bytes: &[u8], from: usize, to: usize) -> bool
-    requires { ⌜ (length (now bytes) ≡ tableSize) × (from ≤ to) × (to ≤ 1024) ⌝ }
-    requires { ⌜ all? inRange (entriesBetween (now bytes) from to) ≡ true ⌝ }
-    ensures { λ r. ⌜ r ≡ pairwise otherCrosspoint (entriesBetween (now (bytes .entry)) from to) ⌝ }
+// Whether no two of the entries at these positions go to one output. The outputs passed are a set; nothing branches on
+// them, as that would be guessed badly.
+fn crosspoints_differ(bytes: &[u8], first: usize, crossed: u64) -> bool
+    requires { ⌜ (length (now bytes) ≡ tableSize) × (first + cellLimit ≤ recordLimit) ⌝ }
+    requires { ⌜ all? inRange (entriesIn (now bytes) first crossed) ≡ true ⌝ }
+    ensures { λ r. ⌜ r ≡ pairwise otherOutput (entriesIn (now (bytes .entry)) first crossed) ⌝ }
 {
-    let mut seen = [false; 16];
-    let mut k = to;
-    while from < k {
-        k -= 1;
-        let place = entry::place_of(bytes, k);
-        let output = entry::output_of(bytes, k) as usize;
-        let was = seen[output];
-        if is_again(place, entry::CROSSED, was) {
-            return false;
-        }
-        seen[output] = (place == entry::CROSSED) | was;
+    let mut twice = false;
+    let mut outputs = 0;
+    let mut left = crossed;
+    while left != 0 {
+        let output = entry::output_of(bytes, first + sets::first(left)) as usize;
+        twice = twice | sets::has(outputs, output);
+        outputs = sets::with(outputs, output);
+        left = sets::rest(left);
     }
-    true
+    !twice
+}
+
+// Whether of the entries at these positions the cells of each flow stand together in output priority. `last` is the
+// flow of the entry before; the flows passed are marked. Nothing branches on them, as that would be guessed badly.
+fn flows_together(bytes: &[u8], first: usize, listed: u64, mark: u8, marks: &mut [u8; 256]) -> bool
+    requires { ⌜ (length (now bytes) ≡ tableSize) × (first + cellLimit ≤ recordLimit) × (first % cellLimit ≡ 0) ⌝ }
+    requires { ⌜ all? inRange (entriesIn (now bytes) first listed) ≡ true ⌝ }
+    requires { ⌜ MarksBelow mark (now marks) ⌝ }
+    ensures { λ r. ⌜ r ≡ together (entriesIn (now (bytes .entry)) first listed) ⌝ }
+    ensures { λ _. ⌜ MarksBelow (mark + 1) (now (marks .exit)) ⌝ }
+{
+    let mut broken = false;
+    let mut last = NO_FLOW;
+    let mut last_key = 0;
+    let mut left = listed;
+    while left != 0 {
+        let k = first + sets::first(left);
+        let flow = entry::flow_number(bytes, k);
+        let key = entry::key_of(bytes, k);
+        broken = broken | breaks_flow(flow == last, key <= last_key, marks[flow] == mark);
+        marks[flow] = mark;
+        last = flow;
+        last_key = key;
+        left = sets::rest(left);
+    }
+    !broken
+}
+
+// Whether an entry breaks its flow: the one before it is of its flow and does not go first, or is of another flow and
+// its own was met before.
+fn breaks_flow(same: bool, early: bool, met: bool) -> bool
+    ensures { λ r. ⌜ r ≡ breaksFlow same early met ⌝ }
+{
+    same & early | !same & met
 }

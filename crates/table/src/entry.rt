@@ -2,15 +2,31 @@
 // count of an input at 16 + input. The record k = 64 * input + position stands at byte 32 + 16 * k.
 // A caller shows that the bytes have a table's length and that there is such a record; the bytes may be any.
 use cell::Cell;
+use cell::Switch;
 ghost use mathlib.Core.Path.{_≡_};
 ghost use mathlib.Core.List.{_++_};
-ghost use Prim.Native.Nat.{_+_, _*_, _<_, _≤_};
+ghost use Prim.Native.Nat.{_+_, _*_, _%_, _<_, _≤_};
 ghost use lib.ListN.{length, take, drop, set};
+ghost use Rattle.cell.specs.Order.{key};
 ghost use Rattle.layout.specs.Number.{bytesOf};
 ghost use Rattle.layout.specs.Table.{tableSize, placeOf, entryBytes};
 ghost use Rattle.layout.specs.Entry.{entryAt, portsIn, clockIn, countIn};
 ghost use Rattle.layout.specs.Records.{placeByteAt, recordStart, recordAt};
 ghost use Rattle.table.specs.Entries.{entryWith, flowWord, flowNumber};
+
+// The sizes of a table, its header and a record, in bytes; the number of the layout.
+pub const TABLE_BYTES: usize = 16416;
+
+pub const HEADER_BYTES: usize = 32;
+
+pub const ENTRY_BYTES: usize = 16;
+
+pub const LAYOUT: u32 = 1;
+
+// The limits of the switch, as indexes: its ports, and the cells of an input.
+pub const PORTS: usize = Switch::PORTS as usize;
+
+pub const CELLS: usize = Switch::CELLS as usize;
 
 // The byte of a place: in the list, at the crosspoint, in the output's buffer.
 pub const LISTED: u8 = 1;
@@ -63,7 +79,7 @@ pub fn cell_of(bytes: &[u8], k: usize) -> Cell
     ensures { λ r. ⌜ r ≡ entryAt (now (bytes .entry)) k .cell ⌝ }
 {
     Cell {
-        input: (k / 64) as u32,
+        input: (k / CELLS) as u32,
         output: output_of(bytes, k) as u32,
         flow: flow_of(bytes, k) as u32,
         rank: rank_of(bytes, k),
@@ -141,12 +157,28 @@ pub fn slot_of(bytes: &[u8], k: usize) -> u32
     crate::word::read_u32(bytes, start_of(k) + 12)
 }
 
+// The low byte of its slot. Not the slot's remainder: the compiler would load the slot in two parts.
+pub fn slot_byte_of(bytes: &[u8], k: usize) -> u8
+    requires { ⌜ (length (now bytes) ≡ tableSize) × (k < 1024) ⌝ }
+    ensures { λ r. ⌜ r ≡ entryAt (now (bytes .entry)) k .cell .slot % 256 ⌝ }
+{
+    bytes[start_of(k) + 12]
+}
+
+// The key of its cell's output priority.
+pub fn key_of(bytes: &[u8], k: usize) -> u64
+    requires { ⌜ (length (now bytes) ≡ tableSize) × (k < 1024) ⌝ }
+    ensures { λ r. ⌜ r ≡ key (entryAt (now (bytes .entry)) k .cell) ⌝ }
+{
+    cell::key(cell_of(bytes, k))
+}
+
 // The first byte of a record.
 pub fn start_of(k: usize) -> usize
     requires { ⌜ k < 1024 ⌝ }
     ensures { λ r. ⌜ r ≡ recordStart k ⌝ }
 {
-    32 + 16 * k
+    HEADER_BYTES + ENTRY_BYTES * k
 }
 
 // Writes an entry into a record.

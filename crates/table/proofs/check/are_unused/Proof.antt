@@ -1,34 +1,59 @@
--- What is left to be looked at has the answer of the whole.
-use Prim.Native.Nat.{_-_}
-use mathlib.Core.Path.{_≡_, refl, sym, _∙_}
+-- The last block, and the records passed, have no bit set that is not gathered.
+use Prim.Native.Nat.{_+_, _-_, _≤_}
+use mathlib.Core.Bool.{_&&_}
+use mathlib.Core.Path.{_≡_}
 use native.Mathlib.Omega.{arith}
-use borrow.Author.Needs.{needs}
+use lib.Dec.{eqb}
 use Rattle.laws.specs.Lists.{all?}
-use Rattle.laws.proofs.Tests.{not-e, not-false-e}
 use Rattle.layout.specs.Records.{between}
 use Rattle.table.specs.Check.{isUnused}
-use Rattle.table.proofs.Walks.{each-stop, each-next, each-end}
+use Rattle.table.proofs.Walks.{gather-start, gather-block, gather-end}
 use Rattle.table.proofs.check.are_unused.Statement.{statement}
 use Rattle.table.proofs.check.are_unused.Tie as tie
 
 abbrev Inv-loop : tie.InvT-loop
-Inv-loop bytes from to k₀ k = all? (isUnused bytes) (between from to) ≡ all? (isUnused bytes) (between k to)
+Inv-loop bytes from to bits₀ k₀ bits k =
+    (from ≤ k) × (k ≤ to)
+    × (eqb bits 0 ≡ (all? (isUnused bytes) (between (to - 8) to) && all? (isUnused bytes) (between from k)))
 
 abbrev μ-loop : tie.MeasureT-loop
-μ-loop bytes from to k₀ k = to - k
+μ-loop bytes from to bits₀ k₀ bits k = to - k
 
-loop-holds : tie.Need-loop-holds Inv-loop μ-loop
-loop-holds c = refl
+add-if1 : tie.Need-add-if1 Inv-loop μ-loop
+add-if1 c = omega arith
 
-is-unused-requires : tie.Need-is-unused-requires Inv-loop μ-loop
-is-unused-requires c κs = search needs
+bits-of-requires : tie.Need-bits-of-requires Inv-loop μ-loop
+bits-of-requires c κs = c .before .before .pre
 
 returns : tie.Need-returns Inv-loop μ-loop
-returns c =
-    let a = c .before .before .before .before .before .args in
-    let l = c .before .before .before .loop in
-    each-stop (isUnused (a .bytes .now)) (l .k) (a .to) _ (l .inv) (c .before .before .loop-test .taken)
-    (sym (c .before .is-unused .ensures) ∙ not-e (c .before .is-unused .result) (c .if1 .taken))
+returns c = c .bits-of .ensures
+
+sub-bits-of : tie.Need-sub-bits-of Inv-loop μ-loop
+sub-bits-of c = omega arith
+
+bits-of-requires-2 : tie.Need-bits-of-requires-2 Inv-loop μ-loop
+bits-of-requires-2 c κs =
+    let pre = c .before .before .pre in
+    (pre .0, omega arith, pre .2)
+
+loop-holds : tie.Need-loop-holds Inv-loop μ-loop
+loop-holds c =
+    let start = c .before .before .before in
+    let a = start .args in (
+      omega arith,
+      start .pre .1,
+      gather-start (isUnused (a .bytes .now)) (a .from) (a .to - 8) (a .to) (omega arith) (omega arith)
+          (c .bits-of2 .result) (c .bits-of2 .ensures),
+    )
+
+add-loop : tie.Need-add-loop Inv-loop μ-loop
+add-loop c = omega arith
+
+add-bits-of : tie.Need-add-bits-of Inv-loop μ-loop
+add-bits-of c = omega arith
+
+bits-of-requires-3 : tie.Need-bits-of-requires-3 Inv-loop μ-loop
+bits-of-requires-3 c κs = (c .before .before .before .before .before .pre .0, omega arith, omega arith)
 
 add-k : tie.Need-add-k Inv-loop μ-loop
 add-k c = omega arith
@@ -38,16 +63,20 @@ loop-less c = omega arith
 
 loop-again : tie.Need-loop-again Inv-loop μ-loop
 loop-again c =
-    let a = c .before .before .before .before .before .args in
-    let l = c .before .before .before .loop in
-    each-next (isUnused (a .bytes .now)) (l .k) (a .to) _ (l .inv) (c .before .before .loop-test .taken)
-    (sym (c .before .is-unused .ensures) ∙ not-false-e (c .before .is-unused .result) (c .if1 .left))
+    let a = c .before .before .before .before .before .before .args in
+    let l = c .before .before .loop in (
+      omega arith,
+      omega arith,
+      gather-block (isUnused (a .bytes .now)) (a .from) (a .to - 8) (a .to) (omega arith) (omega arith) (l .bits)
+          (c .bits-of3 .result) (l .k) (l .k + 8) (l .inv .0) (omega arith) (l .inv .2) (c .bits-of3 .ensures),
+    )
 
 returns-2 : tie.Need-returns-2 Inv-loop μ-loop
 returns-2 c =
-    let a = c .before .before .before .args in
+    let a = c .before .before .before .before .before .args in
     let l = c .before .loop in
-    each-end (isUnused (a .bytes .now)) (l .k) (a .to) _ (l .inv) (c .loop-test .left)
+    gather-end (isUnused (a .bytes .now)) (a .from) (a .to - 8) (a .to) (omega arith) (omega arith) (l .bits) (l .k)
+    (omega arith) (l .inv .1) (l .inv .2)
 
 pub are-unused-spec : {M : Type 1} → statement M
 are-unused-spec =
@@ -55,9 +84,15 @@ are-unused-spec =
     (tie.spec
     Inv-loop
     μ-loop
-    loop-holds
-    is-unused-requires
+    add-if1
+    bits-of-requires
     returns
+    sub-bits-of
+    bits-of-requires-2
+    loop-holds
+    add-loop
+    add-bits-of
+    bits-of-requires-3
     add-k
     loop-less
     loop-again

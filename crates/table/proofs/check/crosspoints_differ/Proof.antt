@@ -1,101 +1,101 @@
--- The entries passed are at crosspoints of their own, whose outputs are marked (proofs/Apart).
-use Prim.Native.Nat.{_-_, _<_}
-use mathlib.Core.Path.{_≡_, sym, _∙_, ap}
+-- The entries passed go to different outputs, which are gathered (proofs/Crossed).
+use Prim.Native.Nat.{_+_, _<_}
+use mathlib.Core.Path.{_≡_, _∙_, ap}
 use native.Mathlib.Omega.{arith}
 use borrow.Author.Needs.{needs}
-use lib.Dec.{eqb}
-use Rattle.model.specs.State.{isCrossed}
-use Rattle.model.specs.Sound.{otherCrosspoint}
+use Rattle.sets.specs.Sets.{firstOf}
+use Rattle.sets.proofs.Members.{first-position, rest-less, visited-member}
 use Rattle.layout.specs.Entry.{entryAt}
 use Rattle.table.specs.Check.{inRange}
-use Rattle.table.proofs.Fields.{placeOf-crossed}
-use Rattle.layout.proofs.Records.{entriesBetween-each}
-use Rattle.table.proofs.Walks.{inRange-e}
-use Rattle.table.proofs.Seen.{passed-start, passed-end}
-use Rattle.table.proofs.Apart.{crossedTo, Crossed, crossed-next, crossed-stop}
+use Rattle.table.proofs.Walks.{inRange-e, entriesIn-each}
+use Rattle.table.proofs.Crossed.{Crossed, crossed-start, crossed-next, crossed-end}
 use Rattle.table.proofs.check.crosspoints_differ.Statement.{statement}
 use Rattle.table.proofs.check.crosspoints_differ.Tie as tie
 
 abbrev Inv-loop : tie.InvT-loop
-Inv-loop bytes from to seen₀ k₀ seen k = Crossed bytes from to k seen
+Inv-loop bytes first crossed twice₀ outputs₀ left₀ twice outputs left =
+    Crossed bytes first crossed twice outputs left
 
 abbrev μ-loop : tie.MeasureT-loop
-μ-loop bytes from to seen₀ k₀ seen k = k
+μ-loop bytes first crossed twice₀ outputs₀ left₀ twice outputs left = left
 
--- the output that the entry at hand goes to is one that there can be
-port : (c : tie.After-output-of Inv-loop μ-loop) → c .output-of .result < 16
-port c =
-    let at-loop = c .before .before .before in
-    let start = at-loop .before .before in
-    let a = start .args in
-    let l = at-loop .loop in
-    let range =
-    entriesBetween-each inRange (a .bytes .now) (a .from) (a .to) (l .k - 1) (start .pre .1) (omega (arith, l .inv .low))
-    (omega (arith, l .inv .high)) in
-    omega (arith, inRange-e (entryAt (a .bytes .now) (l .k - 1)) range .0, c .output-of .ensures)
+-- where a position is left: its record is one of the table, and its output one that there can be
+module _ (c : tie.In-loop Inv-loop μ-loop) where
+  some : 0 < c .before .loop .left
+  some = omega (arith, c .loop-test .taken)
 
--- whether it is at a crosspoint
-crossed : (c : tie.After-place-of Inv-loop μ-loop)
-    → let at-loop = c .before .before in
-    isCrossed (entryAt (at-loop .before .before .args .bytes .now) (at-loop .loop .k - 1) .place)
-    ≡ eqb (c .place-of .result) 2
-crossed c = ap isCrossed (sym (c .place-of .ensures .1)) ∙ placeOf-crossed (c .place-of .result)
+  position : firstOf (c .before .loop .left) < 64
+  position = first-position (c .before .loop .left) some (c .before .loop .inv .visited .fits)
+
+  port : let a = c .before .before .before .args in
+      entryAt (a .bytes .now) (a .first + firstOf (c .before .loop .left)) .cell .output < 16
+  port =
+      let start = c .before .before .before in
+      inRange-e _
+      (entriesIn-each inRange (start .args .bytes .now) (start .args .first) (start .args .crossed) (start .pre .1)
+      (visited-member (c .before .loop .inv .visited) some)) .0
+
+-- the output of the entry at hand
+output : (c : tie.After-output-of Inv-loop μ-loop)
+    → let at-loop = c .before .before .before in
+    let a = at-loop .before .before .args in
+    c .output-of .result ≡ entryAt (a .bytes .now) (a .first + firstOf (at-loop .loop .left)) .cell .output
+output c =
+    let a = c .before .before .before .before .before .args in
+    c .output-of .ensures ∙ ap (λ j. entryAt (a .bytes .now) (a .first + j) .cell .output) (c .before .first .ensures)
+
+below : (c : tie.After-output-of Inv-loop μ-loop) → c .output-of .result < 64
+below c = omega (arith, output c, port (c .before .before))
 
 loop-holds : tie.Need-loop-holds Inv-loop μ-loop
 loop-holds c =
-    let a = c .before .args in
-    passed-start otherCrosspoint crossedTo 16 (a .bytes .now) (a .from) (a .to) (c .before .pre .0 .1)
+    crossed-start (c .before .args .bytes .now) (c .before .args .first) (c .before .args .crossed)
+    (c .before .fits .crossed .fits)
 
-sub-k : tie.Need-sub-k Inv-loop μ-loop
-sub-k c = omega arith
+first-requires : tie.Need-first-requires Inv-loop μ-loop
+first-requires c κs = search needs
 
-place-of-requires : tie.Need-place-of-requires Inv-loop μ-loop
-place-of-requires c κs = search needs
+add-output-of : tie.Need-add-output-of Inv-loop μ-loop
+add-output-of c = omega (arith, position (c .before), c .first .ensures)
 
 output-of-requires : tie.Need-output-of-requires Inv-loop μ-loop
-output-of-requires c κs = search needs
+output-of-requires c κs =
+    let start = c .before .before .before .before in
+    (start .pre .0 .0, omega (arith, position (c .before), c .first .ensures))
 
 cast-output : tie.Need-cast-output Inv-loop μ-loop
 cast-output c = search needs
 
-array-read-was : tie.Need-array-read-was Inv-loop μ-loop
-array-read-was c = port c
+has-requires : tie.Need-has-requires Inv-loop μ-loop
+has-requires c κs = below c
 
-is-again-requires : tie.Need-is-again-requires Inv-loop μ-loop
-is-again-requires c κs = search needs
+with-requires : tie.Need-with-requires Inv-loop μ-loop
+with-requires c κs = below (c .before)
 
-returns : tie.Need-returns Inv-loop μ-loop
-returns c =
-    let output = c .before .before in
-    let in-loop = output .before .before in
-    let l = in-loop .before .loop in
-    let a = in-loop .before .before .before .args in
-    crossed-stop (a .bytes .now) (a .from) (a .to) (l .k) (l .seen) (l .inv) (in-loop .loop-test .taken)
-    (output .output-of .result) (output .output-of .ensures) (port output) _ (crossed (output .before))
-    (sym (c .before .is-again .ensures) ∙ c .if1 .taken)
-
-array-write-seen : tie.Need-array-write-seen Inv-loop μ-loop
-array-write-seen c = port (c .before .before)
+rest-requires : tie.Need-rest-requires Inv-loop μ-loop
+rest-requires c κs = some (c .before .before .before .before)
 
 loop-less : tie.Need-loop-less Inv-loop μ-loop
-loop-less c = omega arith
+loop-less c =
+    let in-loop = c .before .before .before .before .before in
+    let l = in-loop .before .loop in
+    omega (arith, c .rest .ensures, rest-less (l .left) (some in-loop) (l .inv .visited .fits))
 
 loop-again : tie.Need-loop-again Inv-loop μ-loop
 loop-again c =
-    let output = c .before .before in
-    let in-loop = output .before .before in
-    let l = in-loop .before .loop in
+    let at = c .before .before .before in
+    let in-loop = at .before .before in
     let a = in-loop .before .before .before .args in
-    crossed-next (a .bytes .now) (a .from) (a .to) (l .k) (l .seen) (l .inv) (in-loop .loop-test .taken)
-    (output .output-of .result) (output .output-of .ensures) (port output) _ (crossed (output .before))
-    (sym (c .before .is-again .ensures) ∙ c .if1 .left)
+    let l = in-loop .before .loop in
+    rw (c .before .before .has .ensures, c .before .with .ensures, c .rest .ensures)
+    (crossed-next (a .bytes .now) (a .first) (a .crossed) (l .twice) (l .outputs) (l .left) (l .inv) (some in-loop)
+    (at .output-of .result) (output at) (below at))
 
-returns-2 : tie.Need-returns-2 Inv-loop μ-loop
-returns-2 c =
-    let l = c .before .loop in
+returns : tie.Need-returns Inv-loop μ-loop
+returns c =
     let a = c .before .before .before .args in
-    passed-end otherCrosspoint crossedTo 16 (a .bytes .now) (a .from) (a .to) (l .k) (l .seen) (l .inv)
-    (c .loop-test .left)
+    let l = c .before .loop in
+    crossed-end (a .bytes .now) (a .first) (a .crossed) (l .twice) (l .outputs) (l .left) (l .inv) (c .loop-test .left)
 
 pub crosspoints-differ-spec : {M : Type 1} → statement M
 crosspoints-differ-spec =
@@ -104,14 +104,13 @@ crosspoints-differ-spec =
     Inv-loop
     μ-loop
     loop-holds
-    sub-k
-    place-of-requires
+    first-requires
+    add-output-of
     output-of-requires
     cast-output
-    array-read-was
-    is-again-requires
-    returns
-    array-write-seen
+    has-requires
+    with-requires
+    rest-requires
     loop-less
     loop-again
-    returns-2)
+    returns)

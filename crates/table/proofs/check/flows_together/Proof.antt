@@ -1,145 +1,128 @@
--- The listed entries passed stand together, and their flows are marked (proofs/Flows).
-use Prim.Native.Nat.{_-_, _/_}
-use mathlib.Core.Bool.{true, false, _&&_}
-use mathlib.Core.Path.{_≡_, sym, _∙_, ap}
+-- The entries passed stand together unless a flow is broken, and their flows are marked (proofs/Flows).
+use Prim.Native.Nat.{_+_, _<_}
+use mathlib.Core.Path.{_≡_, _∙_, ap}
 use mathlib.Core.List.{List·Memᴰ}
 use native.Mathlib.Omega.{arith}
 use borrow.Author.Needs.{needs}
-use lib.Dec.{eqb}
-use lib.ListN.{getD}
-use Rattle.model.specs.State.{Entry, isListed}
+use Rattle.sets.specs.Sets.{firstOf}
+use Rattle.sets.proofs.Members.{first-position, rest-less}
+use Rattle.cell.specs.Order.{key}
+use Rattle.model.specs.State.{Entry}
 use Rattle.layout.specs.Entry.{entryAt}
-use Rattle.layout.specs.Records.{entriesBetween}
-use Rattle.table.specs.Check.{inRange, standsApart}
-use Rattle.table.proofs.Fields.{placeOf-listed}
-use Rattle.layout.proofs.Records.{entriesBetween-each}
+use Rattle.table.specs.Check.{entriesIn}
+use Rattle.table.specs.Entries.{flowNumber}
+use Rattle.table.proofs.Fields.{known-bytes}
 use Rattle.table.proofs.Walks.{inRange-e}
-use Rattle.table.proofs.Flows.{Flows, section-good, flows-start, flows-mark, flows-pass, flows-stop, flows-end}
+use Rattle.table.proofs.Marks.{marked-below}
+use Rattle.table.proofs.Flows.{Flows, Good, section-good, flows-start, flows-next, flows-end, this-good}
 use Rattle.table.proofs.check.flows_together.Statement.{statement}
 use Rattle.table.proofs.check.flows_together.Tie as tie
 
 abbrev Inv-loop : tie.InvT-loop
-Inv-loop bytes from to seen₀ next₀ k₀ seen next k = Flows bytes from to k seen next
+Inv-loop bytes first listed mark marks₀ broken₀ last₀ last-key₀ left₀ marks broken last last-key left =
+    Flows bytes first listed mark marks broken last last-key left
 
 abbrev μ-loop : tie.MeasureT-loop
-μ-loop bytes from to seen₀ next₀ k₀ seen next k = k
+μ-loop bytes first listed mark marks₀ broken₀ last₀ last-key₀ left₀ marks broken last last-key left =
+    left
 
--- the entries are of one section
-good : (c : tie.Start Inv-loop μ-loop) (g : Entry)
-    → List·Memᴰ g (entriesBetween (c .args .bytes .now) (c .args .from) (c .args .to))
-    → (inRange g ≡ true) × (g .cell .input ≡ c .args .from / 64)
-good c =
-    let a = c .args in
-    section-good (a .bytes .now) (a .from) (a .to) (c .pre .1 .0 .0) (c .pre .1 .0 .1) (c .pre .1 .1)
+-- where a position is left: its record is one of the table, and its entry one of the section's
+module _ (c : tie.In-loop Inv-loop μ-loop) where
+  some : 0 < c .before .loop .left
+  some = omega (arith, c .loop-test .taken)
 
--- whether the entry at hand is in the list
-listed : (c : tie.After-place-of Inv-loop μ-loop)
-    → let at-loop = c .before .before in
-    isListed (entryAt (at-loop .before .before .args .bytes .now) (at-loop .loop .k - 1) .place)
-    ≡ eqb (c .place-of .result) 1
-listed c = ap isListed (sym (c .place-of .ensures .1)) ∙ placeOf-listed (c .place-of .result)
+  position : firstOf (c .before .loop .left) < 64
+  position = first-position (c .before .loop .left) some (c .before .loop .inv .visited .fits)
 
--- its fields are in range
-range : (c : tie.After-place-of Inv-loop μ-loop)
-    → let at-loop = c .before .before in
-    inRange (entryAt (at-loop .before .before .args .bytes .now) (at-loop .loop .k - 1)) ≡ true
-range c =
-    let at-loop = c .before .before in
-    let start = at-loop .before .before in
-    let a = start .args in
-    let l = at-loop .loop in
-    entriesBetween-each inRange (a .bytes .now) (a .from) (a .to) (l .k - 1) (start .pre .1 .1) (omega (arith, l .inv .low))
-    (omega (arith, l .inv .high))
+  good : (g : Entry)
+      → let a = c .before .before .before .args in
+      List·Memᴰ g (entriesIn (a .bytes .now) (a .first) (a .listed)) → Good (a .first) g
+  good =
+      let known = c .before .before in
+      let start = known .before in
+      let a = start .args in
+      section-good (a .bytes .now) (known-bytes (a .bytes .now) (known .shared-slice-known .given)) (start .pre .0 .0)
+      (a .first) (a .listed) (start .pre .0 .1) (start .pre .0 .2) (start .pre .1 .0)
 
--- whether it stands apart
-apart : (c : tie.After-stands-apart Inv-loop μ-loop)
-    → let flow = c .before .before in
-    let at-loop = flow .before .before .before in
-    let bytes = at-loop .before .before .args .bytes .now in
-    let l = at-loop .loop in
-    standsApart (eqb (flow .before .place-of .result) 1 && getD (l .seen) (flow .flow-number .result) false)
-    (entryAt bytes (l .k - 1)) (entryAt bytes (l .next))
-    ≡ c .stands-apart .result
-apart c =
-    let at-loop = c .before .before .before .before .before in
-    let bytes = at-loop .before .before .args .bytes .now in
-    let l = at-loop .loop in
-    ap (λ b. standsApart b (entryAt bytes (l .k - 1)) (entryAt bytes (l .next))) (sym (c .before .is-again .ensures))
-    ∙ sym (c .stands-apart .ensures)
+  this : let a = c .before .before .before .args in
+      Good (a .first) (entryAt (a .bytes .now) (a .first + firstOf (c .before .loop .left)))
+  this =
+      let a = c .before .before .before .args in
+      let l = c .before .loop in
+      this-good (a .bytes .now) (a .first) (a .listed) (a .mark) (l .marks) (l .broken) (l .last) (l .last-key)
+      (l .left) (l .inv) some good
 
 loop-holds : tie.Need-loop-holds Inv-loop μ-loop
 loop-holds c =
-    let a = c .before .args in
-    flows-start (a .bytes .now) (a .from) (a .to) (c .before .pre .0 .1)
+    let start = c .before in
+    let a = start .args in
+    flows-start (a .bytes .now) (a .first) (a .listed) (a .mark) (a .marks .now) (start .fits .listed .fits)
+    (start .pre .1 .1) 0
 
-sub-k : tie.Need-sub-k Inv-loop μ-loop
-sub-k c = omega arith
+first-requires : tie.Need-first-requires Inv-loop μ-loop
+first-requires c κs = search needs
 
-place-of-requires : tie.Need-place-of-requires Inv-loop μ-loop
-place-of-requires c κs = search needs
+add-k : tie.Need-add-k Inv-loop μ-loop
+add-k c = omega (arith, position (c .before), c .first .ensures)
 
 flow-number-requires : tie.Need-flow-number-requires Inv-loop μ-loop
-flow-number-requires c κs = ((c .before .before .before .before .pre .0 .0, omega arith), inRange-e _ (range c))
-
-array-read-was : tie.Need-array-read-was Inv-loop μ-loop
-array-read-was c = c .flow-number .ensures .1
-
-is-again-requires : tie.Need-is-again-requires Inv-loop μ-loop
-is-again-requires c κs = search needs
-
-stands-apart-requires : tie.Need-stands-apart-requires Inv-loop μ-loop
-stands-apart-requires c κs = search needs
-
-returns : tie.Need-returns Inv-loop μ-loop
-returns c =
-    let test = c .before in
-    let flow = test .before .before in
-    let in-loop = flow .before .before in
-    let l = in-loop .before .loop in
-    let start = in-loop .before .before .before in
+flow-number-requires c κs =
+    let start = c .before .before .before .before in
     let a = start .args in
-    flows-stop (a .bytes .now) (a .from) (a .to) (l .k) (l .seen) (l .next) (l .inv) (in-loop .loop-test .taken) (good start)
-    (flow .flow-number .result) (flow .flow-number .ensures .0) (flow .flow-number .ensures .1) _ (listed (flow .before))
-    (apart test ∙ c .if1 .taken)
+    let ranges = inRange-e _ (this (c .before) .range) in (
+      (start .pre .0 .0, omega (arith, position (c .before), c .first .ensures)),
+      rw (c .first .ensures) ranges,
+    )
 
-array-write-seen : tie.Need-array-write-seen Inv-loop μ-loop
-array-write-seen c = c .before .before .before .flow-number .ensures .1
+key-of-requires : tie.Need-key-of-requires Inv-loop μ-loop
+key-of-requires c κs =
+    let start = c .before .before .before .before .before in
+    (start .pre .0 .0, omega (arith, position (c .before .before), c .before .first .ensures))
+
+element-copy-out-breaks-flow : tie.Need-element-copy-out-breaks-flow Inv-loop μ-loop
+element-copy-out-breaks-flow c = omega (arith, c .before .flow-number .ensures .1)
+
+breaks-flow-requires : tie.Need-breaks-flow-requires Inv-loop μ-loop
+breaks-flow-requires c κs = search needs
+
+element-write-marks : tie.Need-element-write-marks Inv-loop μ-loop
+element-write-marks c = omega (arith, c .before .before .before .flow-number .ensures .1)
+
+rest-requires : tie.Need-rest-requires Inv-loop μ-loop
+rest-requires c κs = some (c .before .before .before .before .before)
 
 loop-less : tie.Need-loop-less Inv-loop μ-loop
-loop-less c = omega arith
+loop-less c =
+    let in-loop = c .before .before .before .before .before .before in
+    let l = in-loop .before .loop in
+    omega (arith, c .rest .ensures, rest-less (l .left) (some in-loop) (l .inv .visited .fits))
 
 loop-again : tie.Need-loop-again Inv-loop μ-loop
 loop-again c =
-    let test = c .before .before in
-    let flow = test .before .before in
-    let in-loop = flow .before .before in
+    let keyed = c .before .before .before in
+    let number = keyed .before in
+    let at = number .before in
+    let in-loop = at .before in
+    let a = in-loop .before .before .before .args in
     let l = in-loop .before .loop in
-    let start = in-loop .before .before .before in
-    let a = start .args in
-    flows-mark (a .bytes .now) (a .from) (a .to) (l .k) (l .seen) (l .next) (l .inv) (in-loop .loop-test .taken) (good start)
-    (flow .flow-number .result) (flow .flow-number .ensures .0) (flow .flow-number .ensures .1) (start .pre .0 .2) _
-    (listed (flow .before)) (c .if2 .taken) (apart test ∙ c .before .if1 .left)
+    let flow : number .flow-number .result ≡ flowNumber (entryAt (a .bytes .now) (a .first + firstOf (l .left))) =
+    number .flow-number .ensures .0
+    ∙ ap (λ j. flowNumber (entryAt (a .bytes .now) (a .first + j))) (at .first .ensures) in
+    let first : keyed .key-of .result ≡ key (entryAt (a .bytes .now) (a .first + firstOf (l .left)) .cell) =
+    keyed .key-of .ensures ∙ ap (λ j. key (entryAt (a .bytes .now) (a .first + j) .cell)) (at .first .ensures) in
+    rw (c .before .breaks-flow .ensures, c .rest .ensures)
+    (flows-next (a .bytes .now) (a .first) (a .listed) (a .mark) (l .marks) (l .broken) (l .last) (l .last-key)
+    (l .left) (l .inv) (some in-loop) (good in-loop) (number .flow-number .result) (keyed .key-of .result) flow
+    (number .flow-number .ensures .1) first)
 
-loop-less-2 : tie.Need-loop-less-2 Inv-loop μ-loop
-loop-less-2 c = omega arith
-
-loop-again-2 : tie.Need-loop-again-2 Inv-loop μ-loop
-loop-again-2 c =
-    let test = c .before .before in
-    let flow = test .before .before in
-    let in-loop = flow .before .before in
-    let l = in-loop .before .loop in
-    let start = in-loop .before .before .before in
-    let a = start .args in
-    flows-pass (a .bytes .now) (a .from) (a .to) (l .k) (l .seen) (l .next) (l .inv) (in-loop .loop-test .taken) (good start)
-    (flow .flow-number .result) (flow .flow-number .ensures .0) (flow .flow-number .ensures .1) _
-    (listed (flow .before)) (c .if2 .left)
-
-returns-2 : tie.Need-returns-2 Inv-loop μ-loop
-returns-2 c =
+returns : tie.Need-returns Inv-loop μ-loop
+returns c =
     let a = c .before .before .before .args in
-    let l = c .before .loop in
-    flows-end (a .bytes .now) (a .from) (a .to) (l .k) (l .seen) (l .next) (l .inv) (c .loop-test .left)
+    let l = c .before .loop in (
+      flows-end (a .bytes .now) (a .first) (a .listed) (a .mark) (l .marks) (l .broken) (l .last) (l .last-key)
+          (l .left) (l .inv) (c .loop-test .left),
+      marked-below (l .inv .marked),
+    )
 
 pub flows-together-spec : {M : Type 1} → statement M
 flows-together-spec =
@@ -148,16 +131,14 @@ flows-together-spec =
     Inv-loop
     μ-loop
     loop-holds
-    sub-k
-    place-of-requires
+    first-requires
+    add-k
     flow-number-requires
-    array-read-was
-    is-again-requires
-    stands-apart-requires
-    returns
-    array-write-seen
+    key-of-requires
+    element-copy-out-breaks-flow
+    breaks-flow-requires
+    element-write-marks
+    rest-requires
     loop-less
     loop-again
-    loop-less-2
-    loop-again-2
-    returns-2)
+    returns)

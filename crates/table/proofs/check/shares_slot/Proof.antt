@@ -5,37 +5,21 @@ use mathlib.Core.Path.{_≡_, refl, sym, _∙_, ap}
 use native.Mathlib.Omega.{arith}
 use borrow.Author.Needs.{needs}
 use Rattle.laws.specs.Lists.{all?}
-use Rattle.laws.proofs.Tests.{not-e, not-false-e}
 use Rattle.model.specs.Sound.{otherSlot}
 use Rattle.layout.specs.Entry.{entryAt}
 use Rattle.layout.specs.Records.{between}
 use Rattle.table.specs.Check.{sharesSlot}
-use Rattle.table.proofs.Walks.{each-stop, each-next, each-end, otherSlot-same, otherSlot-other, sharesSlot-none}
-use Rattle.table.proofs.Walks.{sharesSlot-asked}
+use Rattle.table.proofs.Walks.{each-stop, each-next, each-end, otherSlot-same, otherSlot-other}
 use Rattle.table.proofs.check.shares_slot.Statement.{statement}
 use Rattle.table.proofs.check.shares_slot.Tie as tie
 
 abbrev Inv-loop : tie.InvT-loop
-Inv-loop bytes may k to slot j₀ j =
+Inv-loop bytes k to slot j₀ j =
     all? (λ j. otherSlot (entryAt bytes k) (entryAt bytes j)) (between (k + 1) to)
     ≡ all? (λ j. otherSlot (entryAt bytes k) (entryAt bytes j)) (between j to)
 
 abbrev μ-loop : tie.MeasureT-loop
-μ-loop bytes may k to slot j₀ j = to - j
-
--- an entry may have the slot: the answer is that of the test
-asked : (c : tie.At-loop Inv-loop μ-loop)
-    → let a = c .before .before .before .before .args in
-    sharesSlot (a .may) (a .bytes .now) (a .k) (a .to)
-    ≡ not (all? (λ j. otherSlot (entryAt (a .bytes .now) (a .k)) (entryAt (a .bytes .now) j)) (between (a .k + 1) (a .to)))
-asked c =
-    let a = c .before .before .before .before .args in
-    sharesSlot-asked (a .may) (a .bytes .now) (a .k) (a .to) (not-false-e (a .may) (c .before .before .if1 .left))
-
-returns : tie.Need-returns Inv-loop μ-loop
-returns c =
-    let a = c .before .before .args in
-    sym (sharesSlot-none (a .may) (a .bytes .now) (a .k) (a .to) (not-e (a .may) (c .if1 .taken)))
+μ-loop bytes k to slot j₀ j = to - j
 
 slot-of-requires : tie.Need-slot-of-requires Inv-loop μ-loop
 slot-of-requires c κs = search needs
@@ -49,18 +33,18 @@ loop-holds c = refl
 slot-of-requires-2 : tie.Need-slot-of-requires-2 Inv-loop μ-loop
 slot-of-requires-2 c κs = search needs
 
-returns-2 : tie.Need-returns-2 Inv-loop μ-loop
-returns-2 c =
+returns : tie.Need-returns Inv-loop μ-loop
+unfolding sharesSlot
+returns c =
     let at-loop = c .before .before .before in
-    let start = at-loop .before .before .before .before in
+    let start = at-loop .before .before .before in
     let bs = start .args .bytes .now in
     let e = entryAt bs (start .args .k) in
     let l = at-loop .loop in
-    let same = sym (at-loop .before .slot-of .ensures) ∙ sym (c .if2 .taken) ∙ c .before .slot-of2 .ensures in
-    let stop =
-    each-stop (λ j. otherSlot e (entryAt bs j)) (l .j) (start .args .to) _ (l .inv) (c .before .before .loop-test .taken)
-    (otherSlot-same e (entryAt bs (l .j)) same) in
-    sym (asked at-loop ∙ ap not (sym stop))
+    let same = sym (at-loop .before .slot-of .ensures) ∙ sym (c .if1 .taken) ∙ c .before .slot-of2 .ensures in
+    ap not
+    (each-stop (λ j. otherSlot e (entryAt bs j)) (l .j) (start .args .to) _ (l .inv)
+    (c .before .before .loop-test .taken) (otherSlot-same e (entryAt bs (l .j)) same))
 
 add-j-2 : tie.Need-add-j-2 Inv-loop μ-loop
 add-j-2 c = omega arith
@@ -71,24 +55,25 @@ loop-less c = omega arith
 loop-again : tie.Need-loop-again Inv-loop μ-loop
 loop-again c =
     let at-loop = c .before .before .before in
-    let start = at-loop .before .before .before .before in
+    let start = at-loop .before .before .before in
     let bs = start .args .bytes .now in
     let e = entryAt bs (start .args .k) in
     let l = at-loop .loop in
-    each-next (λ j. otherSlot e (entryAt bs j)) (l .j) (start .args .to) _ (l .inv) (c .before .before .loop-test .taken)
+    each-next (λ j. otherSlot e (entryAt bs j)) (l .j) (start .args .to) _ (l .inv)
+    (c .before .before .loop-test .taken)
     (otherSlot-other e (entryAt bs (l .j))
-    (λ same. c .if2 .left (c .before .slot-of2 .ensures ∙ sym same ∙ sym (at-loop .before .slot-of .ensures))))
+    (λ same. c .if1 .left (c .before .slot-of2 .ensures ∙ sym same ∙ sym (at-loop .before .slot-of .ensures))))
 
-returns-3 : tie.Need-returns-3 Inv-loop μ-loop
-returns-3 c =
+returns-2 : tie.Need-returns-2 Inv-loop μ-loop
+unfolding sharesSlot
+returns-2 c =
     let at-loop = c .before in
-    let start = at-loop .before .before .before .before in
+    let start = at-loop .before .before .before in
     let bs = start .args .bytes .now in
     let l = at-loop .loop in
-    let end =
-    each-end (λ j. otherSlot (entryAt bs (start .args .k)) (entryAt bs j)) (l .j) (start .args .to) _ (l .inv)
-    (c .loop-test .left) in
-    sym (asked at-loop ∙ ap not (sym end))
+    ap not
+    (each-end (λ j. otherSlot (entryAt bs (start .args .k)) (entryAt bs j)) (l .j) (start .args .to) _ (l .inv)
+    (c .loop-test .left))
 
 pub shares-slot-spec : {M : Type 1} → statement M
 shares-slot-spec =
@@ -96,13 +81,12 @@ shares-slot-spec =
     (tie.spec
     Inv-loop
     μ-loop
-    returns
     slot-of-requires
     add-j
     loop-holds
     slot-of-requires-2
-    returns-2
+    returns
     add-j-2
     loop-less
     loop-again
-    returns-3)
+    returns-2)
