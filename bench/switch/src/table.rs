@@ -3,6 +3,7 @@
 
 pub const PORTS: usize = 16;
 pub const CELLS: usize = 64;
+const FLOWS: usize = 8;
 pub const RECORD_BYTES: usize = 16;
 pub const TABLE_BYTES: usize = HEADER_BYTES + PORTS * CELLS * RECORD_BYTES;
 
@@ -161,40 +162,34 @@ fn share_slot(entries: &[Record]) -> bool {
     slots.windows(2).any(|pair| pair[0] == pair[1])
 }
 
-/// The first cell of each flow in the list, if the cells of a flow stand together in output priority.
+/// The first cell of each flow in the list, if the cells of a flow stand together in output priority. Nothing branches
+/// on the cells, as that would be guessed badly.
 fn heads(entries: &[Record], listed: u64) -> Option<u64> {
     let mut heads = 0;
-    let mut flows = [0u8; PORTS];
+    let mut broken = false;
+    let mut met = [false; PORTS * FLOWS];
     let mut last = (u16::MAX, 0);
     for at in Members(listed) {
         let r = &entries[at];
         let next = (flow(r), priority(r));
-        if next.0 != last.0 {
-            let bit = 1 << (r[1] % 8);
-            if flows[output(r)] & bit != 0 {
-                return None;
-            }
-            flows[output(r)] |= bit;
-            heads |= 1 << at;
-        } else if next.1 <= last.1 {
-            return None;
-        }
+        let met = &mut met[FLOWS * output(r) + r[1] as usize % FLOWS];
+        let same = next.0 == last.0;
+        broken |= same & (next.1 <= last.1) | !same & *met;
+        heads |= (!same as u64) << at;
+        *met = true;
         last = next;
     }
-    Some(heads)
+    (!broken).then_some(heads)
 }
 
 /// The filled crosspoints of a row and the positions of their cells, if none holds two.
 fn crosspoints(entries: &[Record], crossed: u64) -> Option<(u16, [u8; PORTS])> {
-    let mut filled = 0;
+    let mut filled = 0u16;
     let mut positions = [0; PORTS];
     for at in Members(crossed) {
         let output = output(&entries[at]);
-        if filled >> output & 1 != 0 {
-            return None;
-        }
         filled |= 1 << output;
         positions[output] = at as u8;
     }
-    Some((filled, positions))
+    (filled.count_ones() == crossed.count_ones()).then_some((filled, positions))
 }
