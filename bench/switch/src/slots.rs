@@ -1,5 +1,6 @@
 //! Times the proved switch and the plain one on the same tables and arrivals, and first compares every byte that they
-//! write.
+//! write. A time is processor time, the best of many rounds for each short stretch of calls, so that a busy machine
+//! disturbs little. Prints a line a figure, its fields parted by tabs.
 
 #[allow(dead_code)] // only its calls on byte slices are used
 #[path = "../../../host/src/lib.rs"]
@@ -8,10 +9,13 @@ mod proved;
 use plain_switch::load::{Load, Random};
 use plain_switch::{Table, ANSWER_BYTES, ARRIVAL_BYTES, DEPARTURE_BYTES, PORTS, TABLE_BYTES, TALLY_BYTES};
 use std::hint::black_box;
+use std::ops::Range;
 
 const LOADS: [usize; 6] = [4, 8, 16, 32, 48, 64];
 const SLOTS: usize = 2000;
 const ROUNDS: usize = 40;
+/// The calls that are timed together.
+const STRETCH: usize = 50;
 /// A table for `check` is kept every so many slots.
 const KEEP_EVERY: usize = 20;
 
@@ -75,23 +79,24 @@ impl List {
         list
     }
 
-    /// Nanoseconds a slot. Copying the first table is not counted.
-    fn time_slot(&self, slot: Slot) -> f64 {
-        let mut lent = Lent::new(self.first);
-        let from = processor_time();
-        for arrivals in &self.arrivals {
-            black_box(&mut lent).call(slot, arrivals);
-        }
-        (processor_time() - from) / SLOTS as f64
+    /// Times the slots once more, by both switches. Copying the first table is not counted.
+    fn time_slot(&self, times: &mut Times, round: usize) {
+        let mut lent = [Lent::new(self.first), Lent::new(self.first)];
+        times.improve(round, |side, calls| {
+            for arrivals in &self.arrivals[calls] {
+                black_box(&mut lent[side]).call([proved::slot_bytes as Slot, plain_switch::slot][side], arrivals);
+            }
+        });
     }
 
-    /// Nanoseconds a check.
-    fn time_check(&self, check: Check) -> f64 {
-        let from = processor_time();
-        for k in 0..SLOTS {
-            black_box(check(black_box(&self.tables[k % self.tables.len()])));
-        }
-        (processor_time() - from) / SLOTS as f64
+    /// Times the checks once more, by both.
+    fn time_check(&self, times: &mut Times, round: usize) {
+        times.improve(round, |side, calls| {
+            for k in calls {
+                let table = black_box(&self.tables[k % self.tables.len()]);
+                black_box([proved::check_bytes as Check, plain_switch::check][side](table));
+            }
+        });
     }
 }
 
@@ -132,26 +137,30 @@ fn compare_damaged(list: &List) {
     }
 }
 
-/// The best times so far, nanoseconds a call.
-struct Times {
-    proved: f64,
-    plain: f64,
-}
+/// The best times so far of each stretch in nanoseconds, of the proved side and of the plain one.
+struct Times([[f64; 2]; SLOTS / STRETCH]);
 
 impl Times {
     fn none() -> Times {
-        Times { proved: f64::MAX, plain: f64::MAX }
+        Times([[f64::MAX; 2]; SLOTS / STRETCH])
     }
 
-    /// Times both once more. They take turns in going first, since the second finds the list in the cache.
-    fn improve(&mut self, round: usize, proved: impl Fn() -> f64, plain: impl Fn() -> f64) {
-        if round % 2 == 0 {
-            self.proved = self.proved.min(proved());
+    /// Times the calls of each stretch once more. Both sides do a stretch before the next one comes, so that a slow spell
+    /// of the machine meets both; they take turns in going first, since the second finds the list in the cache.
+    fn improve(&mut self, round: usize, mut calls: impl FnMut(usize, Range<usize>)) {
+        for (stretch, best) in self.0.iter_mut().enumerate() {
+            for turn in 0..2 {
+                let side = (round + stretch + turn) % 2;
+                let from = processor_time();
+                calls(side, STRETCH * stretch..STRETCH * (stretch + 1));
+                best[side] = best[side].min(processor_time() - from);
+            }
         }
-        self.plain = self.plain.min(plain());
-        if round % 2 == 1 {
-            self.proved = self.proved.min(proved());
-        }
+    }
+
+    /// Nanoseconds a call of either side.
+    fn of_a_call(&self) -> [f64; 2] {
+        [0, 1].map(|side| self.0.iter().map(|best| best[side]).sum::<f64>() / SLOTS as f64)
     }
 }
 
@@ -171,62 +180,62 @@ fn processor_time() -> f64 {
     1e9 * time.seconds as f64 + time.nanoseconds as f64
 }
 
-/// One line of the table.
-struct Line {
+/// All that is measured at one load.
+struct Measured {
     list: List,
     means: Means,
     slot: Times,
     check: Times,
 }
 
-impl Line {
-    fn new(cells: usize) -> Line {
+impl Measured {
+    fn new(cells: usize) -> Measured {
         let list = List::new(cells);
         let means = compare(&list);
         compare_damaged(&list);
-        Line { list, means, slot: Times::none(), check: Times::none() }
+        Measured { list, means, slot: Times::none(), check: Times::none() }
     }
 
     fn measure(&mut self, round: usize) {
-        let list = &self.list;
-        self.slot.improve(round, || list.time_slot(proved::slot_bytes), || list.time_slot(plain_switch::slot));
-        self.check.improve(round, || list.time_check(proved::check_bytes), || list.time_check(plain_switch::check));
+        self.list.time_slot(&mut self.slot, round);
+        self.list.time_check(&mut self.check, round);
     }
 
-    fn print(&self) {
+    fn print_slot(&self) {
         let Means { cells_an_input, arrivals, with_proposals, proposals } = self.means;
-        print!("{cells_an_input:14.1} {arrivals:9.1} {:14.0}% {proposals:10.1}", 100.0 * with_proposals);
-        for Times { proved, plain } in [&self.slot, &self.check] {
-            print!(" | {proved:7.0} {plain:6.0} {:6.2}", proved / plain);
-        }
-        println!();
+        let [proved, plain] = self.slot.of_a_call();
+        print!("slot\t{cells_an_input:.1}\t{proved:.0}\t{plain:.0}\t{:.2}", proved / plain);
+        println!("\t{arrivals:.1}\t{:.0}\t{proposals:.1}", 100.0 * with_proposals);
     }
 
-    /// What a cell more costs, from this load to a higher one.
-    fn print_growth(&self, higher: &Line) {
-        let cells = PORTS as f64 * (higher.means.cells_an_input - self.means.cells_an_input);
-        print!("{:51}", "each cell more, first to last line");
-        for (low, high) in [(&self.slot, &higher.slot), (&self.check, &higher.check)] {
-            let (proved, plain) = ((high.proved - low.proved) / cells, (high.plain - low.plain) / cells);
-            print!(" | {proved:7.1} {plain:6.1} {:6.2}", proved / plain);
-        }
-        println!();
+    fn print_check(&self) {
+        let [proved, plain] = self.check.of_a_call();
+        println!("check\t{:.1}\t{proved:.0}\t{plain:.0}\t{:.2}", self.means.cells_an_input, proved / plain);
     }
 }
 
+/// What a cell more costs, from the lowest load to the highest.
+fn print_growth(name: &str, measured: &[Measured], times: impl Fn(&Measured) -> &Times) {
+    let (lowest, highest) = (&measured[0], &measured[measured.len() - 1]);
+    let cells = PORTS as f64 * (highest.means.cells_an_input - lowest.means.cells_an_input);
+    let (low, high) = (times(lowest).of_a_call(), times(highest).of_a_call());
+    let [proved, plain] = [0, 1].map(|k| (high[k] - low[k]) / cells);
+    println!("{name}\teach\t{proved:.1}\t{plain:.1}\t{:.2}", proved / plain);
+}
+
 fn main() {
-    let mut lines = LOADS.map(Line::new);
+    let mut measured = LOADS.map(Measured::new);
     // Round by round, so that a slow spell of the machine spoils no line.
     for round in 0..ROUNDS {
-        lines.iter_mut().for_each(|line| line.measure(round));
+        measured.iter_mut().for_each(|m| m.measure(round));
     }
-    println!(
-        "The proved switch beside plain Rust, every byte compared first: {PORTS} ports, {SLOTS} slots of steady load,"
-    );
-    println!("nanoseconds of processor time for a slot and for the check of a table, best of {ROUNDS} runs.");
-    println!("{:51} | {:^21} | {:^21}", "", "slot", "check");
-    let times = format!("{:>7} {:>6} {:>6}", "proved", "plain", "ratio");
-    println!("cells an input  arrivals  with proposals  proposals | {times} | {times}");
-    lines.iter().for_each(Line::print);
-    lines[0].print_growth(&lines[LOADS.len() - 1]);
+    println!("# A slot through the C interface at N = {PORTS}, every byte compared first; nanoseconds, best of {ROUNDS}.");
+    println!("# A load is the cells waiting an input; \"each\" is a cell more, from the first line to the last.");
+    println!("#\tload\tproved\tplain\tratio\tarrived\tmatch %\tproposals");
+    measured.iter().for_each(Measured::print_slot);
+    print_growth("slot", &measured, |m| &m.slot);
+    println!("# The check of a table alone, likewise.");
+    println!("#\tload\tproved\tplain\tratio");
+    measured.iter().for_each(Measured::print_check);
+    print_growth("check", &measured, |m| &m.check);
 }
