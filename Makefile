@@ -1,7 +1,8 @@
 # make view      draws an example as a page, target/show.html (TRACE=examples/NAME.trace: another one)
 # make play      proves the player, then plays the example, one line a slot
 # make test      the gate, as .ci/run has it
-# make bench     the speed of the proved code beside plain code
+# make bench     the speed of the proved code beside plain code, each figure a line
+# make plot      draws docs/speed.svg from what the last make bench printed
 # make install   crossbar-player with its manual page, the static library, its header and crossbar.pc for pkg-config, under
 #                PREFIX (/usr/local), staged in DESTDIR
 # make format    the layout of every .rt and .antt file
@@ -11,7 +12,7 @@ PREFIX ?= /usr/local
 PLACE = $(DESTDIR)$(PREFIX)
 SOURCES = $(shell find crates -name '*.rt' -o -name '*.antt')
 VERSION = $(shell sed -n 's/^.define CROSSBAR_VERSION "\(.*\)"/\1/p' include/crossbar.h)
-.PHONY: help view play player library test bench install format clean
+.PHONY: help view play player library test bench plot install format clean
 
 help:
 	@sed -n 's/^# //p' Makefile
@@ -40,6 +41,9 @@ test:
 
 bench:
 	bench/run
+
+plot:
+	bench/plot.py < target/bench/figures.tsv > docs/speed.svg
 
 install: player library
 	install -D target/bin/crossbar-player $(PLACE)/bin/crossbar-player
