@@ -1,7 +1,7 @@
 //! A player of traces in plain Rust on the plain switch, written for speed from docs/SCOPE.md: the proved player is timed
 //! beside it. It reads standard input through a window and needs no more memory for a longer trace.
 
-use plain_switch::{slot, start, ANSWER_BYTES, ARRIVAL_BYTES, DEPARTURE_BYTES, TABLE_BYTES, TALLY_BYTES};
+use plain_switch::{start, trusted_slot, ANSWER_BYTES, ARRIVAL_BYTES, DEPARTURE_BYTES, TABLE_BYTES, TALLY_BYTES};
 use std::io::{stdin, stdout, Read, Write};
 
 const WINDOW_BYTES: usize = 1 << 16;
@@ -151,7 +151,7 @@ fn play(reader: &mut Reader, out: &mut Vec<u8>) -> Result<(), Refused> {
     while !reader.rest().starts_with(b"end=") {
         let slot_line = reader.line;
         let bytes = reader.block(clock, &mut arrivals)?;
-        let result = slot(&mut table, &arrivals[..bytes], &mut answer, &mut tally);
+        let result = trusted_slot(&mut table, &arrivals[..bytes], &mut answer, &mut tally);
         if result != 0 {
             let (number, place) = (result % 256, result / 256);
             let line = if place == 0 { slot_line } else { slot_line + 5 * place - 4 };

@@ -104,20 +104,20 @@ pub struct Row {
     pub crossed: [u8; PORTS],
 }
 
-/// The rows of a table, if it is sound.
-pub fn rows(table: &Table) -> Option<[Row; PORTS]> {
+/// The rows of a table, if it is sound. Where it is trusted to be, the tests are left out.
+pub fn rows<const TRUSTED: bool>(table: &Table) -> Option<[Row; PORTS]> {
     let (ports, clock) = (ports(table), clock(table));
-    if word(table, 0) != 1 || ports == 0 || ports > PORTS || word(table, 12) != 0 {
+    if !TRUSTED && (word(table, 0) != 1 || ports == 0 || ports > PORTS || word(table, 12) != 0) {
         return None;
     }
     let mut rows = [Row::default(); PORTS];
     for (input, row) in rows.iter_mut().enumerate() {
         let most = if input < ports { CELLS } else { 0 };
         let (entries, unused) = section(table, input).split_at(count(table, input).min(most));
-        if count(table, input) > most || !all_zero(unused) {
+        if !TRUSTED && (count(table, input) > most || !all_zero(unused)) {
             return None;
         }
-        *row = sound_row(entries, ports, clock)?;
+        *row = sound_row::<TRUSTED>(entries, ports, clock)?;
     }
     Some(rows)
 }
@@ -127,7 +127,7 @@ fn all_zero(records: &[Record]) -> bool {
 }
 
 /// The row of an input's entries, if they are sound.
-fn sound_row(entries: &[Record], ports: usize, clock: u32) -> Option<Row> {
+fn sound_row<const TRUSTED: bool>(entries: &[Record], ports: usize, clock: u32) -> Option<Row> {
     let mut bits = 0;
     // The low and the high bit of each place.
     let (mut low, mut high) = (0, 0);
@@ -135,23 +135,27 @@ fn sound_row(entries: &[Record], ports: usize, clock: u32) -> Option<Row> {
     let mut low_bytes = [0u8; 256];
     for r in entries.iter().rev() {
         let (kind, slot) = (word(r, 0), slot(r));
-        if (kind & 255) as usize >= ports || slot >= clock {
-            return None;
+        if !TRUSTED {
+            if (kind & 255) as usize >= ports || slot >= clock {
+                return None;
+            }
+            bits |= kind;
+            low_bytes[slot as usize % 256] = 1;
         }
-        bits |= kind;
         low = low << 1 | (kind >> 16 & 1) as u64;
         high = high << 1 | (kind >> 17 & 1) as u64;
-        low_bytes[slot as usize % 256] = 1;
     }
-    let placed = (low | high).count_ones() as usize == entries.len();
-    // Different low bytes are different slots, and the slots of waiting cells are mostly close together.
-    let different = low_bytes.iter().sum::<u8>() as usize == entries.len() || !share_slot(entries);
-    if bits & UNUSED_BITS != 0 || !placed || !different {
-        return None;
+    if !TRUSTED {
+        let placed = (low | high).count_ones() as usize == entries.len();
+        // Different low bytes are different slots, and the slots of waiting cells are mostly close together.
+        let different = low_bytes.iter().sum::<u8>() as usize == entries.len() || !share_slot(entries);
+        if bits & UNUSED_BITS != 0 || !placed || !different {
+            return None;
+        }
     }
     let listed = low & !high;
-    let heads = heads(entries, listed)?;
-    let (filled, crossed) = crosspoints(entries, high & !low)?;
+    let heads = heads::<TRUSTED>(entries, listed)?;
+    let (filled, crossed) = crosspoints::<TRUSTED>(entries, high & !low)?;
     Some(Row { listed, heads, buffered: low & high, filled, crossed })
 }
 
@@ -164,7 +168,7 @@ fn share_slot(entries: &[Record]) -> bool {
 
 /// The first cell of each flow in the list, if the cells of a flow stand together in output priority. Nothing branches
 /// on the cells, as that would be guessed badly.
-fn heads(entries: &[Record], listed: u64) -> Option<u64> {
+fn heads<const TRUSTED: bool>(entries: &[Record], listed: u64) -> Option<u64> {
     let mut heads = 0;
     let mut broken = false;
     let mut met = [false; PORTS * FLOWS];
@@ -174,16 +178,18 @@ fn heads(entries: &[Record], listed: u64) -> Option<u64> {
         let next = (flow(r), priority(r));
         let met = &mut met[FLOWS * output(r) + r[1] as usize % FLOWS];
         let same = next.0 == last.0;
-        broken |= same & (next.1 <= last.1) | !same & *met;
+        if !TRUSTED {
+            broken |= same & (next.1 <= last.1) | !same & *met;
+            *met = true;
+        }
         heads |= (!same as u64) << at;
-        *met = true;
         last = next;
     }
     (!broken).then_some(heads)
 }
 
 /// The filled crosspoints of a row and the positions of their cells, if none holds two.
-fn crosspoints(entries: &[Record], crossed: u64) -> Option<(u16, [u8; PORTS])> {
+fn crosspoints<const TRUSTED: bool>(entries: &[Record], crossed: u64) -> Option<(u16, [u8; PORTS])> {
     let mut filled = 0u16;
     let mut positions = [0; PORTS];
     for at in Members(crossed) {
@@ -191,5 +197,5 @@ fn crosspoints(entries: &[Record], crossed: u64) -> Option<(u16, [u8; PORTS])> {
         filled |= 1 << output;
         positions[output] = at as u8;
     }
-    (filled.count_ones() == crossed.count_ones()).then_some((filled, positions))
+    (TRUSTED || filled.count_ones() == crossed.count_ones()).then_some((filled, positions))
 }
