@@ -1,24 +1,48 @@
 -- Scope 3.1: the arrival of a slot's records on the bytes of its table.
-use Prim.Native.Nat.{ℕ, suc, _+_, _-_}
+use Prim.Native.Nat.{ℕ, suc, _+_, _-_, _<_}
 use mathlib.Core.Bool.{true, false}
 use mathlib.Core.List.{List, [], _∷_, _++_}
+use mathlib.Core.Option.{none}
+use mathlib.Core.Path.{_≡_}
 use lib.ListN.{take, drop}
 use Rattle.laws.specs.Lists.{some?, update}
+use Rattle.cell.specs.declared.Arrival.{Arrival}
 use Rattle.cell.specs.declared.Cell.{Cell}
-use Rattle.model.specs.State.{Entry, Switch}
+use Rattle.cell.specs.Limits.{cellLimit, clockEnd}
+use Rattle.model.specs.State.{Entry, Switch, cells}
+use Rattle.model.specs.Checks.{firstFault}
 use Rattle.model.specs.Crossbar.{inListOf, enter, arrive}
-use Rattle.layout.specs.Table.{stateOf}
+use Rattle.layout.specs.Entry.{portsIn, clockIn, countIn}
+use Rattle.layout.specs.Table.{stateOf, IsTable}
 use Rattle.arrival.specs.Fault.{coming}
 
 -- the switch when a cell has entered the list of its input
 unfoldable pub entered : Cell → Switch → Switch
 entered c s = record { ports = s .ports; clock = s .clock; sections = update (c .input) (enter c) (s .sections) }
 
--- the switch of a table when the records of a slot have come, with the clock of the next slot
-unfoldable pub arrived : List ℕ → List ℕ → Switch
-arrived table arrivals =
-    let s = stateOf table in
-    record { ports = s .ports; clock = s .clock + 1; sections = arrive (coming table arrivals) (s .sections) }
+-- the switch with the clock of the next slot
+unfoldable pub raised : Switch → Switch
+raised s = record { ports = s .ports; clock = s .clock + 1; sections = s .sections }
+
+-- the switch when the records of a slot have come, with the clock of the next slot
+unfoldable pub arrived : Switch → List Arrival → Switch
+arrived s records =
+    record { ports = s .ports; clock = s .clock + 1; sections = arrive (coming s records) (s .sections) }
+
+-- the records of a slot may come: the table is sound, the clock is not at its end, and no record has a fault
+pub record Arriving (table : List ℕ) (records : List Arrival) : Type 0 where
+  pub sound : IsTable table
+  pub early : clockIn table < clockEnd
+  pub clear : firstFault (portsIn table) (cells (stateOf table)) (coming (stateOf table) records) ≡ none
+
+-- the cell of a record may enter a table whose clock has risen: its input has room for it, and the record fits an entry
+pub record MayEnter (a : Arrival) (table : List ℕ) : Type 0 where
+  pub sound : IsTable table
+  pub risen : 0 < clockIn table
+  pub input : a .input < portsIn table
+  pub room : countIn table (a .input) < cellLimit
+  pub output : a .output < 256
+  pub flow : a .flow < 256
 
 -- how many entries of a section stand before a new cell
 unfoldable pub enterPlace : Cell → List Entry → ℕ

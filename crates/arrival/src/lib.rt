@@ -1,11 +1,12 @@
-// Scope 6, refusals 4 to 8, and scope 3.1, arrival: a record is looked at, and the cells that the
-// records of a slot become enter the lists of their inputs, on the bytes of the table in place.
+// Scope 6, refusals 4 to 8, and scope 3.1, arrival: a record is looked at, and the cell that it becomes enters the list
+// of its input, on the bytes of the table in place.
 ghost use mathlib.Core.Path.{_≡_};
-ghost use mathlib.Core.Option.{Option, none};
-ghost use Prim.Native.Nat.{_+_, _*_, _/_, _≤_, _<_};
+ghost use mathlib.Core.Option.{Option};
+ghost use Prim.Native.Nat.{_+_, _-_, _*_, _/_, _≤_, _<_};
 ghost use lib.ListN.{length};
 ghost use Rattle.cell.specs.declared.Cell.{Cell};
 ghost use Rattle.cell.specs.Cell.{accepted};
+ghost use Rattle.cell.specs.Limits.{clockEnd};
 ghost use Rattle.model.specs.State.{cells};
 ghost use Rattle.model.specs.Checks.{noSuchPort, noSuchFlow, outOfTurn, fallingRank, full, fault};
 ghost use Rattle.model.specs.Crossbar.{inListOf};
@@ -13,9 +14,8 @@ ghost use Rattle.layout.specs.Entry.{entryAt, portsIn, clockIn, countIn};
 ghost use Rattle.layout.specs.Records.{recordStart, recordAt};
 ghost use Rattle.layout.specs.Table.{tableSize, entrySize, entryBytes, stateOf, encode, IsTable};
 ghost use Rattle.table.specs.Entries.{flowWord};
-ghost use Rattle.arrival.specs.Arrival.{entered, arrived, enterPlace, movedUp};
-ghost use Rattle.arrival.specs.Fault.{sectionIn, arrivalAt, faultIn, faultAt};
-ghost use Rattle.arrival.specs.Fault.{turnAfter, outranks};
+ghost use Rattle.arrival.specs.Arrival.{raised, entered, MayEnter, enterPlace, movedUp};
+ghost use Rattle.arrival.specs.Fault.{sectionIn, faultAt, turnAfter, outranks};
 use cell::Arrival;
 use cell::Cell;
 use cell::Refusal;
@@ -27,24 +27,24 @@ pub enum Fault {
     At(Refusal, u32),
 }
 
-// Lets the cells of the records enter the lists of their inputs. The clock is raised first, so that the table is sound
-// whenever a cell has entered.
-pub fn arrive(table: &mut [u8], arrivals: &[u8])
+// The clock moves on by one, before a cell of the slot enters: so the table is sound whenever one has.
+pub fn raise_clock(table: &mut [u8])
     requires { ⌜ IsTable (now table) ⌝ }
-    requires { ⌜ faultIn (now table) (now arrivals) ≡ none ⌝ }
-    requires { ⌜ clockIn (now table) < 4294967295 ⌝ }
-    ensures { λ _. ⌜ now (table .exit) ≡ encode (arrived (now (table .entry)) (now (arrivals .entry))) ⌝ }
+    requires { ⌜ clockIn (now table) < clockEnd ⌝ }
+    ensures { λ _. ⌜ now (table .exit) ≡ encode (raised (stateOf (now (table .entry)))) ⌝ }
 {
     let clock = table::entry::clock_of(table);
     table::entry::write_clock(table, clock + 1);
-    let count = arrivals.len() / 20;
-    let mut n = 0;
-    while n < count {
-        let a = record_at(arrivals, n);
-        let c = cell_of(a, clock);
-        enter(table, c);
-        n += 1;
-    }
+}
+
+// Lets the cell of a record enter the list of its input, which has room for it. The clock has risen: the cell's slot is
+// the one before.
+pub fn arrive(table: &mut [u8], a: Arrival)
+    requires { ⌜ MayEnter a (now table) ⌝ }
+    ensures { λ _. ⌜ now (table .exit) ≡ encode (entered (accepted (clockIn (now (table .entry)) - 1) a) (stateOf (now (table .entry)))) ⌝ }
+{
+    let clock = table::entry::clock_of(table);
+    enter(table, cell_of(a, clock - 1));
 }
 
 // The checks of one record, in their order. `turn` is the lowest input whose turn it is.
@@ -208,20 +208,5 @@ pub fn cell_of(a: Arrival, clock: u32) -> Cell
         rank: a.rank,
         tag: a.tag,
         slot: clock,
-    }
-}
-
-// The record at a place.
-pub fn record_at(arrivals: &[u8], k: usize) -> Arrival
-    requires { ⌜ 20 * k + 20 ≤ length (now arrivals) ⌝ }
-    ensures { λ r. ⌜ r ≡ arrivalAt (now (arrivals .entry)) k ⌝ }
-{
-    let at = 20 * k;
-    Arrival {
-        input: table::word::read_u32(arrivals, at),
-        output: table::word::read_u32(arrivals, at + 4),
-        flow: table::word::read_u32(arrivals, at + 8),
-        rank: table::word::read_u32(arrivals, at + 12),
-        tag: table::word::read_u32(arrivals, at + 16),
     }
 }

@@ -99,7 +99,7 @@ module _ (table : List ℕ) (cross : List (List ℕ)) (output : ℕ) where
 
   module _ {cells : List Waiting} (h : Holds table cross cells) (o : output < 16) where
     -- the cell at a crosspoint is of its input
-    held-input : (k i : ℕ) → i < 16 → k < nowhere → crosspointAt cross i output ≡ k → entryAt table k .cell .input ≡ i
+    pub held-input : (k i : ℕ) → i < 16 → k < nowhere → crosspointAt cross i output ≡ k → entryAt table k .cell .input ≡ i
     held-input k i l s e =
         let w = h .real i output l o (omega arith) in
         ap (λ n. entryAt table n .cell .input) (sym (w .2 ∙ e)) ∙ ap (λ c. c .input) (sym (h .cell (w .0) (w .1))) ∙ w .3
@@ -136,7 +136,7 @@ module _ (table : List ℕ) (cross : List (List ℕ)) (output : ℕ) where
     -- over all inputs
 
     -- a cell at a crosspoint is of a port
-    port : {e : Waiting} → List·Memᴰ e cells → e .cell .input < portsIn table
+    pub port : {e : Waiting} → List·Memᴰ e cells → e .cell .input < portsIn table
     port {e} m =
         let i : e .at / cellLimit ≡ e .cell .input =
         sym (ap (λ c. c .input) (h .cell e m) ∙ entryAt-input table (e .at)) in

@@ -1,21 +1,18 @@
 -- Rule 4: the candidates of an input, where some cell is urgent: its scheduled cell alone where that stands first in
 -- the list, and otherwise its urgent cells.
---     candidates-count      they are some of the waiting cells
 --     among-keep            what is among a kept list passes
 --     candidates-first, candidates-urgent   the two cases
 --     candidates-none       where no cell is urgent
-use Prim.Native.Nat.{ℕ, _≤_}
-use native.Mathlib.Omega.{arith}
+use Prim.Native.Nat.{ℕ}
 use mathlib.Core.Bool.{Bool, true, false, _&&_, _||_, or-false}
 use mathlib.Core.Path.{_≡_, refl, sym, _∙_, ap, ap₂, subst}
 use mathlib.Core.List.{List, [], _∷_, map, List·Memᴰ, List·Memᴰ·head, List·Memᴰ·not-nil, List·Memᴰ·eq-of-singleton}
 use borrow.Author.Tests.{eqb-true}
 use lib.Dec.{eqb}
-use Rattle.laws.specs.Lists.{keep, some?, none?, count}
+use Rattle.laws.specs.Lists.{keep, some?, none?}
 use Rattle.laws.proofs.Tests.{by-fail, same, and-i, and-l, and-r}
 use Rattle.laws.proofs.Lists.{Passing, some?-e, none?-clash, keep-keep, keep-comm, keep-ext, keep-mem, mem-keep-in}
 use Rattle.laws.proofs.Lists.{mem-keep-passes}
-use Rattle.laws.proofs.Count.{count-nil, count-keep-le}
 use Rattle.laws.proofs.Least.{least-keeps}
 use Rattle.model.specs.State.{isListed}
 use Rattle.model.specs.Phase.{Waiting, ahead, among, takesPart, candidates, phase, lists}
@@ -35,21 +32,6 @@ candidates-some ls (u ∷ us) ss m = refl
 candidates-nil : (ls ss : List Waiting) → candidates ls [] ss ≡ []
 unfolding candidates
 candidates-nil ls ss = refl
-
-count-candidates : (q : Waiting → Bool) (ls us ss : List Waiting) → count q (candidates ls us ss) ≤ count q ls
-unfolding candidates
-count-candidates q ls [] ss = omega (arith, count-nil q)
-count-candidates q ls (u ∷ us) ss = count-keep-le (takesPart ls (u ∷ us) ss) q ls
-
--- the candidates are some of the waiting cells
-pub candidates-count : (all : List Waiting) (q : Waiting → Bool) → count q (phase all .candidates) ≤ count q all
-unfolding phase lists
-candidates-count all q =
-    omega (
-      arith,
-      count-candidates q (lists all) (phase all .urgent) (phase all .scheduled),
-      count-keep-le (λ e. isListed (e .place)) q all,
-    )
 
 module _ (all : List Waiting)
     (unique : (e f : Waiting) → List·Memᴰ e all → List·Memᴰ f all → e .at ≡ f .at → e ≡ f) where

@@ -14,7 +14,7 @@ use Rattle.laws.specs.Order.{Strict}
 use Rattle.laws.proofs.Tests.{clash, by-fail, same, and-i, and-l, and-r, and-false-r, not-i}
 use Rattle.laws.proofs.Lists.{Passing, some?-e, none?-i, none?-clash, all?-nil, all?-cons}
 use Rattle.laws.proofs.Lists.{keep-pass, keep-append, keep-keep, keep-comm, keep-ext, keep-none}
-use Rattle.laws.proofs.Lists.{mem-keep-passes}
+use Rattle.laws.proofs.Lists.{mem-keep-in, mem-keep-passes}
 use Rattle.laws.proofs.Least.{least-keeps, least-nil, keep-least}
 use Rattle.laws.proofs.Pairwise.{pairwise-head, pairwise-append-r, pairwise-split, pairwise-keep}
 use Rattle.cell.specs.Flow.{sameFlow}
@@ -24,7 +24,8 @@ use Rattle.model.specs.Phase.{crosspointEmpty, ready, scheduled, isUrgent, urge
 use Rattle.model.proofs.PhaseFacts.{firsts}
 use Rattle.model.proofs.WaitingOrder.{ahead-strict, ahead-irrefl, ahead-trans, ahead-input, input-i, input-e}
 use Rattle.places.specs.Choices.{ofInput}
-use Rattle.choosing.specs.Walk.{isHead, isReady, isPressing}
+use Rattle.places.specs.Viewed.{isHead}
+use Rattle.choosing.specs.Walk.{isReady, isPressing}
 
 ------------------------------------------------------------------------
 -- a list in order has one least
@@ -51,7 +52,7 @@ module _ {A : Type 0} (lt : A → A → Bool) (strict : Strict lt) where
 -- rules 1 to 3 by tests of one cell
 
 module _ (all : List Waiting) where
-  pub firsts-heads : firsts all ≡ keep (isHead all) all
+  firsts-heads : firsts all ≡ keep (isHead all) all
   unfolding firsts heads lists isHead
   firsts-heads =
       least-keeps before (lists all)
@@ -119,19 +120,35 @@ module _ (all : List Waiting) where
     is : Waiting → Bool
     is e = eqb (e .cell .input) input
 
-    pub ofInput-scheduled : ofInput input (phase all .scheduled) ≡ least ahead (keep (isReady all) (ofInput input all))
-    unfolding ofInput is
+    -- its heads, in list order
+    unfoldable pub headsOf : List Waiting
+    headsOf = keep (isHead all) (ofInput input all)
+
+    -- a test that only heads pass
+    of-heads : (p : Waiting → Bool) → ((e : Waiting) → p e ≡ true → isHead all e ≡ true)
+        → keep p (ofInput input all) ≡ keep p headsOf
+    unfolding headsOf
+    of-heads p head =
+        keep-ext p (λ e. isHead all e && p e) (ofInput input all) (λ e m.
+        same (p e) (isHead all e && p e) (λ t. and-i (isHead all e) (p e) (head e t) t) (and-r (isHead all e) (p e)))
+        ∙ sym (keep-keep (isHead all) p (ofInput input all))
+
+    pub ofInput-scheduled : ofInput input (phase all .scheduled) ≡ least ahead (keep (isReady all) headsOf)
+    unfolding ofInput is isReady
     ofInput-scheduled =
         ap (keep is) scheduled-ready
         ∙ keep-least ahead is (keep (isReady all) all)
         (λ x y m k h t. eq-eqb _ _ (ahead-input y x t ∙ eqb-true _ _ h))
-        ∙ ap (least ahead) (keep-comm (isReady all) is all)
+        ∙ ap (least ahead)
+        (keep-comm (isReady all) is all ∙ of-heads (isReady all) (λ e t. and-l (isHead all e) _ t))
 
-    pub ofInput-urgent : ofInput input (phase all .urgent)
-        ≡ keep (λ e. isPressing all e && foremost e) (ofInput input all)
-    unfolding ofInput is
+    ofInput-urgent : ofInput input (phase all .urgent) ≡ keep (λ e. isPressing all e && foremost e) headsOf
+    unfolding ofInput is isPressing
     ofInput-urgent =
-        ap (keep is) urgent-pressing ∙ keep-comm (λ e. isPressing all e && foremost e) is all
+        ap (keep is) urgent-pressing
+        ∙ keep-comm (λ e. isPressing all e && foremost e) is all
+        ∙ of-heads (λ e. isPressing all e && foremost e)
+        (λ e t. and-l (isHead all e) _ (and-l (isPressing all e) (foremost e) t))
 
     -- the cells of its own input
     near : (e : Waiting) → e .cell .input ≡ input → (l : List Waiting) → keep (sameInput e) l ≡ ofInput input l
@@ -142,29 +159,29 @@ module _ (all : List Waiting) where
         (λ t. eq-eqb _ _ (sym (input-e e f t) ∙ h))
         (λ t. input-i e f (h ∙ sym (eqb-true _ _ t))))
 
-    member-input : {e : Waiting} → List·Memᴰ e (ofInput input all) → e .cell .input ≡ input
-    unfolding ofInput is
-    member-input m = eqb-true _ _ (mem-keep-passes is all m)
+    member-input : {e : Waiting} → List·Memᴰ e headsOf → e .cell .input ≡ input
+    unfolding headsOf ofInput is
+    member-input m = eqb-true _ _ (mem-keep-passes is all (mem-keep-in (isHead all) (ofInput input all) m))
 
     -- where no cell is ready, none is scheduled, and each pressing cell is urgent
-    module _ (none : none? (isReady all) (ofInput input all) ≡ true) where
+    module _ (none : none? (isReady all) headsOf ≡ true) where
       pub scan-end-scheduled : ofInput input (phase all .scheduled) ≡ []
       scan-end-scheduled =
-          ofInput-scheduled ∙ ap (least ahead) (keep-none (isReady all) (ofInput input all) none) ∙ least-nil ahead
+          ofInput-scheduled ∙ ap (least ahead) (keep-none (isReady all) headsOf none) ∙ least-nil ahead
 
-      pub scan-end-urgent : ofInput input (phase all .urgent) ≡ keep (isPressing all) (ofInput input all)
+      pub scan-end-urgent : ofInput input (phase all .urgent) ≡ keep (isPressing all) headsOf
       unfolding foremost
       scan-end-urgent =
           ofInput-urgent
-          ∙ keep-ext (λ e. isPressing all e && foremost e) (isPressing all) (ofInput input all) (λ e m.
+          ∙ keep-ext (λ e. isPressing all e && foremost e) (isPressing all) headsOf (λ e m.
           ap (λ b. isPressing all e && b)
           (ap (all? (ahead e)) (near e (member-input m) (phase all .scheduled) ∙ scan-end-scheduled)
           ∙ all?-nil (ahead e))
           ∙ and-true (isPressing all e))
 
     -- the first ready cell is scheduled, and each pressing cell before it is urgent
-    module _ (front back : List Waiting) (e : Waiting) (split : ofInput input all ≡ front ++ (e ∷ back))
-        (ordered : pairwise ahead (ofInput input all) ≡ true)
+    module _ (front back : List Waiting) (e : Waiting) (split : headsOf ≡ front ++ (e ∷ back))
+        (ordered : pairwise ahead headsOf ≡ true)
         (none : none? (isReady all) front ≡ true) (ready : isReady all e ≡ true) where
       in-order : pairwise ahead (front ++ (e ∷ back)) ≡ true
       in-order = ap (pairwise ahead) (sym split) ∙ ordered

@@ -1,291 +1,237 @@
--- The walk along the cells of an input, as a loop: what holds when it has come to a number, and what it has found when
+-- The walk along the heads of an input, as a loop: what holds when some positions are left, and what it has found when
 -- it stops.
---     column-nil, column-more            a list written down in a column
---     walked-start, walked-on, walked-write   the walk goes on
---     walked-stop, walked-end            it stops at a ready cell, or at the end
-use Prim.Native.Nat.{ℕ, _+_, _*_, _-_, _<_, _≤_}
+--     heads-here, head-here, heads-ordered    the heads of an input are those of its set
+--     walked-start, walked-next               the walk goes on
+--     walked-stop, walked-end                 it stops at a ready cell, or at the end
+use Prim.Native.Nat.{ℕ, _+_, _*_, _/_, _<_, _≤_, _^_}
 use native.Mathlib.Omega.{arith}
-use native.Mathlib.Numerals.{add-one}
-use mathlib.Core.Bool.{Bool, true, false, not}
+use mathlib.Core.Bool.{Bool, true, false, not, cond}
 use mathlib.Core.Path.{_≡_, refl, sym, _∙_, ap, subst}
-use mathlib.Core.Logic.{_⊎_, inl, inr, _≢_}
-use mathlib.Core.List.{List, [], _∷_, _++_, map, map-append, append-nil}
-use lib.ListN.{length, getD, set, replicate, length-append, length-map, length-set, List·getD-append}
-use lib.Seq.{getD-set-same, getD-set-other, getD-append-seam}
+use mathlib.Core.List.{List, [], _∷_, _++_, map, map-map, map-append, append-nil, List·Memᴰ}
+use mathlib.Core.List.{List·Memᴰ·head}
+use borrow.Author.Tests.{ltb-true}
+use lib.Dec.{ltb}
 use Rattle.laws.specs.Lists.{keep, none?, pairwise, first?, numbersFrom}
-use Rattle.laws.proofs.Tests.{and-i, not-i}
-use Rattle.laws.proofs.Lists.{none?-nil, none?-cons, none?-append, keep-nil, keep-pass, keep-fail, keep-append}
-use Rattle.laws.proofs.Count.{length-keep, count-le-length}
+use Rattle.laws.proofs.Tests.{and-i, and-l, and-r, not-i}
+use Rattle.laws.proofs.Lists.{none?-nil, none?-cons, none?-append, none?-map, keep-nil, keep-pass, keep-fail}
+use Rattle.laws.proofs.Lists.{keep-append, keep-map, mem-keep-in}
+use Rattle.laws.proofs.Pairwise.{pairwise-keep, pairwise-split}
+use Rattle.sets.specs.Sets.{positions, members, firstOf, restOf, withOne}
+use Rattle.sets.proofs.Members.{has-setFrom, members-none, in-members, members-rising}
+use Rattle.sets.proofs.Members.{members-setFrom, Visited, visited-start, visited-cons, visited-next, visited-end}
+use Rattle.sets.proofs.Members.{first-position, members-with, withOne-lt}
 use Rattle.cell.specs.Limits.{cellLimit}
-use Rattle.cell.proofs.Order.{Compared, below, equal, above, compare}
 use Rattle.model.specs.Phase.{Waiting, ahead, phase}
 use Rattle.layout.specs.Entry.{portsIn, countIn}
-use Rattle.places.specs.View.{waitingAt, window, inTable}
+use Rattle.places.specs.View.{placesIn, waitingIn, waitingAt, window}
 use Rattle.places.specs.Choices.{nowhere, numberOf, scheduledOf, ofInput}
-use Rattle.places.specs.Scan.{Readable, Column}
-use Rattle.choosing.specs.Walk.{Reached, Seen, Elsewhere, Scanned, isReady, isPressing, urgentOf}
+use Rattle.places.specs.Scan.{Readable}
+use Rattle.places.specs.Viewed.{isHead, headSet}
+use Rattle.places.proofs.Window.{waitingAt-at, window-ordered, ofInput-window}
+use Rattle.choosing.specs.Walk.{HeadOf, Scanned, isReady, isPressing, urgentOf}
 use Rattle.choosing.proofs.Best.{numberOf-nil, numberOf-one}
-use Rattle.choosing.proofs.Scans.{scan-end-scheduled, scan-end-urgent, scan-stop-scheduled, scan-stop-urgent}
-use Rattle.choosing.proofs.Walk.{seen-zero}
-use Rattle.places.proofs.Window.{waitingAt-at, window-zero, window-suc, window-split, window-ordered}
-use Rattle.places.proofs.Window.{length-window, ofInput-window}
+use Rattle.choosing.proofs.Scans.{headsOf, scan-end-scheduled, scan-end-urgent}
+use Rattle.choosing.proofs.Scans.{scan-stop-scheduled, scan-stop-urgent}
 
 ------------------------------------------------------------------------
--- columns
+-- the heads of an input
 
-pub column-nil : (column : List ℕ) (from : ℕ) → Column column from []
-column-nil column from m l = absurd (omega arith)
+module _ (table : List ℕ) (input : ℕ) where
+  abbrev all : List Waiting
+  all = waitingIn table
 
--- a number more
-pub column-more : (column : List ℕ) (from : ℕ) (l : List ℕ) (v : ℕ) → from + length l < length column
-    → Column column from l → Column (set column (from + length l) v) from (l ++ (v ∷ []))
-column-more column from l v room h m b = go (compare m (length l))
-  where
-    size : length (l ++ (v ∷ [])) ≡ length l + 1
-    size = length-append l (v ∷ [])
+  -- the cell at a position, and the positions of the heads
+  abbrev here : ℕ → Waiting
+  here j = waitingAt table (placesIn table) (cellLimit * input + j)
 
-    go : Compared m (length l) → getD (set column (from + length l) v) (from + m) 0 ≡ getD (l ++ (v ∷ [])) m 0
-    go (below c) =
-        getD-set-other column (from + length l) (from + m) v 0 (omega arith)
-        ∙ h m c
-        ∙ sym (List·getD-append l (v ∷ []) 0 m c)
-    go (equal c) =
-        ap (λ j. getD (set column (from + length l) v) (from + j) 0) c
-        ∙ getD-set-same column (from + length l) v 0 room
-        ∙ sym (ap (λ j. getD (l ++ (v ∷ [])) j 0) c ∙ getD-append-seam l v [] 0)
-    go (above c) = absurd (omega (arith, size))
+  abbrev heads : ℕ
+  heads = headSet table (placesIn table) input
 
-------------------------------------------------------------------------
--- the walk
+  abbrev ready : ℕ → Bool
+  ready j = isReady all (here j)
 
-module _ (table places : List ℕ) (input : ℕ) where
-  -- the pressing cells among the first n
-  unfoldable pub pressed : ℕ → List ℕ
-  pressed n = map (λ e. e .at) (keep (isPressing (inTable table places)) (window table places input n))
+  abbrev pressing : ℕ → Bool
+  pressing j = isPressing all (here j)
 
-  -- the walk has come to number k
-  pub record Walked (k : ℕ) (seen : List Bool) (urgent : ℕ) (old new : List ℕ) : Type 0 where
-    pub reached : Reached table places input k seen
-    pub none : none? (isReady (inTable table places)) (window table places input (k - cellLimit * input)) ≡ true
-    pub count : urgent ≡ length (pressed (k - cellLimit * input))
-    pub numbers : Column new (cellLimit * input) (pressed (k - cellLimit * input))
-    pub others : Elsewhere input old new
-    pub size : length new ≡ length old
+  -- none of the heads passed was ready, and the positions of the pressing ones are gathered
+  pub record Walked (urgent left : ℕ) : Type 0 where
+    pub passed : List ℕ
+    pub visited : Visited heads passed left
+    pub none : none? ready passed ≡ true
+    pub urgents : members urgent ≡ keep pressing passed
+    pub fits : urgent < 2 ^ positions
 
-  length-pressed : (n : ℕ) → length (pressed n) ≤ n
-  unfolding pressed
-  length-pressed n =
-      omega (
-        arith,
-        length-map (keep (isPressing (inTable table places)) (window table places input n)) (λ (e : Waiting). e .at),
-        length-keep (isPressing (inTable table places)) (window table places input n),
-        count-le-length (isPressing (inTable table places)) (window table places input n),
-        length-window table places input n,
-      )
+  pub walked-start : heads < 2 ^ positions → Walked 0 heads
+  walked-start fits = record {
+    passed = [];
+    visited = visited-start heads fits;
+    none = none?-nil ready;
+    urgents = members-none ∙ sym (keep-nil pressing);
+    fits = omega arith;
+  }
 
-  pressed-zero : pressed 0 ≡ []
-  unfolding pressed
-  pressed-zero =
-      ap (λ l. map (λ e. e .at) (keep (isPressing (inTable table places)) l)) (window-zero table places input)
-      ∙ ap (map (λ e. e .at)) (keep-nil (isPressing (inTable table places)))
+  module _ (r : Readable table) (port : input < portsIn table) where
+    few : countIn table input ≤ cellLimit
+    few = r .counts input (omega (arith, r .ports))
 
-  -- a cell more
-  module _ (n k : ℕ) (at : k ≡ cellLimit * input + n) where
-    abbrev next : Waiting
-    next = waitingAt table places k
-
-    more : window table places input (n + 1) ≡ window table places input n ++ (next ∷ [])
-    more =
-        ap (window table places input) (add-one n)
-        ∙ window-suc table places input n
-        ∙ ap (λ a. window table places input n ++ (waitingAt table places a ∷ [])) (sym at)
-
-    none-more : none? (isReady (inTable table places)) (window table places input n) ≡ true
-        → isReady (inTable table places) next ≡ false
-        → none? (isReady (inTable table places)) (window table places input (n + 1)) ≡ true
-    none-more h f =
-        ap (none? ready) more
-        ∙ none?-append ready (window table places input n) (next ∷ [])
-        ∙ and-i (none? ready (window table places input n)) (none? ready (next ∷ [])) h
-        (none?-cons ready next [] ∙ and-i (not (ready next)) (none? ready []) (not-i (ready next) f) (none?-nil ready))
+    heads-here : headsOf all input ≡ map here (members heads)
+    unfolding headsOf headSet window
+    heads-here =
+        ap (keep (isHead all)) (ofInput-window table (placesIn table) r input port)
+        ∙ keep-map (isHead all) at numbers
+        ∙ ap (map at) (sym (members-setFrom (λ k. isHead all (at k)) (cellLimit * input) (countIn table input) few))
+        ∙ map-map at (λ j. cellLimit * input + j) (members heads)
       where
-        ready : Waiting → Bool
-        ready = isReady (inTable table places)
+        at : ℕ → Waiting
+        at = waitingAt table (placesIn table)
 
-    kept-more : keep (isPressing (inTable table places)) (window table places input (n + 1))
-        ≡ keep (isPressing (inTable table places)) (window table places input n)
-        ++ keep (isPressing (inTable table places)) (next ∷ [])
-    kept-more =
-        ap (keep (isPressing (inTable table places))) more
-        ∙ keep-append (isPressing (inTable table places)) (window table places input n) (next ∷ [])
+        numbers : List ℕ
+        numbers = numbersFrom (cellLimit * input) (countIn table input)
 
-    pressed-pass : isPressing (inTable table places) next ≡ false → pressed (n + 1) ≡ pressed n
-    unfolding pressed
-    pressed-pass f =
-        ap (map (λ e. e .at))
-        (kept-more
-        ∙ ap (λ l. keep (isPressing (inTable table places)) (window table places input n) ++ l)
-        (keep-fail (isPressing (inTable table places)) next [] f ∙ keep-nil (isPressing (inTable table places)))
-        ∙ append-nil (keep (isPressing (inTable table places)) (window table places input n)))
-
-    pressed-press : isPressing (inTable table places) next ≡ true → pressed (n + 1) ≡ pressed n ++ (k ∷ [])
-    unfolding pressed
-    pressed-press t =
-        ap (map (λ e. e .at))
-        (kept-more
-        ∙ ap (λ l. keep (isPressing (inTable table places)) (window table places input n) ++ l)
-        (keep-pass (isPressing (inTable table places)) next [] t
-        ∙ ap (λ l. next ∷ l) (keep-nil (isPressing (inTable table places)))))
-        ∙ map-append (λ e. e .at) (keep (isPressing (inTable table places)) (window table places input n)) (next ∷ [])
-        ∙ ap (λ a. pressed n ++ (a ∷ [])) (waitingAt-at table places k)
-
-  pub walked-start : (old : List ℕ) → input < portsIn table → Walked (cellLimit * input) (replicate 128 false) 0 old old
-  walked-start old port =
-      let z : _≡_ {A = ℕ} (cellLimit * input - cellLimit * input) 0 = omega arith in
-      record {
-        reached = record {
-          port = port;
-          low = omega arith;
-          high = omega arith;
-          flows = subst (λ n. Seen table places input n (replicate 128 false)) (sym z) (seen-zero table places input);
-        };
-        none = ap (λ n. none? (isReady (inTable table places)) (window table places input n)) z
-            ∙ ap (none? (isReady (inTable table places))) (window-zero table places input)
-            ∙ none?-nil (isReady (inTable table places));
-        count = sym (ap length (ap pressed z ∙ pressed-zero));
-        numbers = subst (Column old (cellLimit * input)) (sym (ap pressed z ∙ pressed-zero)) (column-nil old (cellLimit * input));
-        others = λ m o. refl;
-        size = refl;
-      }
-
-  module _ {k urgent : ℕ} {seen : List Bool} {old new : List ℕ} (w : Walked k seen urgent old new) where
-    abbrev n : ℕ
-    n = k - cellLimit * input
-
-    low : cellLimit * input ≤ k
-    low = w .reached .low
-
-    at : k ≡ cellLimit * input + n
-    at = omega (arith, low)
-
-    suc-n : k + 1 - cellLimit * input ≡ n + 1
-    suc-n = omega (arith, low)
-
-    few-cells : Readable table → countIn table input ≤ cellLimit
-    few-cells r = r .counts input (omega (arith, w .reached .port, r .ports))
-
-    pub walked-small : Readable table → k < cellLimit * input + countIn table input → k < 1024
-    walked-small r l = omega (arith, few-cells r, w .reached .port, r .ports)
-
-    -- past a cell that is neither ready nor pressing
-    pub walked-on : {seen′ : List Bool} → Reached table places input (k + 1) seen′
-        → isReady (inTable table places) (waitingAt table places k) ≡ false
-        → isPressing (inTable table places) (waitingAt table places k) ≡ false → Walked (k + 1) seen′ urgent old new
-    walked-on r f g =
-        let same = ap pressed suc-n ∙ pressed-pass n k at g in
+    pub head-here : {j : ℕ} → List·Memᴰ j (members heads) → HeadOf table input (cellLimit * input + j)
+    unfolding headSet
+    head-here {j} m =
+        let k = cellLimit * input + j in
+        let w = in-members heads m in
+        let both =
+        sym (has-setFrom (λ k. isHead all (waitingAt table (placesIn table) k)) (cellLimit * input) (countIn table input) j)
+        ∙ w .1 in
+        let inside : j < countIn table input = ltb-true _ _ (and-l (ltb j (countIn table input)) _ both) in
+        let own : k / cellLimit ≡ input = omega (arith, w .0) in
         record {
-          reached = r;
-          none = ap (λ n. none? (isReady (inTable table places)) (window table places input n)) suc-n
-              ∙ none-more n k at (w .none) f;
-          count = w .count ∙ sym (ap length same);
-          numbers = subst (Column new (cellLimit * input)) (sym same) (w .numbers);
-          others = w .others;
-          size = w .size;
+          inside = record {
+            input = omega (arith, own);
+            position = subst (λ i. k < cellLimit * i + countIn table i) (sym own) (omega arith);
+          };
+          own = own;
+          head = and-r (ltb j (countIn table input)) _ both;
         }
 
-    -- there is room for the number of a pressing cell
-    pub walked-room : cellLimit * input + urgent ≤ k
-    walked-room = omega (arith, w .count, length-pressed n, low)
+    pub heads-ordered : pairwise ahead (headsOf all input) ≡ true
+    unfolding headsOf
+    heads-ordered =
+        pairwise-keep ahead (isHead all) (ofInput input all)
+        (ap (pairwise ahead) (ofInput-window table (placesIn table) r input port)
+        ∙ window-ordered table (placesIn table) input (countIn table input) few)
 
-    -- past a pressing cell, whose number is written down
-    pub walked-write : {seen′ : List Bool} → Readable table → length old ≡ 1024
-        → k < cellLimit * input + countIn table input → Reached table places input (k + 1) seen′
-        → isReady (inTable table places) (waitingAt table places k) ≡ false
-        → isPressing (inTable table places) (waitingAt table places k) ≡ true
-        → Walked (k + 1) seen′ (urgent + 1) old (set new (cellLimit * input + urgent) k)
-    walked-write readable long high r f t =
-        let few : countIn table input ≤ cellLimit = few-cells readable in
-        let room : cellLimit * input + urgent < length new =
-        omega (arith, walked-room, walked-small readable high, w .size) in
-        let more = ap pressed suc-n ∙ pressed-press n k at t in
-        let place : cellLimit * input + urgent ≡ cellLimit * input + length (pressed n) =
-        ap (λ j. cellLimit * input + j) (w .count) in
-        let inside : urgent < cellLimit = omega (arith, walked-room) in
-        record {
-          reached = r;
-          none = ap (λ n. none? (isReady (inTable table places)) (window table places input n)) suc-n
-              ∙ none-more n k at (w .none) f;
-          count = ap (λ j. j + 1) (w .count) ∙ sym (ap length more ∙ length-append (pressed n) (k ∷ []));
-          numbers = subst (Column (set new (cellLimit * input + urgent) k) (cellLimit * input)) (sym more)
-              (subst (λ p. Column (set new p k) (cellLimit * input) (pressed n ++ (k ∷ []))) (sym place)
-              (column-more new (cellLimit * input) (pressed n) k (subst (λ p. p < length new) place room) (w .numbers)));
-          others = λ m o. getD-set-other new (cellLimit * input + urgent) m k 0 (away m o inside) ∙ w .others m o;
-          size = length-set new (cellLimit * input + urgent) k ∙ w .size;
-        }
-      where
-        away : (m : ℕ) → (m < cellLimit * input) ⊎ (cellLimit * input + cellLimit ≤ m) → urgent < cellLimit
-            → m ≢ cellLimit * input + urgent
-        away m (inl l) i = omega arith
-        away m (inr l) i = omega arith
+    ------------------------------------------------------------------------
+    -- the walk
 
-    module _ (r : Readable table) where
-      own : ofInput input (inTable table places) ≡ window table places input (countIn table input)
-      own = ofInput-window table places r input (w .reached .port)
+    -- the numbers of the cells at some positions
+    numbers-here : (l : List ℕ) → map (λ e. e .at) (map here l) ≡ map (λ j. cellLimit * input + j) l
+    unfolding waitingAt
+    numbers-here l = map-map (λ e. e .at) here l
+
+    module _ {urgent left : ℕ} (w : Walked urgent left) where
+      -- the urgent cells, where they are the pressing ones of those passed
+      gathered : ofInput input (phase all .urgent) ≡ keep (isPressing all) (map here (w .passed))
+          → map (λ j. cellLimit * input + j) (members urgent) ≡ urgentOf (phase all) input
+      unfolding urgentOf
+      gathered h =
+          sym (ap (map (λ e. e .at)) (h ∙ keep-map (isPressing all) here (w .passed))
+          ∙ numbers-here (keep pressing (w .passed))
+          ∙ ap (map (λ j. cellLimit * input + j)) (sym (w .urgents)))
+
+      -- none of the cells passed was ready
+      none-here : none? (isReady all) (map here (w .passed)) ≡ true
+      none-here = none?-map (isReady all) here (w .passed) ∙ w .none
 
       -- at the end
-      pub walked-end : cellLimit * input + countIn table input ≤ k
-          → Scanned table places input old new (record { scheduled = nowhere; urgent = urgent })
-      unfolding scheduledOf urgentOf pressed
-      walked-end l =
-          let all-cells : n ≡ countIn table input = omega (arith, w .reached .high, low) in
-          let whole : window table places input n ≡ ofInput input (inTable table places) =
-          ap (window table places input) all-cells ∙ sym own in
-          let none : none? (isReady (inTable table places)) (ofInput input (inTable table places)) ≡ true =
-          ap (none? (isReady (inTable table places))) (sym whole) ∙ w .none in
-          let urgents : urgentOf (phase (inTable table places)) input ≡ pressed n =
-          ap (map (λ e. e .at))
-          (scan-end-urgent (inTable table places) input none
-          ∙ ap (keep (isPressing (inTable table places))) (sym whole)) in
+      pub walked-end : left ≡ 0 → Scanned table input nowhere urgent
+      unfolding scheduledOf
+      walked-end z =
+          let whole : headsOf all input ≡ map here (w .passed) =
+          heads-here ∙ ap (map here) (visited-end (w .visited) z) in
+          let none : none? (isReady all) (headsOf all input) ≡ true = ap (none? (isReady all)) whole ∙ none-here in
           record {
-            scheduled =
-                sym (ap (λ l. numberOf (first? l)) (scan-end-scheduled (inTable table places) input none) ∙ numberOf-nil);
-            count = w .count ∙ sym (ap length urgents);
-            small = omega (arith, walked-room, few-cells r, w .reached .high);
-            numbers = subst (Column new (cellLimit * input)) (sym urgents) (w .numbers);
-            others = w .others;
+            scheduled-is = sym (ap (λ l. numberOf (first? l)) (scan-end-scheduled all input none) ∙ numberOf-nil);
+            fits = w .fits;
+            urgent-are = gathered (scan-end-urgent all input none ∙ ap (keep (isPressing all)) whole);
           }
 
-      -- at a ready cell
-      pub walked-stop : k < cellLimit * input + countIn table input
-          → isReady (inTable table places) (waitingAt table places k) ≡ true
-          → Scanned table places input old new (record { scheduled = k; urgent = urgent })
-      unfolding scheduledOf urgentOf pressed
-      walked-stop l t =
-          let urgents : urgentOf (phase all) input ≡ pressed n =
-          ap (map (λ e. e .at)) (scan-stop-urgent all input front back e split ordered (w .none) t) in
-          record {
-            scheduled = sym (ap (λ l. numberOf (first? l)) (scan-stop-scheduled all input front back e split ordered (w .none) t)
-                ∙ numberOf-one e ∙ waitingAt-at table places k);
-            count = w .count ∙ sym (ap length urgents);
-            small = omega (arith, walked-room, few-cells r, w .reached .high);
-            numbers = subst (Column new (cellLimit * input)) (sym urgents) (w .numbers);
-            others = w .others;
+      module _ (some : 0 < left) where
+        abbrev next : ℕ
+        next = firstOf left
+
+        -- the next position is a head's
+        pub walked-position : next < positions
+        walked-position = first-position left some (w .visited .fits)
+
+        -- at a ready cell
+        pub walked-stop : isReady all (here next) ≡ true → Scanned table input (cellLimit * input + next) urgent
+        unfolding scheduledOf
+        walked-stop t =
+            record {
+              scheduled-is = sym (ap (λ l. numberOf (first? l))
+                  (scan-stop-scheduled all input front back e split heads-ordered none-here t)
+                  ∙ numberOf-one e ∙ waitingAt-at table (placesIn table) (cellLimit * input + next));
+              fits = w .fits;
+              urgent-are = gathered (scan-stop-urgent all input front back e split heads-ordered none-here t);
+            }
+          where
+            front : List Waiting
+            front = map here (w .passed)
+
+            e : Waiting
+            e = here next
+
+            back : List Waiting
+            back = map here (members (restOf left))
+
+            split : headsOf all input ≡ front ++ (e ∷ back)
+            split =
+                heads-here
+                ∙ ap (map here) (visited-cons (w .visited) some)
+                ∙ map-append here (w .passed) (next ∷ members (restOf left))
+
+        module _ (f : isReady all (here next) ≡ false) where
+          none-more : none? ready (w .passed ++ (next ∷ [])) ≡ true
+          none-more =
+              none?-append ready (w .passed) (next ∷ [])
+              ∙ and-i (none? ready (w .passed)) (none? ready (next ∷ [])) (w .none)
+              (none?-cons ready next []
+              ∙ and-i (not (ready next)) (none? ready []) (not-i (ready next) f) (none?-nil ready))
+
+          -- past a cell that is not pressing
+          walked-on : isPressing all (here next) ≡ false → Walked urgent (restOf left)
+          walked-on g = record {
+            passed = w .passed ++ (next ∷ []);
+            visited = visited-next (w .visited) some;
+            none = none-more;
+            urgents =
+                w .urgents
+                ∙ sym (keep-append pressing (w .passed) (next ∷ [])
+                ∙ ap (λ l. keep pressing (w .passed) ++ l) (keep-fail pressing next [] g ∙ keep-nil pressing)
+                ∙ append-nil (keep pressing (w .passed)));
+            fits = w .fits;
           }
-        where
-          all : List Waiting
-          all = inTable table places
 
-          front : List Waiting
-          front = window table places input n
+          -- past a pressing one
+          walked-with : isPressing all (here next) ≡ true → Walked (withOne urgent next) (restOf left)
+          walked-with t = record {
+            passed = w .passed ++ (next ∷ []);
+            visited = visited-next (w .visited) some;
+            none = none-more;
+            urgents =
+                members-with urgent next walked-position behind
+                ∙ ap (λ l. l ++ (next ∷ [])) (w .urgents)
+                ∙ sym (keep-append pressing (w .passed) (next ∷ [])
+                ∙ ap (λ l. keep pressing (w .passed) ++ l)
+                (keep-pass pressing next [] t ∙ ap (λ l. next ∷ l) (keep-nil pressing)));
+            fits = withOne-lt urgent next;
+          }
+            where
+              rising : pairwise ltb (w .passed ++ (next ∷ members (restOf left))) ≡ true
+              rising = ap (pairwise ltb) (sym (visited-cons (w .visited) some)) ∙ members-rising heads
 
-          e : Waiting
-          e = waitingAt table places k
+              behind : (i : ℕ) → List·Memᴰ i (members urgent) → i < next
+              behind i m =
+                  let passed : List·Memᴰ i (w .passed) =
+                  mem-keep-in pressing (w .passed) (subst (List·Memᴰ i) (w .urgents) m) in
+                  ltb-true i next (pairwise-split ltb passed (List·Memᴰ·head refl) rising)
 
-          back : List Waiting
-          back = map (waitingAt table places) (numbersFrom (k + 1) (countIn table input - (n + 1)))
-
-          split : ofInput input all ≡ front ++ (e ∷ back)
-          split = own ∙ window-split table places input n (countIn table input) k (omega (arith, low)) at
-
-          ordered : pairwise ahead (ofInput input all) ≡ true
-          ordered = ap (pairwise ahead) own ∙ window-ordered table places input (countIn table input) (few-cells r)
+          -- past a cell, pressing or not
+          pub walked-next : (b : Bool) → isPressing all (here next) ≡ b
+              → Walked (cond b (withOne urgent next) urgent) (restOf left)
+          walked-next true t = walked-with t
+          walked-next false g = walked-on g

@@ -1,32 +1,22 @@
--- The walk along the cells of each input by which a phase chooses: rules 1 to 3 as tests of one cell, how far the walk
--- has come, and what it finds. Only the functions of the choice cite these.
-use Prim.Native.Nat.{ℕ, _+_, _*_, _-_, _<_, _≤_}
-use mathlib.Core.Bool.{Bool, true, false, _&&_}
+-- The walk along the heads of each input by which a phase chooses: rules 2 and 3 as tests of one cell, what the walk
+-- finds, and what is matched. Only the functions of the choice cite these.
+use Prim.Native.Nat.{ℕ, _+_, _*_, _/_, _%_, _^_, _<_, _≤_}
+use mathlib.Core.Bool.{Bool, true, false, cond, _&&_}
 use mathlib.Core.Path.{_≡_}
-use mathlib.Core.Logic.{_⊎_}
 use mathlib.Core.List.{List, map}
-use lib.Dec.{eqb}
+use lib.Dec.{eqb, leb}
 use lib.ListN.{length, getD}
-use Rattle.laws.specs.Lists.{keep, some?, none?, all?}
-use Rattle.cell.specs.Flow.{sameFlow}
-use Rattle.cell.specs.Limits.{portLimit, flowLimit, cellLimit}
-use Rattle.model.specs.State.{isListed}
-use Rattle.model.specs.Phase.{Waiting, sameOutput, ahead, beats, blocked, crosspointEmpty, Phase, phase}
-use Rattle.model.specs.Phase.{lists, crosspoints}
-use Rattle.layout.specs.Entry.{portsIn, countIn}
-use Rattle.places.specs.Choices.{ofInput, scheduledOf, bestOf}
-use Rattle.places.specs.View.{window, inTable, Agrees}
-use Rattle.places.specs.Scan.{Readable, Column}
-use Rattle.choosing.specs.declared.Found.{Found}
-use Rattle.choosing.specs.declared.Kind.{Kind}
-use Rattle.choosing.specs.declared.Kind.the-variants.{Ready, Pressing, Other}
+use Rattle.laws.specs.Lists.{keep, all?}
+use Rattle.sets.specs.Sets.{positions, members, firstOf, withOne}
+use Rattle.cell.specs.Limits.{portLimit, cellLimit}
+use Rattle.model.specs.Phase.{Waiting, sameOutput, beats, blocked, crosspointEmpty, Phase, phase, crosspoints}
+use Rattle.places.specs.Choices.{nowhere, ofInput, scheduledOf, bestOf}
+use Rattle.places.specs.View.{placesIn, waitingIn, waitingAt, InTable, Agrees}
+use Rattle.places.specs.Scan.{Readable, someUrgent}
+use Rattle.places.specs.Viewed.{isHead, keyAt}
 
 ------------------------------------------------------------------------
--- rules 1 to 3 as tests of one cell
-
--- it is a head
-unfoldable pub isHead : List Waiting → Waiting → Bool
-isHead all e = isListed (e .place) && none? (λ f. sameFlow (f .cell) (e .cell) && ahead f e) (lists all)
+-- rules 2 and 3 as tests of one cell
 
 -- a head whose crosspoint is empty
 unfoldable pub isReady : List Waiting → Waiting → Bool
@@ -37,71 +27,62 @@ unfoldable pub isPressing : List Waiting → Waiting → Bool
 isPressing all e =
     isHead all e && (blocked (crosspoints all) e && all? (beats e) (keep (sameOutput e) (crosspoints all)))
 
--- what the walk makes of a cell
-abbrev pub Means : List Waiting → Waiting → Kind → Type 0
-Means all e Ready = isReady all e ≡ true
-Means all e Pressing = (isReady all e ≡ false) × (isPressing all e ≡ true)
-Means all e Other = (isReady all e ≡ false) × (isPressing all e ≡ false)
+-- what the walk makes of a head
+pub record Means (all : List Waiting) (e : Waiting) (ready pressing : Bool) : Type 0 where
+  pub ready-is : isReady all e ≡ ready
+  pub pressing-is : ready ≡ false → isPressing all e ≡ pressing
 
 ------------------------------------------------------------------------
--- how far the walk has come
+-- what the walk asks
 
--- what it asks: the crosspoints agree with the places, and the best crosspoint cell of each output is known
-pub record Walkable (table places : List ℕ) (cross : List (List ℕ)) (best : List ℕ) : Type 0 where
+-- the crosspoints are those of the table, and the best cell there of each output and its key are known
+pub record BestKnown (table : List ℕ) (cross : List (List ℕ)) (best least : List ℕ) : Type 0 where
   pub readable : Readable table
-  pub column : length places ≡ 1024
-  pub agrees : Agrees table places cross
-  pub bests : (output : ℕ) → output < 16 → getD best output 0 ≡ bestOf (crosspoints (inTable table places)) output
+  pub agrees : Agrees table (placesIn table) cross
+  pub bests : (output : ℕ) → output < portLimit → getD best output 0 ≡ bestOf (crosspoints (waitingIn table)) output
+  pub keys : (output : ℕ) → output < portLimit → getD least output 0 ≡ keyAt table (getD best output 0)
 
--- in the list, and of this flow of its input
-unfoldable pub isOfFlow : ℕ → ℕ → Waiting → Bool
-isOfFlow output flow e = isListed (e .place) && (eqb (e .cell .output) output && eqb (e .cell .flow) flow)
-
--- the flows of the first n cells of an input
-pub record Seen (table places : List ℕ) (input n : ℕ) (seen : List Bool) : Type 0 where
-  pub size : length seen ≡ 128
-  pub flows : (output flow : ℕ) → output < 16 → flow < 8
-      → getD seen (flowLimit * output + flow) false ≡ some? (isOfFlow output flow) (window table places input n)
-
--- the walk along the cells of an input has come to number k
-pub record Reached (table places : List ℕ) (input k : ℕ) (seen : List Bool) : Type 0 where
-  pub port : input < portsIn table
-  pub low : cellLimit * input ≤ k
-  pub high : k ≤ cellLimit * input + countIn table input
-  pub flows : Seen table places input (k - cellLimit * input) seen
+-- the cell with number k is a head of an input
+pub record HeadOf (table : List ℕ) (input k : ℕ) : Type 0 where
+  pub inside : InTable table k
+  pub own : k / cellLimit ≡ input
+  pub head : isHead (waitingIn table) (waitingAt table (placesIn table) k) ≡ true
 
 ------------------------------------------------------------------------
 -- what it finds
+
+-- the numbers of the cells at a set of positions of an input
+abbrev pub numbersAt : ℕ → ℕ → List ℕ
+numbersAt input set = map (λ j. cellLimit * input + j) (members set)
 
 -- the urgent cells of an input, in list order
 unfoldable pub urgentOf : Phase → ℕ → List ℕ
 urgentOf p input = map (λ e. e .at) (ofInput input (p .urgent))
 
--- outside the section of an input a column is the same
-abbrev pub Elsewhere : ℕ → List ℕ → List ℕ → Type 0
-Elsewhere input old new =
-    (m : ℕ) → (m < cellLimit * input) ⊎ (cellLimit * input + cellLimit ≤ m) → getD new m 0 ≡ getD old m 0
+-- the scheduled cell of an input, and its urgent cells
+pub record Scanned (table : List ℕ) (input scheduled urgent : ℕ) : Type 0 where
+  pub scheduled-is : scheduled ≡ scheduledOf (phase (waitingIn table)) input
+  pub fits : urgent < 2 ^ positions
+  pub urgent-are : numbersAt input urgent ≡ urgentOf (phase (waitingIn table)) input
 
--- the scheduled cell of an input, and its urgent cells in its section of a column
-pub record Scanned (table places : List ℕ) (input : ℕ) (old new : List ℕ) (found : Found) : Type 0 where
-  pub scheduled : found .scheduled ≡ scheduledOf (phase (inTable table places)) input
-  pub count : found .urgent ≡ length (urgentOf (phase (inTable table places)) input)
-  pub small : found .urgent ≤ cellLimit
-  pub numbers : Column new (cellLimit * input) (urgentOf (phase (inTable table places)) input)
-  pub others : Elsewhere input old new
+-- those of each input, and whether some cell is urgent
+pub record ScannedAll (table scheduled urgent : List ℕ) (some : Bool) : Type 0 where
+  pub sizes : (length scheduled ≡ portLimit) × (length urgent ≡ portLimit)
+  pub each : (input : ℕ) → input < portLimit → Scanned table input (getD scheduled input 0) (getD urgent input 0)
+  pub some-is : some ≡ someUrgent (phase (waitingIn table))
 
--- whether some count is not 0
-pub data Any (counts : List ℕ) : Bool → Type 0 where
-  some-counted : (i : ℕ) → i < portLimit → 0 < getD counts i 0 → Any counts true
-  none-counted : ((i : ℕ) → i < portLimit → getD counts i 0 ≡ 0) → Any counts false
+------------------------------------------------------------------------
+-- what is matched
 
--- the counts are no more than a section has, and what they count are numbers of entries
-pub record Sound (counts numbers : List ℕ) : Type 0 where
-  pub few : (i : ℕ) → i < portLimit → getD counts i 0 ≤ cellLimit
-  pub entries : (i m : ℕ) → i < portLimit → m < getD counts i 0 → getD numbers (cellLimit * i + m) 0 < 1024
+-- of an input, where some cell is urgent: its scheduled cell alone, if that stands first in its list; otherwise its
+-- urgent cells
+unfoldable pub entered : ℕ → ℕ → ℕ → ℕ
+entered listed scheduled urgent =
+    cond (leb nowhere scheduled) urgent
+    (cond (eqb (firstOf listed) (scheduled % cellLimit)) (withOne 0 (scheduled % cellLimit)) urgent)
 
--- from one place up to another a column has what f says of each place, and otherwise it is the old one
-pub record Filled (f : ℕ → ℕ) (from to : ℕ) (old new : List ℕ) : Type 0 where
-  pub inside : (m : ℕ) → from ≤ m → m < to → getD new m 0 ≡ f m
-  pub outside : (m : ℕ) → (m < from) ⊎ (to ≤ m) → getD new m 0 ≡ getD old m 0
-  pub size : length new ≡ length old
+-- of the first n inputs; the sets of the others are as before
+pub record Entered (listed scheduled old : List ℕ) (n : ℕ) (new : List ℕ) : Type 0 where
+  pub size : length new ≡ portLimit
+  pub done : (i : ℕ) → i < n → getD new i 0 ≡ entered (getD listed i 0) (getD scheduled i 0) (getD old i 0)
+  pub later : (i : ℕ) → n ≤ i → getD new i 0 ≡ getD old i 0

@@ -1,185 +1,199 @@
 // Scope 3.3 to 3.6, rules 1 to 4: which cells a phase schedules, which are urgent, and which are matched. Rule 6
 // goes on from the best crosspoint cells that rule 3 finds.
-// Entry k of a table is a cell of input k / 64. The table and the places are only read.
+// Entry k of a table is a cell of input k / 64. The view of the table is only read.
+use places::Choice;
 use places::NOWHERE;
-use table::entry::LISTED;
-ghost use mathlib.Core.Bool.{true, false, not};
+use table::entry::CELLS;
+use table::entry::PORTS;
 ghost use mathlib.Core.Path.{_≡_};
-ghost use mathlib.Core.List.{List};
-ghost use Prim.Native.Nat.{ℕ, _+_, _*_, _-_, _≤_, _<_};
-ghost use lib.Dec.{eqb};
-ghost use lib.ListN.{length, getD, set};
-ghost use Rattle.laws.specs.Lists.{none?, numbersFrom};
-ghost use Rattle.cell.specs.Limits.{cellLimit};
-ghost use Rattle.model.specs.Phase.{Waiting, phase};
+ghost use mathlib.Core.List.{[]};
+ghost use Prim.Native.Nat.{ℕ, _+_, _≤_, _<_, min};
+ghost use lib.ListN.{length, getD, replicate};
+ghost use Rattle.cell.specs.Order.{over, key as cellKey};
 ghost use Rattle.layout.specs.Table.{tableSize};
-ghost use Rattle.layout.specs.Entry.{entryAt, portsIn, countIn};
-ghost use Rattle.table.specs.Entries.{flowNumber};
-ghost use Rattle.places.specs.View.{inTable, waitingAt, Agrees};
-ghost use Rattle.places.specs.Choices.{bestOf, candidatesOf};
-ghost use Rattle.places.specs.Scan.{Readable, Holds, Bests, Scheduled, Written, Described, Chosen};
-ghost use Rattle.places.specs.Scan.{someUrgent, outputAt, rankAt, slotAt};
-ghost use Rattle.choosing.specs.Walk.{Walkable, Reached, Means, Scanned, Any, Filled, Sound};
-ghost use Rattle.choosing.specs.Walk.{urgentOf};
+ghost use Rattle.layout.specs.Entry.{entryAt, portsIn};
+ghost use Rattle.places.specs.View.{placesIn, waitingIn, waitingAt, Square, Agrees};
+ghost use Rattle.places.specs.Scan.{Readable};
+ghost use Rattle.places.specs.Viewed.{headSet, ListsOf, Keyed, Chosen};
+ghost use Rattle.choosing.specs.Keys.{leastOfFour, leastOf, FirstWith, LeadingTo};
+ghost use Rattle.choosing.specs.Walk.{BestKnown, HeadOf, Means, Scanned, ScannedAll, entered, Entered};
 
-// What a walk along the cells of an input makes of a cell: a head with an empty crosspoint, a blocked head over every
-// cell in the crosspoints of its output, or neither.
-enum Kind {
-    Ready,
-    Pressing,
-    Other,
+// What a walk along the heads of an input makes of one: whether its crosspoint is empty; and if not, whether it is blocked
+// and over every cell in the crosspoints of its output.
+struct Kind {
+    ready: bool,
+    pressing: bool,
 }
 
-// What the walk finds: the number of the scheduled cell, 1,024 where there is none, and how many cells are urgent.
+// What the walk finds: the number of the scheduled cell, 1,024 where there is none, and the positions of the urgent
+// cells.
 struct Found {
     scheduled: u16,
-    urgent: usize,
+    urgent: u64,
 }
 
-// Rules 1 to 4: whether a cell is urgent; the scheduled cell of each input, 1,024 where there is none; and the numbers
-// of the cells that are matched, those of an input in list order, as many as its count, from 64 times the input on.
-// Nothing is matched where no cell is urgent. The best crosspoint cell of each output, which rule 3 asks for, is left in
-// `best` for rule 6. What the four columns have past the counts is the function's own: each has 1,024 numbers.
+// Rules 1 to 4. Nothing is matched where no cell is urgent.
 pub fn choose(
     table: &[u8],
-    places: &[u8],
+    listed: &[u64; 16],
+    heads: &[u64; 16],
     cross: &[[u16; 16]; 16],
-    ports: usize,
-    best: &mut [u16; 16],
-    scheduled: &mut [u16; 16],
-    counts: &mut [u8; 16],
-    numbers: &mut [u16],
-    outputs: &mut [u8],
-    ranks: &mut [u32],
-    slots: &mut [u32],
-) -> bool
+    keys: &[[u64; 16]; 16],
+) -> Choice
     requires { ⌜ Readable (now table) ⌝ }
-    requires { ⌜ (length (now places) ≡ 1024) × Agrees (now table) (now places) (now cross) ⌝ }
-    requires { ⌜ ports ≡ portsIn (now table) ⌝ }
-    requires { ⌜ (length (now scheduled) ≡ 16) × (length (now counts) ≡ 16) × (length (now numbers) ≡ 1024) ⌝ }
-    requires { ⌜ (length (now outputs) ≡ 1024) × (length (now ranks) ≡ 1024) × (length (now slots) ≡ 1024) ⌝ }
-    requires { ⌜ length (now best) ≡ 16 ⌝ }
-    ensures { λ r. ⌜ Chosen (now (table .entry)) (now (places .entry)) (now (scheduled .exit)) (now (counts .exit)) (now (numbers .exit)) (now (outputs .exit)) (now (ranks .exit)) (now (slots .exit)) r ⌝ }
-    ensures { λ r. ⌜ (length (now (scheduled .exit)) ≡ 16) × (length (now (counts .exit)) ≡ 16) ⌝ }
-    ensures { λ r. ⌜ Bests (now (table .entry)) (now (cross .entry)) (now (best .exit)) ⌝ }
+    requires { ⌜ ListsOf (now table) (placesIn (now table)) (now listed) (now heads) ⌝ }
+    requires { ⌜ Square (now cross) × Agrees (now table) (placesIn (now table)) (now cross) × Keyed (now table) (now cross) (now keys) ⌝ }
+    ensures { λ r. ⌜ Chosen (now (table .entry)) (now (cross .entry)) (r .urgent) (r .scheduled) (r .candidates) (r .best) ⌝ }
 {
-    best_of_each(table, cross, ports, best);
-    scan_each(
+    let mut best = [NOWHERE; PORTS];
+    let mut least = [0; PORTS];
+    best_of_each(cross, keys, &mut best, &mut least);
+    let mut scheduled = [NOWHERE; PORTS];
+    let mut candidates = [0; PORTS];
+    let urgent = scan_each(
         table,
-        places,
+        heads,
         cross,
-        best,
-        ports,
-        scheduled,
-        counts,
-        numbers,
+        &best,
+        &least,
+        &mut scheduled,
+        &mut candidates,
     );
-    if !any(counts) {
-        return false;
+    if urgent {
+        enter_scheduled(listed, &scheduled, &mut candidates);
     }
-    enter_scheduled(table, places, scheduled, counts, numbers);
-    describe(table, counts, numbers, outputs, ranks, slots);
-    true
+    Choice {
+        urgent,
+        scheduled,
+        candidates,
+        best,
+    }
 }
 
-// The number of the cell of highest output priority at the crosspoints of an output, 1,024 where there is none. The
-// crosspoints may hold any cells of the table.
-fn best_crossed(table: &[u8], cross: &[[u16; 16]; 16], ports: usize, output: usize) -> u16
-    requires { ⌜ Readable (now table) ⌝ }
-    requires { ⌜ (ports ≡ portsIn (now table)) × (output < 16) ⌝ }
-    ensures { λ r. ⌜ ((cells : List Waiting) → Holds (now (table .entry)) (now (cross .entry)) cells → r ≡ bestOf cells output) ⌝ }
-{
-    let mut best = NOWHERE;
-    let mut input = 0;
-    while input < ports {
-        let number = cross[input][output];
-        input += 1;
-        best = places::better(table, best, number);
-    }
-    best
-}
-
-// The best crosspoint cell of each output.
-fn best_of_each(table: &[u8], cross: &[[u16; 16]; 16], ports: usize, best: &mut [u16; 16])
-    requires { ⌜ Readable (now table) ⌝ }
-    requires { ⌜ (ports ≡ portsIn (now table)) × (length (now best) ≡ 16) ⌝ }
-    ensures { λ _. ⌜ Bests (now (table .entry)) (now (cross .entry)) (now (best .exit)) ⌝ }
+// The best crosspoint cell of each output, and its key. Of equal keys the one of the smallest input goes first.
+fn best_of_each(
+    cross: &[[u16; 16]; 16],
+    keys: &[[u64; 16]; 16],
+    best: &mut [u16; 16],
+    least: &mut [u64; 16],
+)
+    requires { ⌜ (length (now best) ≡ 16) × (length (now least) ≡ 16) ⌝ }
+    ensures { λ _. ⌜ LeadingTo (now (cross .entry)) (now (keys .entry)) 16 (now (best .exit)) (now (least .exit)) ⌝ }
 {
     let mut output = 0;
-    while output < 16 {
-        best[output] = best_crossed(table, cross, ports, output);
+    while output < PORTS {
+        let key = least_key(keys, output);
+        let number = cross[holder(keys, output, key)][output];
+        least[output] = key;
+        best[output] = if number < NOWHERE { number } else { NOWHERE };
         output += 1;
     }
 }
 
-// Rules 1 to 3 for each input.
+// The least key of an output. A tree of minima is made without branches, and a longer chain is not.
+fn least_key(keys: &[[u64; 16]; 16], output: usize) -> u64
+    requires { ⌜ output < 16 ⌝ }
+    ensures { λ r. ⌜ r ≡ leastOf (getD (now (keys .entry)) output []) ⌝ }
+{
+    let a = least_of_four(keys, output, 0);
+    let b = least_of_four(keys, output, 4);
+    let c = least_of_four(keys, output, 8);
+    let d = least_of_four(keys, output, 12);
+    lesser(lesser(a, b), lesser(c, d))
+}
+
+// The least of the keys of an output from an input on.
+fn least_of_four(keys: &[[u64; 16]; 16], output: usize, from: usize) -> u64
+    requires { ⌜ (output < 16) × (from + 4 ≤ 16) ⌝ }
+    ensures { λ r. ⌜ r ≡ leastOfFour (getD (now (keys .entry)) output []) from ⌝ }
+{
+    lesser(
+        lesser(keys[output][from], keys[output][from + 1]),
+        lesser(keys[output][from + 2], keys[output][from + 3]),
+    )
+}
+
+fn lesser(a: u64, b: u64) -> u64
+    ensures { λ r. ⌜ r ≡ min a b ⌝ }
+{
+    if a < b { a } else { b }
+}
+
+// The first input with a key, if some input has it. Nothing branches on the keys, as that would be guessed badly.
+fn holder(keys: &[[u64; 16]; 16], output: usize, key: u64) -> usize
+    requires { ⌜ output < 16 ⌝ }
+    ensures { λ r. ⌜ FirstWith (getD (now (keys .entry)) output []) key 0 r ⌝ }
+{
+    let mut found = 0;
+    let mut input = PORTS;
+    while 0 < input {
+        input -= 1;
+        found = if keys[output][input] == key {
+            input
+        } else {
+            found
+        };
+    }
+    found
+}
+
+// Rules 1 to 3 for each input, and whether some cell is urgent.
 fn scan_each(
     table: &[u8],
-    places: &[u8],
+    heads: &[u64; 16],
     cross: &[[u16; 16]; 16],
     best: &[u16; 16],
-    ports: usize,
+    least: &[u64; 16],
     scheduled: &mut [u16; 16],
-    counts: &mut [u8; 16],
-    numbers: &mut [u16],
-)
-    requires { ⌜ Walkable (now table) (now places) (now cross) (now best) ⌝ }
-    requires { ⌜ ports ≡ portsIn (now table) ⌝ }
-    requires { ⌜ (length (now scheduled) ≡ 16) × (length (now counts) ≡ 16) × (length (now numbers) ≡ 1024) ⌝ }
-    ensures { λ _. ⌜ Scheduled (phase (inTable (now (table .entry)) (now (places .entry)))) 16 (now (scheduled .exit)) ⌝ }
-    ensures { λ _. ⌜ Written 0 16 (urgentOf (phase (inTable (now (table .entry)) (now (places .entry))))) (now (counts .exit)) (now (numbers .exit)) ⌝ }
-    ensures { λ _. ⌜ (length (now (scheduled .exit)) ≡ 16) × (length (now (counts .exit)) ≡ 16) ⌝ }
+    urgent: &mut [u64; 16],
+) -> bool
+    requires { ⌜ BestKnown (now table) (now cross) (now best) (now least) ⌝ }
+    requires { ⌜ ((input : ℕ) → input < 16 → getD (now heads) input 0 ≡ headSet (now table) (placesIn (now table)) input) ⌝ }
+    requires { ⌜ (now scheduled ≡ replicate 16 1024) × (now urgent ≡ replicate 16 0) ⌝ }
+    ensures { λ r. ⌜ ScannedAll (now (table .entry)) (now (scheduled .exit)) (now (urgent .exit)) r ⌝ }
 {
+    let mut some = false;
+    let ports = table::entry::ports_of(table);
     let mut input = 0;
-    while input < 16 {
-        let at = input;
+    while input < ports {
+        let found = scan(table, heads[input], cross, best, least, input);
+        scheduled[input] = found.scheduled;
+        urgent[input] = found.urgent;
+        some = some | (found.urgent != 0);
         input += 1;
-        if at >= ports {
-            scheduled[at] = NOWHERE;
-            counts[at] = 0;
-            continue;
-        }
-        let found = scan(table, places, cross, best, numbers, at);
-        scheduled[at] = found.scheduled;
-        counts[at] = found.urgent as u8;
     }
+    some
 }
 
 // Rules 1 to 3 for an input: the first head in its list whose crosspoint is empty is scheduled, and each pressing head
-// before it is urgent. The walk ends there, since nothing behind it can be urgent.
+// before it is urgent. The walk ends there, since nothing behind it can be urgent. Nothing branches on which heads press,
+// as that would be guessed badly.
 fn scan(
     table: &[u8],
-    places: &[u8],
+    heads: u64,
     cross: &[[u16; 16]; 16],
     best: &[u16; 16],
-    numbers: &mut [u16],
+    least: &[u64; 16],
     input: usize,
 ) -> Found
-    requires { ⌜ Walkable (now table) (now places) (now cross) (now best) ⌝ }
-    requires { ⌜ (input < portsIn (now table)) × (length (now numbers) ≡ 1024) ⌝ }
-    ensures { λ r. ⌜ Scanned (now (table .entry)) (now (places .entry)) input (now (numbers .entry)) (now (numbers .exit)) r ⌝ }
+    requires { ⌜ BestKnown (now table) (now cross) (now best) (now least) ⌝ }
+    requires { ⌜ (input < portsIn (now table)) × (heads ≡ headSet (now table) (placesIn (now table)) input) ⌝ }
+    ensures { λ r. ⌜ Scanned (now (table .entry)) input (r .scheduled) (r .urgent) ⌝ }
 {
-    let mut seen = [false; 128];
-    let first = 64 * input;
-    let end = places::end_of(table, input);
     let mut urgent = 0;
-    let mut k = first;
-    while k < end {
-        let at = k;
-        k += 1;
-        match kind_of(table, places, cross, best, &mut seen, input, at) {
-            Kind::Ready => {
-                return Found {
-                    scheduled: at as u16,
-                    urgent,
-                };
-            }
-            Kind::Pressing => {
-                numbers[first + urgent] = at as u16;
-                urgent += 1;
-            }
-            Kind::Other => {}
+    let mut left = heads;
+    while left != 0 {
+        let position = sets::first(left);
+        let k = CELLS * input + position;
+        left = sets::rest(left);
+        let kind = kind_of(table, cross, best, least, input, k);
+        if kind.ready {
+            return Found {
+                scheduled: k as u16,
+                urgent,
+            };
         }
+        urgent = sets::with_if(urgent, position, kind.pressing);
     }
     Found {
         scheduled: NOWHERE,
@@ -187,175 +201,68 @@ fn scan(
     }
 }
 
-// Rules 1 to 3 for the next cell of an input. `seen` has the flows of those before it. A head whose crosspoint is full
-// is blocked and over every cell in the crosspoints of its output if it is over the best of them.
+// Rules 2 and 3 for a head.
 fn kind_of(
     table: &[u8],
-    places: &[u8],
     cross: &[[u16; 16]; 16],
     best: &[u16; 16],
-    seen: &mut [bool; 128],
+    least: &[u64; 16],
     input: usize,
     k: usize,
 ) -> Kind
-    requires { ⌜ Walkable (now table) (now places) (now cross) (now best) ⌝ }
-    requires { ⌜ Reached (now table) (now places) input k (now seen) ⌝ }
-    requires { ⌜ k < cellLimit * input + countIn (now table) input ⌝ }
-    ensures { λ r. ⌜ Means (inTable (now (table .entry)) (now (places .entry))) (waitingAt (now (table .entry)) (now (places .entry)) k) r ⌝ }
-    ensures { λ r. ⌜ Reached (now (table .entry)) (now (places .entry)) input (k + 1) (now (seen .exit)) ⌝ }
+    requires { ⌜ BestKnown (now table) (now cross) (now best) (now least) ⌝ }
+    requires { ⌜ HeadOf (now table) input k ⌝ }
+    ensures { λ r. ⌜ Means (waitingIn (now (table .entry))) (waitingAt (now (table .entry)) (placesIn (now (table .entry))) k) (r .ready) (r .pressing) ⌝ }
 {
-    if places[k] != LISTED {
-        return Kind::Other;
-    }
-    if !is_head(table, seen, k) {
-        return Kind::Other;
-    }
     let output = table::entry::output_of(table, k) as usize;
     let held = cross[input][output];
     let rival = best[output];
+    let key = least[output];
     if held >= NOWHERE {
-        return Kind::Ready;
+        return Kind {
+            ready: true,
+            pressing: false,
+        };
     }
-    if places::is_over(table, k, rival) {
-        return Kind::Pressing;
+    Kind {
+        ready: false,
+        pressing: is_pressing(table, k, rival, key),
     }
-    Kind::Other
 }
 
-// Whether a cell of the list is the first of its flow; its flow is seen from now on.
-fn is_head(table: &[u8], seen: &mut [bool; 128], k: usize) -> bool
-    requires { ⌜ (length (now table) ≡ tableSize) × (k < 1024) ⌝ }
-    requires { ⌜ (entryAt (now table) k .cell .output < 16) × (entryAt (now table) k .cell .flow < 8) ⌝ }
-    ensures { λ r. ⌜ r ≡ not (getD (now (seen .entry)) (flowNumber (entryAt (now (table .entry)) k)) false) ⌝ }
-    ensures { λ r. ⌜ now (seen .exit) ≡ set (now (seen .entry)) (flowNumber (entryAt (now (table .entry)) k)) true ⌝ }
+// Rule 3 for a head whose crosspoint is full, by the best cell in the crosspoints of its output and its key: the head is
+// blocked and over every cell there if it is over that one.
+fn is_pressing(table: &[u8], k: usize, best: u16, key: u64) -> bool
+    requires { ⌜ (length (now table) ≡ tableSize) × (k < 1024) × (best < 1024) ⌝ }
+    requires { ⌜ key ≡ cellKey (entryAt (now table) best .cell) ⌝ }
+    ensures { λ r. ⌜ r ≡ over (entryAt (now (table .entry)) k .cell) (entryAt (now (table .entry)) best .cell) ⌝ }
 {
-    let flow = table::entry::flow_number(table, k);
-    if seen[flow] {
-        return false;
-    }
-    seen[flow] = true;
-    true
+    places::goes_first(table, table::entry::key_of(table, k), k, key, best as usize)
 }
 
-// Whether some input has a count.
-fn any(counts: &[u8; 16]) -> bool
-    ensures { λ r. ⌜ Any (now (counts .entry)) r ⌝ }
-{
-    let mut input = 0;
-    while input < 16 {
-        if counts[input] > 0 {
-            return true;
-        }
-        input += 1;
-    }
-    false
-}
-
-// Rule 4, where some cell is urgent: a scheduled cell that stands first in its list is matched too. None of its input is
-// urgent then.
-fn enter_scheduled(
-    table: &[u8],
-    places: &[u8],
-    scheduled: &[u16; 16],
-    counts: &mut [u8; 16],
-    numbers: &mut [u16],
-)
-    requires { ⌜ Readable (now table) ⌝ }
-    requires { ⌜ (length (now places) ≡ 1024) × (length (now counts) ≡ 16) × (length (now numbers) ≡ 1024) ⌝ }
-    requires { ⌜ someUrgent (phase (inTable (now table) (now places))) ≡ true ⌝ }
-    requires { ⌜ Scheduled (phase (inTable (now table) (now places))) 16 (now scheduled) ⌝ }
-    requires { ⌜ Written 0 16 (urgentOf (phase (inTable (now table) (now places)))) (now counts) (now numbers) ⌝ }
-    ensures { λ _. ⌜ Written 0 16 (candidatesOf (phase (inTable (now (table .entry)) (now (places .entry))))) (now (counts .exit)) (now (numbers .exit)) ⌝ }
-    ensures { λ _. ⌜ length (now (counts .exit)) ≡ 16 ⌝ }
+// Rule 4 for each input, where some cell is urgent.
+fn enter_scheduled(listed: &[u64; 16], scheduled: &[u16; 16], candidates: &mut [u64; 16])
+    requires { ⌜ length (now candidates) ≡ 16 ⌝ }
+    ensures { λ _. ⌜ Entered (now (listed .entry)) (now (scheduled .entry)) (now (candidates .entry)) 16 (now (candidates .exit)) ⌝ }
 {
     let mut input = 0;
-    while input < 16 {
-        let at = input;
+    while input < PORTS {
+        candidates[input] = enter(listed[input], scheduled[input], candidates[input]);
         input += 1;
-        let number = scheduled[at];
-        if number >= NOWHERE {
-            continue;
-        }
-        if !stands_first(places, 64 * at, number as usize) {
-            continue;
-        }
-        numbers[64 * at] = number;
-        counts[at] = 1;
     }
 }
 
-// Whether no cell of a list has a number from one up to another.
-fn stands_first(places: &[u8], from: usize, to: usize) -> bool
-    requires { ⌜ (from ≤ to) × (to ≤ length (now places)) ⌝ }
-    ensures { λ r. ⌜ r ≡ none? (λ m. eqb (getD (now (places .entry)) m 0) 1) (numbersFrom from (to - from)) ⌝ }
+// The scheduled cell of an input is matched if it stands first in its list, and otherwise the urgent cells are. None of
+// its input is urgent where it stands first.
+fn enter(listed: u64, scheduled: u16, urgent: u64) -> u64
+    ensures { λ r. ⌜ r ≡ entered listed scheduled urgent ⌝ }
 {
-    let mut k = from;
-    while k < to {
-        if places[k] == LISTED {
-            return false;
-        }
-        k += 1;
+    if scheduled >= NOWHERE {
+        return urgent;
     }
-    true
-}
-
-// Writes the output, the rank and the slot of each matched cell beside its number.
-fn describe(
-    table: &[u8],
-    counts: &[u8; 16],
-    numbers: &[u16],
-    outputs: &mut [u8],
-    ranks: &mut [u32],
-    slots: &mut [u32],
-)
-    requires { ⌜ length (now table) ≡ tableSize ⌝ }
-    requires { ⌜ Sound (now counts) (now numbers) ⌝ }
-    requires { ⌜ (length (now numbers) ≡ 1024) × (length (now outputs) ≡ 1024) × (length (now ranks) ≡ 1024) × (length (now slots) ≡ 1024) ⌝ }
-    ensures { λ _. ⌜ Described (outputAt (now (table .entry)) (now (numbers .entry))) 16 (now (counts .entry)) (now (outputs .exit)) ⌝ }
-    ensures { λ _. ⌜ Described (rankAt (now (table .entry)) (now (numbers .entry))) 16 (now (counts .entry)) (now (ranks .exit)) ⌝ }
-    ensures { λ _. ⌜ Described (slotAt (now (table .entry)) (now (numbers .entry))) 16 (now (counts .entry)) (now (slots .exit)) ⌝ }
-{
-    let mut input = 0;
-    while input < 16 {
-        let at = input;
-        input += 1;
-        let count = counts[at] as usize;
-        describe_part(
-            table,
-            numbers,
-            outputs,
-            ranks,
-            slots,
-            64 * at,
-            64 * at + count,
-        );
+    let position = scheduled as usize % CELLS;
+    if sets::first(listed) != position {
+        return urgent;
     }
-}
-
-// The same for the numbers from one place up to another.
-fn describe_part(
-    table: &[u8],
-    numbers: &[u16],
-    outputs: &mut [u8],
-    ranks: &mut [u32],
-    slots: &mut [u32],
-    from: usize,
-    to: usize,
-)
-    requires { ⌜ length (now table) ≡ tableSize ⌝ }
-    requires { ⌜ (from ≤ to) × (to ≤ 1024) ⌝ }
-    requires { ⌜ ((m : ℕ) → from ≤ m → m < to → getD (now numbers) m 0 < 1024) ⌝ }
-    requires { ⌜ (length (now numbers) ≡ 1024) × (length (now outputs) ≡ 1024) × (length (now ranks) ≡ 1024) × (length (now slots) ≡ 1024) ⌝ }
-    ensures { λ _. ⌜ Filled (outputAt (now (table .entry)) (now (numbers .entry))) from to (now (outputs .entry)) (now (outputs .exit)) ⌝ }
-    ensures { λ _. ⌜ Filled (rankAt (now (table .entry)) (now (numbers .entry))) from to (now (ranks .entry)) (now (ranks .exit)) ⌝ }
-    ensures { λ _. ⌜ Filled (slotAt (now (table .entry)) (now (numbers .entry))) from to (now (slots .entry)) (now (slots .exit)) ⌝ }
-{
-    let mut m = from;
-    while m < to {
-        let k = numbers[m] as usize;
-        outputs[m] = table::entry::output_of(table, k);
-        ranks[m] = table::entry::rank_of(table, k);
-        slots[m] = table::entry::slot_of(table, k);
-        m += 1;
-    }
+    sets::with(0, position)
 }

@@ -1,146 +1,45 @@
 -- The table without the cells that leave.
---     encode-set      one section of a state is exchanged
 --     mixed           the sections of the inputs so far are new
 --     staying-new     what stays of a section is the definition's
+--     partly          the switch while its sections close up
 --     removable       the next section can close up
---     removed-mixed   and then one more is new
-use Prim.Native.Nat.{ℕ, zero, suc, _+_, _*_, _-_, _%_, _≤_, _<_}
+--     partly-next     and then one more is new
+use Prim.Native.Nat.{ℕ, zero, suc, _+_, _*_, _-_, _/_, _≤_, _<_}
 use native.Mathlib.Omega.{arith}
 use native.Mathlib.Nat.{zero-add}
-use mathlib.Core.Bool.{Bool, true, false, not, cond}
+use mathlib.Core.Bool.{Bool, true, not}
 use mathlib.Core.Path.{_≡_, refl, sym, _∙_, ap, ap₂, subst}
-use mathlib.Core.List.{List, [], _∷_, _++_, map, append-assoc, append-nil, map-map, List·Memᴰ, Memᴰ·cast}
-use mathlib.Core.Option.{some}
-use lib.Dec.{eqb}
+use mathlib.Core.List.{List, [], _∷_, _++_, map, append-nil, List·Memᴰ}
 use lib.ListN.{length, getD, set, take, drop, replicate, length-append, List·getD-eq-default}
-use lib.Seq.{take-all, take-suc, take-append-add, drop-at, drop-cons, drop-drop, drop-append-add, length-take-le}
-use lib.Seq.{set-at, set-append-left, getD-drop, getD-at, drop-nil, drop-length, append-snoc}
+use lib.Seq.{take-all, take-suc, drop-at, drop-cons, drop-drop, length-take-le}
+use lib.Seq.{set-at, getD-drop, getD-at, drop-nil, drop-length, append-snoc}
 use Rattle.laws.specs.Lists.{keep, numbersFrom, upTo}
-use Rattle.laws.proofs.Tests.{cond-pass, cond-fail}
 use Rattle.laws.proofs.Numbers.{numbersFrom-at}
-use Rattle.laws.proofs.Lists.{keep-ext, keep-map, keep-pass, keep-fail}
+use Rattle.laws.proofs.Lists.{keep-ext}
 use Rattle.cell.specs.Limits.{cellLimit, portLimit}
 use Rattle.cell.proofs.Order.{Compared, below, equal, above, compare}
 use Rattle.model.specs.State.{Entry, Switch}
-use Rattle.model.specs.Phase.{Waiting, numberFrom, among}
+use Rattle.model.specs.Phase.{Waiting, numberFrom, waiting, among}
 use Rattle.model.specs.Crossbar.{leaving, without}
-use Rattle.model.proofs.Numbering.{Short, entryOf, without-at, length-without}
-use Rattle.layout.specs.Number.{bytesOf}
-use Rattle.layout.specs.Table.{layoutNumber, headerSize, entrySize, sectionSize, tableSize, entriesBytes, sectionBytes}
-use Rattle.layout.specs.Table.{placeOf, entryBytes, sectionsBytes, countsBytes, encode, stateOf, decode}
-use Rattle.layout.specs.Entry.{entryAt, portsIn, clockIn, countIn}
-use Rattle.layout.specs.Records.{recordStart, sectionAt}
-use Rattle.layout.proofs.Table.{length-sectionBytes, length-countsBytes, length-entriesBytes, encode-decode}
-use Rattle.places.specs.View.{waitingAt, window, inTable, InTable}
-use Rattle.places.specs.Sections.{entryPlaced, sectionPlaced, sectionsPlaced}
+use Rattle.model.proofs.Numbering.{Short, entryOf, section-waiting, without-at, length-without}
+use Rattle.layout.specs.Table.{headerSize, entrySize, sectionSize, tableSize, entriesBytes, sectionBytes, entryBytes}
+use Rattle.layout.specs.Table.{sectionsBytes, encode, stateOf, IsTable}
+use Rattle.layout.specs.Entry.{entryAt, portsIn, countIn}
+use Rattle.layout.specs.Records.{recordStart, between, entriesBetween, sectionAt}
+use Rattle.layout.proofs.Table.{length-entriesBytes, encode-decode}
+use Rattle.places.specs.Choices.{nowhere, BestAmong, empty, best}
 use Rattle.places.specs.Scan.{Readable}
-use Rattle.departure.specs.Departing.{Ready, Chosen, stays, staying, Removable, removed, leavingIn, departed}
-use Rattle.places.proofs.Window
-use Rattle.places.proofs.Placed.{length-numbers, numberFrom-placed, encode-count, section-short}
-use Rattle.places.proofs.Placed.{decode-ports, decode-clock, decode-sections, decode-record, inTable-number}
+use Rattle.places.specs.View.{InTable, placesIn}
+use Rattle.places.specs.Viewed.{Buffered, BestBuffered}
+use Rattle.departure.specs.Departing.{departed, Firsts, waitsAt, stays, staying, Removable, removed}
 use Rattle.places.proofs.Bytes.{encode-from, encode-rest}
-use Rattle.departure.proofs.Copied.{set-append-add}
-use Rattle.departure.proofs.Leaving.{ready-readable}
+use Rattle.places.proofs.Own.{table-readable, waitingIn-state}
+use Rattle.places.proofs.Placed.{length-numbers, map-numbers, encode-count, section-short}
+use Rattle.places.proofs.Placed.{decode-sections, decode-record, inTable-number}
+use Rattle.places.proofs.Window.{inTable-below}
+use Rattle.departure.proofs.Exchange.{encode-set}
 use Rattle.departure.proofs.Sending.{among-leaving}
-use Rattle.departure.proofs.Staying.{entryAt-same, recordAt-same, staying-none, length-staying}
-
-------------------------------------------------------------------------
--- one section is exchanged
-
-countsBytes-set : (n i : ℕ) (sections : List (List Entry)) (es : List Entry) → i < n → i < length sections
-    → length es ≤ cellLimit → countsBytes n (set sections i es) ≡ set (countsBytes n sections) i (length es)
-unfolding countsBytes bytesOf
-countsBytes-set zero i sections es h l few = absurd (omega arith)
-countsBytes-set (suc n) i [] es h l few = absurd (omega arith)
-countsBytes-set (suc n) zero (x ∷ sections) es h l few = ap (λ b. b ∷ countsBytes n sections) (omega arith)
-countsBytes-set (suc n) (suc i) (x ∷ sections) es h l few =
-    ap (λ bs. (length x % 256) ∷ bs) (countsBytes-set n i sections es (omega arith) (omega arith) few)
-
-sectionsBytes-set : (n i : ℕ) (sections : List (List Entry)) (es : List Entry) → Short sections → i < n
-    → i < length sections
-    → sectionsBytes n (set sections i es)
-    ≡ take (sectionSize * i) (sectionsBytes n sections)
-    ++ (sectionBytes es ++ drop (sectionSize * (i + 1)) (sectionsBytes n sections))
-unfolding sectionsBytes
-sectionsBytes-set zero i sections es short h l = absurd (omega arith)
-sectionsBytes-set (suc n) i [] es short h l = absurd (omega arith)
-sectionsBytes-set (suc n) zero (x ∷ sections) es short h l =
-    ap (λ bs. sectionBytes es ++ bs)
-    (sym (drop-at (sectionBytes x) (sectionsBytes n sections) sectionSize (length-sectionBytes x (short 0))))
-sectionsBytes-set (suc n) (suc i) (x ∷ sections) es short h l =
-    let size : length (sectionBytes x) ≡ sectionSize = length-sectionBytes x (short 0) in
-    let here : sectionSize * suc i ≡ length (sectionBytes x) + sectionSize * i = omega arith in
-    let next : sectionSize * (suc i + 1) ≡ length (sectionBytes x) + sectionSize * (i + 1) = omega arith in
-    ap (λ bs. sectionBytes x ++ bs)
-    (sectionsBytes-set n i sections es (λ k. short (suc k)) (omega arith) (omega arith))
-    ∙ sym
-    (append-assoc (sectionBytes x) (take (sectionSize * i) (sectionsBytes n sections))
-    (sectionBytes es ++ drop (sectionSize * (i + 1)) (sectionsBytes n sections)))
-    ∙ sym
-    (ap₂ (λ front back. front ++ (sectionBytes es ++ back))
-    (ap (λ k. take k (sectionBytes x ++ sectionsBytes n sections)) here
-    ∙ take-append-add (sectionBytes x) (sectionsBytes n sections) (sectionSize * i))
-    (ap (λ k. drop k (sectionBytes x ++ sectionsBytes n sections)) next
-    ∙ drop-append-add (sectionBytes x) (sectionsBytes n sections) (sectionSize * (i + 1))))
-
--- in a string of three parts, a byte of the second and a run of the third
-parts-set : (top counts rest mid whole : List ℕ) (n m i v : ℕ) → length top ≡ 16 → length counts ≡ 16
-    → whole ≡ (top ++ counts) ++ rest → i < 16
-    → (top ++ set counts i v) ++ (take n rest ++ (mid ++ drop m rest))
-    ≡ set (take (32 + n) whole ++ (mid ++ drop (32 + m) whole)) (16 + i) v
-parts-set top counts rest mid whole n m i v ht hc e h =
-    let size : length (top ++ counts) ≡ 32 = length-append top counts ∙ ap₂ _+_ ht hc in
-    let front : take (32 + n) whole ≡ (top ++ counts) ++ take n rest =
-    ap₂ (λ k l. take (k + n) l) (sym size) e ∙ take-append-add (top ++ counts) rest n in
-    let back : drop (32 + m) whole ≡ drop m rest =
-    ap₂ (λ k l. drop (k + m) l) (sym size) e ∙ drop-append-add (top ++ counts) rest m in
-    let count : set (top ++ counts) (16 + i) v ≡ top ++ set counts i v =
-    ap (λ k. set (top ++ counts) (k + i) v) (sym ht) ∙ set-append-add top counts i v in
-    sym
-    (ap₂ (λ f b. set (f ++ (mid ++ b)) (16 + i) v) front back
-    ∙ ap (λ l. set l (16 + i) v) (append-assoc (top ++ counts) (take n rest) (mid ++ drop m rest))
-    ∙ set-append-left (top ++ counts) (take n rest ++ (mid ++ drop m rest)) (16 + i) v (omega arith)
-    ∙ ap (λ l. l ++ (take n rest ++ (mid ++ drop m rest))) count)
-
--- what stands before the counts
-header : ℕ → ℕ → List ℕ
-header ports clock = bytesOf 4 layoutNumber ++ (bytesOf 4 ports ++ (bytesOf 4 clock ++ bytesOf 4 0))
-
-length-header : (ports clock : ℕ) → length (header ports clock) ≡ 16
-unfolding header bytesOf
-length-header ports clock = refl
-
--- a table in three parts
-encode-parts : (s : Switch)
-    → encode s
-    ≡ (header (s .ports) (s .clock) ++ countsBytes portLimit (s .sections)) ++ sectionsBytes portLimit (s .sections)
-unfolding encode header bytesOf
-encode-parts s = refl
-
--- the table of a state with one section exchanged
-pub withSection : Switch → ℕ → List Entry → Switch
-withSection s i es = record { ports = s .ports; clock = s .clock; sections = set (s .sections) i es }
-
-pub encode-set : (s : Switch) (i : ℕ) (es : List Entry) → Short (s .sections) → i < portLimit → i < length (s .sections)
-    → length es ≤ cellLimit
-    → encode (withSection s i es)
-    ≡ set
-    (take (headerSize + sectionSize * i) (encode s)
-    ++ (sectionBytes es ++ drop (headerSize + sectionSize * (i + 1)) (encode s)))
-    (16 + i)
-    (length es)
-unfolding withSection
-encode-set s i es short h l few =
-    encode-parts (withSection s i es)
-    ∙ ap₂ (λ c b. (top ++ c) ++ b)
-    (countsBytes-set portLimit i (s .sections) es h l few)
-    (sectionsBytes-set portLimit i (s .sections) es short h l)
-    ∙ parts-set top (countsBytes portLimit (s .sections)) (sectionsBytes portLimit (s .sections)) (sectionBytes es)
-    (encode s) (sectionSize * i) (sectionSize * (i + 1)) i (length es) (length-header (s .ports) (s .clock))
-    (length-countsBytes portLimit (s .sections)) (encode-parts s) h
-  where
-    top : List ℕ
-    top = header (s .ports) (s .clock)
+use Rattle.departure.proofs.Staying.{entryAt-same, recordAt-same, stays-i, length-staying}
 
 ------------------------------------------------------------------------
 -- the sections of the inputs so far are new
@@ -159,10 +58,6 @@ mixed-short (suc i) (n ∷ new) [] hn ho (suc k) =
 mixed-short (suc i) (n ∷ new) (o ∷ old) hn ho (suc k) = mixed-short i new old (λ k. hn (suc k)) (λ k. ho (suc k)) k
 
 module _ (new old : List (List Entry)) (same : length new ≡ length old) where
-  mixed-none : mixed new old 0 ≡ old
-  unfolding mixed
-  mixed-none = refl
-
   mixed-all : mixed new old (length old) ≡ new
   unfolding mixed
   mixed-all = ap₂ _++_ (take-all (length old) new (omega arith)) (drop-length old) ∙ append-nil new
@@ -199,280 +94,254 @@ module _ (new old : List (List Entry)) (same : length new ≡ length old) where
 ------------------------------------------------------------------------
 -- what stays of a section
 
-staying-first : (table places numbers : List ℕ) (from n : ℕ)
-    → let rest = staying table places numbers (from + 1) n in
-    staying table places numbers from (suc n) ≡ cond (stays table numbers from) (entryPlaced table places from ∷ rest) rest
-unfolding staying numbersFrom
-staying-first table places numbers from n = go (stays table numbers from) refl
-  where
-    rest : List Entry
-    rest = map (entryPlaced table places) (keep (stays table numbers) (numbersFrom (from + 1) n))
-
-    go : (b : Bool) → stays table numbers from ≡ b
-        → map (entryPlaced table places) (keep (stays table numbers) (from ∷ numbersFrom (from + 1) n))
-        ≡ cond (stays table numbers from) (entryPlaced table places from ∷ rest) rest
-    go true h =
-        ap (map (entryPlaced table places)) (keep-pass (stays table numbers) from (numbersFrom (from + 1) n) h)
-        ∙ sym (cond-pass (stays table numbers from) (entryPlaced table places from ∷ rest) rest h)
-    go false h =
-        ap (map (entryPlaced table places)) (keep-fail (stays table numbers) from (numbersFrom (from + 1) n) h)
-        ∙ sym (cond-fail (stays table numbers from) (entryPlaced table places from ∷ rest) rest h)
+numbered-own : (table : List ℕ) (k n : ℕ)
+    → numberFrom k (map (entryAt table) (numbersFrom k n)) ≡ map (waitsAt table) (numbersFrom k n)
+unfolding numberFrom numbersFrom waitsAt
+numbered-own table k zero = refl
+numbered-own table k (suc n) = ap (λ l. waitsAt table k ∷ l) (numbered-own table (k + 1) n)
 
 -- entries that are the same
-staying-same : (table other places numbers : List ℕ) (from n : ℕ)
+staying-same : (table other numbers : List ℕ) (from n : ℕ)
     → ((k : ℕ) → from ≤ k → k < from + n → entryAt other k ≡ entryAt table k)
-    → staying other places numbers from n ≡ staying table places numbers from n
-unfolding stays entryPlaced
-staying-same table other places numbers from zero h =
-    staying-none other places numbers from ∙ sym (staying-none table places numbers from)
-staying-same table other places numbers from (suc n) h =
-    let here : entryAt other from ≡ entryAt table from = h from (omega arith) (omega arith) in
-    let rest : staying other places numbers (from + 1) n ≡ staying table places numbers (from + 1) n =
-    staying-same table other places numbers (from + 1) n (λ k low high. h k (omega arith) (omega arith)) in
-    staying-first other places numbers from n
-    ∙ ap₂
-    (λ e l.
-    cond (not (eqb (getD numbers (e .cell .output) 0) from))
-    (record { cell = e .cell; place = placeOf (getD places from 0) } ∷ l)
-    l)
-    here rest
-    ∙ sym (staying-first table places numbers from n)
+    → staying other numbers from n ≡ staying table numbers from n
+unfolding staying waitsAt
+staying-same table other numbers from n h =
+    ap (λ l. map entryOf (keep (stays numbers) l))
+    (map-numbers (waitsAt other) (waitsAt table) from n
+    (λ k low high. ap (λ e. record { at = k; cell = e .cell; place = e .place }) (h k low high)))
 
-length-sectionsPlaced : (table places : List ℕ) → length (sectionsPlaced table places) ≡ portsIn table
-unfolding sectionsPlaced upTo
-length-sectionsPlaced table places = length-numbers (sectionPlaced table places) 0 (portsIn table)
+module _ (table : List ℕ) where
+  abbrev old : List (List Entry)
+  old = stateOf table .sections
 
-section-placed : (table places : List ℕ) (i : ℕ) → i < portsIn table
-    → getD (sectionsPlaced table places) i [] ≡ sectionPlaced table places i
-unfolding sectionsPlaced upTo
-section-placed table places i l =
-    numbersFrom-at (sectionPlaced table places) 0 (portsIn table) i [] l ∙ ap (sectionPlaced table places) (zero-add i)
-
--- the sections without the cells that leave
-abbrev fresh : List ℕ → List ℕ → List (List Entry)
-fresh table places = without (leavingIn table places) (sectionsPlaced table places)
-
--- the switch whose first inputs are without them
-pub partly : List ℕ → List ℕ → ℕ → Switch
-partly table places i =
-    record {
-      ports = portsIn table;
-      clock = clockIn table;
-      sections = mixed (fresh table places) (stateOf table .sections) i;
-    }
-
-module _ {table places : List ℕ} (r : Ready table places) {numbers : List ℕ} (c : Chosen table places 1024 numbers) where
   abbrev after : List (List Entry)
-  after = fresh table places
+  after = without (leaving (waiting (stateOf table .sections))) (stateOf table .sections)
 
-  -- what stays of an input
-  pub staying-new : (i : ℕ) → i < portsIn table
-      → getD after i [] ≡ staying table places numbers (cellLimit * i) (countIn table i)
-  unfolding leavingIn staying stays sectionPlaced entryPlaced waitingAt window
-  staying-new i l =
-      without-at (leaving all) (sectionsPlaced table places) i
-      ∙ ap (λ es. map entryOf (keep stay (numberFrom (cellLimit * i) es))) (section-placed table places i l)
-      ∙ ap (λ w. map entryOf (keep stay w)) (numberFrom-placed table places (cellLimit * i) (countIn table i))
-      ∙ ap (map entryOf) (keep-ext stay own (window table places i (countIn table i)) agree)
-      ∙ ap (map entryOf) (keep-map own (waitingAt table places) (numbersFrom (cellLimit * i) (countIn table i)))
-      ∙ map-map entryOf (waitingAt table places)
-      (keep (λ k. own (waitingAt table places k)) (numbersFrom (cellLimit * i) (countIn table i)))
-    where
-      all : List Waiting
-      all = inTable table places
+  -- the switch whose first inputs are without the cells that leave
+  pub partly : ℕ → Switch
+  partly i = record { ports = stateOf table .ports; clock = stateOf table .clock; sections = mixed after old i }
 
-      stay : Waiting → Bool
-      stay e = not (among (leaving all) e)
+module _ (table : List ℕ) (good : IsTable table) where
+  readable : Readable table
+  readable = table-readable table good
 
-      own : Waiting → Bool
-      own e = not (eqb (getD numbers (e .cell .output) 0) (e .at))
+  section-is : (i : ℕ) → i < portsIn table
+      → getD (old table) i [] ≡ map (entryAt table) (numbersFrom (cellLimit * i) (countIn table i))
+  unfolding upTo sectionAt entriesBetween between
+  section-is i l =
+      let size : cellLimit * i + countIn table i - cellLimit * i ≡ countIn table i = omega arith in
+      ap (λ l. getD l i []) (decode-sections table (stateOf table) good)
+      ∙ numbersFrom-at (sectionAt table) 0 (portsIn table) i [] l
+      ∙ ap (sectionAt table) (zero-add i)
+      ∙ ap (λ n. map (entryAt table) (numbersFrom (cellLimit * i) n)) size
 
-      agree : (e : Waiting) → List·Memᴰ e (window table places i (countIn table i)) → stay e ≡ own e
-      agree e m =
-          let w = Window.window-e table places i (countIn table i) m in
-          let t : InTable table (e .at) =
-          inTable-number table (stateOf table) (r .good) i (e .at) l (w .from) (w .to) in
-          ap not
-          (among-leaving r c (Memᴰ·cast (w .self) (Window.inTable-i table places (ready-readable r) (e .at) t)))
-
-  length-fresh : length after ≡ portsIn table
-  length-fresh =
-      length-without (leavingIn table places) (sectionsPlaced table places) ∙ length-sectionsPlaced table places
-
-  fresh-short : Short after
-  fresh-short i = go (compare i (portsIn table))
-    where
-      readable : Readable table
-      readable = ready-readable r
-
-      past : portsIn table ≤ i → length (getD after i []) ≤ cellLimit
-      past h =
-          let none : getD after i [] ≡ [] = List·getD-eq-default after [] (omega (arith, length-fresh)) in
-          rw none (omega arith)
-
-      go : Compared i (portsIn table) → length (getD after i []) ≤ cellLimit
-      go (below h) =
-          omega (
-            arith,
-            ap length (staying-new i h),
-            length-staying table places numbers (cellLimit * i) (countIn table i),
-            readable .counts i (omega (arith, readable .ports)),
-          )
-      go (equal h) = past (omega arith)
-      go (above h) = past (omega arith)
-
-  ------------------------------------------------------------------------
-  -- the table while its sections close up
-
-  abbrev state : Switch
-  state = stateOf table
-
-  decoded : decode table ≡ some (stateOf table)
-  decoded = (r .good)
-
-  length-old : length (state .sections) ≡ portsIn table
+  length-old : length (old table) ≡ portsIn table
   unfolding upTo
-  length-old = ap length (decode-sections table state decoded) ∙ length-numbers (sectionAt table) 0 (portsIn table)
+  length-old = ap length (decode-sections table (stateOf table) good) ∙ length-numbers (sectionAt table) 0 (portsIn table)
 
-  old-short : Short (state .sections)
-  old-short = section-short table state decoded
+  old-short : Short (old table)
+  old-short = section-short table (stateOf table) good
 
-  lengths : length after ≡ length (state .sections)
-  lengths = length-fresh ∙ sym length-old
+  lengths : length (after table) ≡ length (old table)
+  lengths = length-without (leaving (waiting (old table))) (old table)
 
-  pub partly-none : table ≡ encode (partly table places 0)
-  unfolding partly
-  partly-none =
-      sym (encode-decode table state decoded)
-      ∙ (λ z.
-      encode
-      (record {
-        ports = sym (decode-ports table state decoded) z;
-        clock = sym (decode-clock table state decoded) z;
-        sections = sym (mixed-none after (state .sections) lengths) z;
-      }))
+  pub partly-none : table ≡ encode (partly table 0)
+  unfolding partly mixed
+  partly-none = sym (encode-decode table (stateOf table) good)
 
-  pub partly-all : encode (partly table places (portsIn table)) ≡ encode (departed table places)
+  pub partly-all : encode (partly table (portsIn table)) ≡ encode (departed (stateOf table))
   unfolding partly departed
   partly-all =
-      ap (λ n. encode (partly table places n)) (sym length-old)
-      ∙ ap (λ l. encode (record { ports = portsIn table; clock = clockIn table; sections = l }))
-      (mixed-all after (state .sections) lengths)
+      ap (λ n. encode (partly table n)) (sym length-old)
+      ∙ ap (λ l. encode (record { ports = stateOf table .ports; clock = stateOf table .clock; sections = l }))
+      (mixed-all (after table) (old table) lengths)
 
-  module _ (i : ℕ) (l : i < portsIn table) (now : List ℕ) (e : now ≡ encode (partly table places i)) where
-    within : i < length (state .sections)
-    within = omega (arith, length-old)
-
-    port : i < portLimit
-    port = omega (arith, ready-readable r .ports)
-
-    short : Short (partly table places i .sections)
-    unfolding partly
-    short = mixed-short i after (state .sections) fresh-short old-short
-
-    own-section : getD (partly table places i .sections) i [] ≡ getD (state .sections) i []
-    unfolding partly
-    own-section = mixed-at after (state .sections) lengths i within
-
-    -- from section i on the bytes are the table's
-    tail-same : drop (headerSize + sectionSize * i) now ≡ drop (headerSize + sectionSize * i) table
-    unfolding partly
-    tail-same =
-        let m : ℕ = portLimit - i in
-        let sum : i + m ≡ portLimit = omega (arith, port) in
-        ap (drop (headerSize + sectionSize * i)) e
-        ∙ encode-from (partly table places i) i m short sum
-        ∙ ap (sectionsBytes m) (drop-mixed after (state .sections) lengths i within)
-        ∙ sym (encode-from state i m old-short sum)
-        ∙ ap (drop (headerSize + sectionSize * i)) (encode-decode table state decoded)
-
-    count-same : countIn now i ≡ countIn table i
-    count-same =
-        ap (λ bs. countIn bs i) e
-        ∙ encode-count (partly table places i) i port (short i)
-        ∙ ap length own-section
-        ∙ sym (encode-count state i port (old-short i))
-        ∙ ap (λ bs. countIn bs i) (encode-decode table state decoded)
-
-    -- and so from each record of it on
-    rest-same : (k : ℕ) → cellLimit * i ≤ k → drop (recordStart k) now ≡ drop (recordStart k) table
-    rest-same k h =
-        let at : recordStart k ≡ headerSize + sectionSize * i + entrySize * (k - cellLimit * i) = omega arith in
-        ap (λ n. drop n now) at
-        ∙ sym (drop-drop (entrySize * (k - cellLimit * i)) (headerSize + sectionSize * i) now)
-        ∙ ap (drop (entrySize * (k - cellLimit * i))) tail-same
-        ∙ drop-drop (entrySize * (k - cellLimit * i)) (headerSize + sectionSize * i) table
-        ∙ ap (λ n. drop n table) (sym at)
-
-    entry-same : (k : ℕ) → cellLimit * i ≤ k → entryAt now k ≡ entryAt table k
-    entry-same k h = entryAt-same table now k (rest-same k h)
-
-    -- the next section can close up
-    pub removable : length now ≡ tableSize → Removable now places i
-    removable size =
-        let readable : Readable table = ready-readable r in
-        let few : countIn table i ≤ cellLimit = readable .counts i port in
-        let count : countIn now i ≡ countIn table i = count-same in
-        let small : i < portLimit = port in
-        record {
-          port = port;
-          count = omega arith;
-          records = record {
-            size = size;
-            room = r .size;
-            start = omega arith;
-            limit = omega arith;
-            outputs =
-                λ k low high.
-                let t : InTable table k = number k low high in
-                rw (entry-same k low) (omega (arith, readable .outputs k t, readable .ports));
-            places = λ k low high. r .places k (number k low high);
-            bytes =
-                λ k low high.
-                recordAt-same table now k (rest-same k low)
-                ∙ decode-record table state decoded k (number k low high)
-                ∙ ap entryBytes (sym (entry-same k low));
-          };
-          rest = rest;
-        }
+  module _ {numbers : List ℕ} (c : BestBuffered table (placesIn table) numbers) where
+    -- what stays of an input
+    staying-new : (i : ℕ) → i < portsIn table
+        → getD (after table) i [] ≡ staying table numbers (cellLimit * i) (countIn table i)
+    unfolding staying stays
+    staying-new i l =
+        without-at (leaving (waiting (old table))) (old table) i
+        ∙ ap (λ w. map entryOf (keep stay w)) numbered
+        ∙ ap (map entryOf) (keep-ext stay (stays numbers) (map (waitsAt table) ks) agree)
       where
+        ks : List ℕ
+        ks = numbersFrom (cellLimit * i) (countIn table i)
+
+        stay : Waiting → Bool
+        stay e = not (among (leaving (waiting (old table))) e)
+
+        numbered : numberFrom (cellLimit * i) (getD (old table) i []) ≡ map (waitsAt table) ks
+        numbered =
+            ap (numberFrom (cellLimit * i)) (section-is i l) ∙ numbered-own table (cellLimit * i) (countIn table i)
+
+        agree : (e : Waiting) → List·Memᴰ e (map (waitsAt table) ks) → stay e ≡ stays numbers e
+        agree e m =
+            ap not
+            (ap (λ all. among (leaving all) e) (sym (waitingIn-state table good))
+            ∙ among-leaving table good c
+            (subst (List·Memᴰ e) (sym (waitingIn-state table good))
+            (section-waiting (old table) i (subst (List·Memᴰ e) (sym numbered) m))))
+
+    fresh-short : Short (after table)
+    fresh-short i = go (compare i (portsIn table))
+      where
+        past : portsIn table ≤ i → length (getD (after table) i []) ≤ cellLimit
+        past h =
+            let none : getD (after table) i [] ≡ [] =
+            List·getD-eq-default (after table) [] (omega (arith, lengths, length-old)) in
+            rw none (omega arith)
+
+        go : Compared i (portsIn table) → length (getD (after table) i []) ≤ cellLimit
+        go (below h) =
+            omega (
+              arith,
+              ap length (staying-new i h),
+              length-staying table numbers (cellLimit * i) (countIn table i),
+              readable .counts i (omega (arith, readable .ports)),
+            )
+        go (equal h) = past (omega arith)
+        go (above h) = past (omega arith)
+
+    ------------------------------------------------------------------------
+    -- the table while its sections close up
+
+    module _ (i : ℕ) (l : i < portsIn table) (now : List ℕ) (e : now ≡ encode (partly table i)) where
+      within : i < length (old table)
+      within = omega (arith, length-old)
+
+      port : i < portLimit
+      port = omega (arith, readable .ports)
+
+      short : Short (partly table i .sections)
+      unfolding partly
+      short = mixed-short i (after table) (old table) fresh-short old-short
+
+      own-section : getD (partly table i .sections) i [] ≡ getD (old table) i []
+      unfolding partly
+      own-section = mixed-at (after table) (old table) lengths i within
+
+      -- from section i on the bytes are the table's
+      tail-same : drop (headerSize + sectionSize * i) now ≡ drop (headerSize + sectionSize * i) table
+      unfolding partly
+      tail-same =
+          let m : ℕ = portLimit - i in
+          let sum : i + m ≡ portLimit = omega (arith, port) in
+          ap (drop (headerSize + sectionSize * i)) e
+          ∙ encode-from (partly table i) i m short sum
+          ∙ ap (sectionsBytes m) (drop-mixed (after table) (old table) lengths i within)
+          ∙ sym (encode-from (stateOf table) i m old-short sum)
+          ∙ ap (drop (headerSize + sectionSize * i)) (encode-decode table (stateOf table) good)
+
+      count-own : countIn now i ≡ length (getD (partly table i .sections) i [])
+      count-own = ap (λ bs. countIn bs i) e ∙ encode-count (partly table i) i port (short i)
+
+      count-same : countIn now i ≡ countIn table i
+      count-same =
+          count-own
+          ∙ ap length own-section
+          ∙ sym (encode-count (stateOf table) i port (old-short i))
+          ∙ ap (λ bs. countIn bs i) (encode-decode table (stateOf table) good)
+
+      -- and so from each record of it on
+      rest-same : (k : ℕ) → cellLimit * i ≤ k → drop (recordStart k) now ≡ drop (recordStart k) table
+      rest-same k h =
+          let at : recordStart k ≡ headerSize + sectionSize * i + entrySize * (k - cellLimit * i) = omega arith in
+          ap (λ n. drop n now) at
+          ∙ sym (drop-drop (entrySize * (k - cellLimit * i)) (headerSize + sectionSize * i) now)
+          ∙ ap (drop (entrySize * (k - cellLimit * i))) tail-same
+          ∙ drop-drop (entrySize * (k - cellLimit * i)) (headerSize + sectionSize * i) table
+          ∙ ap (λ n. drop n table) (sym at)
+
+      entry-same : (k : ℕ) → cellLimit * i ≤ k → entryAt now k ≡ entryAt table k
+      entry-same k h = entryAt-same table now k (rest-same k h)
+
+      -- the next section can close up
+      module _ (size : length now ≡ tableSize) {firsts : List ℕ} (f : Firsts numbers 16 firsts) where
         number : (k : ℕ) → cellLimit * i ≤ k → k < cellLimit * i + countIn now i → InTable table k
-        number k low high = inTable-number table state decoded i k l low (omega (arith, count-same))
+        number k low high = inTable-number table (stateOf table) good i k l low (omega (arith, count-same))
 
-        count-own : countIn now i ≡ length (getD (partly table places i .sections) i [])
-        count-own = ap (λ bs. countIn bs i) e ∙ encode-count (partly table places i) i port (short i)
+        output : (k : ℕ) → cellLimit * i ≤ k → k < cellLimit * i + countIn now i → entryAt now k .cell .output < portLimit
+        output k low high =
+            rw (entry-same k low) (omega (arith, readable .outputs k (number k low high), readable .ports))
 
-        zeros : sectionSize - length (entriesBytes (getD (partly table places i .sections) i []))
-            ≡ sectionSize - entrySize * countIn now i
-        zeros = omega (arith, count-own, length-entriesBytes (getD (partly table places i .sections) i []))
+        -- a cell before the first that leaves stays
+        early : (k : ℕ) → cellLimit * i ≤ k → k < cellLimit * i + countIn now i → k < getD firsts i 0
+            → stays numbers (waitsAt now k) ≡ true
+        early k low high h =
+            stays-i now numbers k k
+            (λ q.
+            let small : k < nowhere = inTable-below readable (number k low high) in
+            let own : getD numbers (entryAt now k .cell .output) 0 / cellLimit ≡ i =
+            omega (arith, count-same, readable .counts i port) in
+            omega (
+              arith,
+              f .least (entryAt now k .cell .output) (output k low high) (omega arith),
+              ap (λ j. getD firsts j 0) own,
+            ))
 
-        rest : drop (recordStart (cellLimit * i + countIn now i)) now
-            ≡ replicate (sectionSize - entrySize * countIn now i) 0 ++ drop (headerSize + sectionSize * (i + 1)) now
-        rest =
-            ap₂ (λ n bs. drop (recordStart (cellLimit * i + n)) bs) count-own e
-            ∙ encode-rest (partly table places i) i short port
-            ∙ ap₂ (λ w bs. replicate w 0 ++ drop (headerSize + sectionSize * (i + 1)) bs) zeros (sym e)
+        -- its first cell that leaves is one of its entries
+        own-first : getD firsts i 0 < nowhere
+            → (cellLimit * i ≤ getD firsts i 0) × (getD firsts i 0 ≤ cellLimit * i + countIn now i)
+        own-first h = go (f .real i port h)
+          where
+            entry : (o : ℕ) → getD numbers o 0 ≡ getD firsts i 0
+                → BestAmong table (Buffered table (placesIn table) o) (getD numbers o 0) → InTable table (getD firsts i 0)
+            entry o q (empty d g) = absurd (omega arith)
+            entry o q (best s b) = subst (InTable table) q (b .own .entry)
 
-    -- and then one more is new
-    pub partly-next : (new : List ℕ) → new ≡ removed now places numbers i → new ≡ encode (partly table places (i + 1))
-    unfolding partly removed withSection
-    partly-next new h =
-        h
-        ∙ ap₂
-        (λ es bs.
-        set
-        (take (headerSize + sectionSize * i) bs ++ (sectionBytes es ++ drop (headerSize + sectionSize * (i + 1)) bs))
-        (16 + i)
-        (length es))
-        kept e
-        ∙ sym
-        (encode-set (partly table places i) i (getD after i []) short port
-        (length-mixed after (state .sections) lengths i within) (fresh-short i))
-        ∙ ap (λ l. encode (record { ports = portsIn table; clock = clockIn table; sections = l }))
-        (mixed-next after (state .sections) lengths i within)
-      where
-        kept : staying now places numbers (cellLimit * i) (countIn now i) ≡ getD after i []
-        kept =
-            ap (staying now places numbers (cellLimit * i)) count-same
-            ∙ staying-same table now places numbers (cellLimit * i) (countIn table i) (λ k low high. entry-same k low)
-            ∙ sym (staying-new i l)
+            go : (getD firsts i 0 / cellLimit ≡ i) × (o : ℕ) × (o < 16) × (getD numbers o 0 ≡ getD firsts i 0)
+                → (cellLimit * i ≤ getD firsts i 0) × (getD firsts i 0 ≤ cellLimit * i + countIn now i)
+            go (at, o, s, q) =
+                let end : getD firsts i 0 < cellLimit * i + countIn table i =
+                rw at at (entry o q (c .each o s) .position) in
+                (omega arith, omega (arith, count-same))
+
+        pub removable : Removable now numbers i (getD firsts i 0)
+        removable =
+            record {
+              size = size;
+              port = port;
+              count = omega (arith, count-same, readable .counts i port);
+              own = own-first;
+              before = early;
+              outputs = output;
+              bytes =
+                  λ k low high.
+                  recordAt-same table now k (rest-same k low)
+                  ∙ decode-record table (stateOf table) good k (number k low high)
+                  ∙ ap entryBytes (sym (entry-same k low));
+              rest =
+                  ap₂ (λ n bs. drop (recordStart (cellLimit * i + n)) bs) count-own e
+                  ∙ encode-rest (partly table i) i short port
+                  ∙ ap₂ (λ w bs. replicate w 0 ++ drop (headerSize + sectionSize * (i + 1)) bs) zeros (sym e);
+            }
+          where
+            zeros : sectionSize - length (entriesBytes (getD (partly table i .sections) i []))
+                ≡ sectionSize - entrySize * countIn now i
+            zeros = omega (arith, count-own, length-entriesBytes (getD (partly table i .sections) i []))
+
+      -- then one more is new
+      pub partly-next : (new : List ℕ) → new ≡ removed now numbers i → new ≡ encode (partly table (i + 1))
+      unfolding partly removed
+      partly-next new h =
+          h
+          ∙ ap₂
+          (λ es bs.
+          set
+          (take (headerSize + sectionSize * i) bs ++ (sectionBytes es ++ drop (headerSize + sectionSize * (i + 1)) bs))
+          (16 + i)
+          (length es))
+          kept e
+          ∙ sym
+          (encode-set (partly table i) i (getD (after table) i []) short port
+          (length-mixed (after table) (old table) lengths i within) (fresh-short i))
+          ∙ ap (λ l. encode (record { ports = stateOf table .ports; clock = stateOf table .clock; sections = l }))
+          (mixed-next (after table) (old table) lengths i within)
+        where
+          kept : staying now numbers (cellLimit * i) (countIn now i) ≡ getD (after table) i []
+          kept =
+              ap (staying now numbers (cellLimit * i)) count-same
+              ∙ staying-same table now numbers (cellLimit * i) (countIn table i) (λ k low high. entry-same k low)
+              ∙ sym (staying-new i l)

@@ -1,5 +1,5 @@
-pub mod Copied
 pub mod Departing
-pub mod Leaving
+pub mod Exchange
+pub mod Firsts
 pub mod Sending
 pub mod Staying

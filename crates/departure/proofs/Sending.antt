@@ -14,18 +14,18 @@ use mathlib.Core.List.{List, [], _∷_, _++_, map, List·Memᴰ, List·Memᴰ·h
 use mathlib.Core.Option.{Option, none, some, Option·map}
 use borrow.Author.Tests.{eqb-true, eq-eqb, le-leb, lt-leb}
 use lib.Dec.{eqb}
-use lib.ListN.{length, getD, take, drop, List·getD-eq-default}
+use lib.ListN.{length, getD, take, drop, length-map, List·getD-map, List·getD-eq-default}
 use lib.Seq.{take-add, take-at, take-all, drop-at, drop-drop, getD-drop, length-take-le}
 use Rattle.laws.specs.Lists.{keep, first?, upTo}
 use Rattle.laws.proofs.Tests.{clash, by-fail, same}
-use Rattle.laws.proofs.Lists.{none?-i, keep-mem, mem-keep-in, mem-keep-passes}
+use Rattle.laws.proofs.Lists.{none?-i, keep-mem, mem-keep-in, mem-keep-passes, getD-any}
 use Rattle.laws.proofs.Least.{least-mem}
 use Rattle.laws.proofs.Numbers.{numbersFrom-at}
 use Rattle.cell.specs.declared.Cell.{Cell}
 use Rattle.cell.specs.Order.{over}
 use Rattle.cell.proofs.Order.{Compared, below, equal, above, compare, over-trans, over-irrefl}
 use Rattle.model.specs.State.{isBuffered}
-use Rattle.model.specs.Phase.{Waiting, beats, among}
+use Rattle.model.specs.Phase.{Waiting, waiting, beats, among}
 use Rattle.model.specs.Crossbar.{leaving, departuresOf}
 use Rattle.model.proofs.WaitingOrder.{beats-i, beats-output, beats-over, among-i, among-e}
 use Rattle.model.proofs.SlackDeparture.{leaving-in, leaving-buffered, leaving-first}
@@ -33,128 +33,115 @@ use Rattle.layout.specs.Number.{bytesOf}
 use Rattle.layout.specs.Answer.{departureSize, departureBytes, departuresBytes}
 use Rattle.layout.specs.Host.{filled}
 use Rattle.layout.specs.Entry.{entryAt, portsIn}
+use Rattle.layout.specs.Table.{stateOf, IsTable}
 use Rattle.layout.proofs.Answer.{length-departureBytes, length-departuresBytes}
-use Rattle.places.specs.View.{waitingAt, inTable, InTable}
+use Rattle.places.specs.View.{waitingAt, InTable, placesIn, waitingIn}
 use Rattle.places.specs.Choices.{nowhere, Best, BestAmong, empty, best}
-use Rattle.departure.specs.Departing.{Ready, Buffered, BufferedBelow, Chosen, departureAt, sevenBytes}
-use Rattle.departure.specs.Departing.{noCell, leavingIn}
+use Rattle.places.specs.Scan.{Readable}
+use Rattle.places.specs.Viewed.{Buffered, BestBuffered}
+use Rattle.departure.specs.Departing.{departureAt, sevenBytes, noCell}
 use Rattle.places.proofs.Window
+use Rattle.places.proofs.Own.{table-readable, waitingIn-state, waitingIn-orderly}
 use Rattle.places.proofs.Placed.{length-numbers}
 use Rattle.table.proofs.Put.{put, put-next}
-use Rattle.departure.proofs.Leaving.{ready-readable}
 
 ------------------------------------------------------------------------
 -- the cells that leave are the outputs' choices
 
-module _ {table places : List ℕ} (r : Ready table places) where
+module _ (table : List ℕ) (good : IsTable table) where
   abbrev all : List Waiting
-  all = inTable table places
+  all = waitingIn table
 
   abbrev cellAt : ℕ → Waiting
-  cellAt k = waitingAt table places k
+  cellAt k = waitingAt table (placesIn table) k
+
+  abbrev Held : ℕ → ℕ → Type 0
+  Held output k = Buffered table (placesIn table) output k
+
+  readable : Readable table
+  readable = table-readable table good
 
   isIn : Waiting → Bool
   isIn e = isBuffered (e .place)
 
-  -- a buffered cell of the list, by its number
-  buffered-e : {e : Waiting} → List·Memᴰ e all → isBuffered (e .place) ≡ true
-      → Buffered table places (e .cell .output) (e .at)
+  -- a waiting cell by its number
+  known : {e : Waiting} → List·Memᴰ e all → (e ≡ cellAt (e .at)) × InTable table (e .at)
+  known = Window.inTable-e table (placesIn table) readable
+
+  known-i : {k : ℕ} → InTable table k → List·Memᴰ (cellAt k) all
+  known-i {k} t = Window.inTable-i table (placesIn table) readable k t
+
+  port : {e : Waiting} → List·Memᴰ e all → e .cell .output < 16
+  unfolding waitingAt
+  port {e} m =
+      let x = known m in
+      omega (arith, ap (λ w. w .cell .output) (x .0), readable .outputs (e .at) (x .1), readable .ports)
+
+  buffered-e : {e : Waiting} → List·Memᴰ e all → isBuffered (e .place) ≡ true → Held (e .cell .output) (e .at)
   unfolding waitingAt
   buffered-e {e} m b =
-      let x = Window.inTable-e table places (ready-readable r) m in
+      let x = known m in
       record {
         entry = x .1;
         place = ap (λ w. isBuffered (w .place)) (sym (x .0)) ∙ b;
         goes = ap (λ w. w .cell .output) (sym (x .0));
       }
 
-  leaves-i : (output n : ℕ) → Best table (BufferedBelow table places output 1024) n → List·Memᴰ (cellAt n) (leaving all)
+  leaves-i : (output n : ℕ) → Best table (Held output) n → List·Memᴰ (cellAt n) (leaving all)
   unfolding leaving waitingAt isIn
   leaves-i output n h =
-      least-mem beats (keep-mem isIn (Window.inTable-i table places (ready-readable r) n (h .own .cell .entry)) (h .own .cell .place))
+      least-mem beats (keep-mem isIn (known-i (h .own .entry)) (h .own .place))
       (none?-i (λ e. beats e (cellAt n)) (keep isIn all)
       (λ e m. by-fail _ (λ w. go e (mem-keep-in isIn all m) (mem-keep-passes isIn all m) w)))
     where
       go : (e : Waiting) → List·Memᴰ e all → isBuffered (e .place) ≡ true → beats e (cellAt n) ≡ true → ⊥
-      go e m b w = past (h .upper (e .at) (record { early = small; cell = own }))
+      go e m b w =
+          past (h .upper (e .at) (subst (λ o. Held o (e .at)) (beats-output e (cellAt n) w ∙ h .own .goes) (buffered-e m b)))
         where
-          x : (e ≡ cellAt (e .at)) × InTable table (e .at)
-          x = Window.inTable-e table places (ready-readable r) m
-
-          small : e .at < 1024
-          small = Window.inTable-below (ready-readable r) (x .1)
-
-          own : Buffered table places output (e .at)
-          own = subst (λ o. Buffered table places o (e .at)) (beats-output e (cellAt n) w ∙ h .own .cell .goes) (buffered-e m b)
-
           wins : over (entryAt table (e .at) .cell) (entryAt table n .cell) ≡ true
-          wins = ap (λ d. over (d .cell) (entryAt table n .cell)) (sym (x .0)) ∙ beats-over e (cellAt n) w
+          wins = ap (λ d. over (d .cell) (entryAt table n .cell)) (sym (known m .0)) ∙ beats-over e (cellAt n) w
 
           past : (e .at ≡ n) ⊎ (over (entryAt table n .cell) (entryAt table (e .at) .cell) ≡ true) → ⊥
           past (inl q) = clash (rw q at wins) (over-irrefl (entryAt table n .cell))
-          past (inr q) =
-              clash (over-trans _ _ _ wins q) (over-irrefl (entryAt table (e .at) .cell))
+          past (inr q) = clash (over-trans _ _ _ wins q) (over-irrefl (entryAt table (e .at) .cell))
 
-  module _ {numbers : List ℕ} (c : Chosen table places 1024 numbers) where
+  module _ {numbers : List ℕ} (c : BestBuffered table (placesIn table) numbers) where
     leaves-e : {e : Waiting} → List·Memᴰ e (leaving all) → getD numbers (e .cell .output) 0 ≡ e .at
     unfolding waitingAt
-    leaves-e {e} m = go (c .each (e .cell .output) port)
+    leaves-e {e} m = go (c .each (e .cell .output) (port mem))
       where
         mem : List·Memᴰ e all
         mem = leaving-in all m
 
-        x : (e ≡ cellAt (e .at)) × InTable table (e .at)
-        x = Window.inTable-e table places (ready-readable r) mem
-
-        own : Buffered table places (e .cell .output) (e .at)
+        own : Held (e .cell .output) (e .at)
         own = buffered-e mem (leaving-buffered all m)
 
-        small : e .at < 1024
-        small = Window.inTable-below (ready-readable r) (x .1)
-
-        port : e .cell .output < 16
-        port = omega (arith, own .goes, ready-readable r .outputs (e .at) (x .1), ready-readable r .ports)
-
-        past : (n : ℕ) → Best table (BufferedBelow table places (e .cell .output) 1024) n
+        past : (n : ℕ) → Best table (Held (e .cell .output)) n
             → (e .at ≡ n) ⊎ (over (entryAt table n .cell) (entryAt table (e .at) .cell) ≡ true) → n ≡ e .at
         past n b (inl q) = sym q
         past n b (inr q) =
             absurd
             (clash
-            (beats-i (cellAt n) e (b .own .cell .goes) (ap (λ w. over (entryAt table n .cell) (w .cell)) (x .0) ∙ q))
-            (leaving-first all m (Window.inTable-i table places (ready-readable r) n (b .own .cell .entry)) (b .own .cell .place)))
+            (beats-i (cellAt n) e (b .own .goes) (ap (λ w. over (entryAt table n .cell) (w .cell)) (known mem .0) ∙ q))
+            (leaving-first all m (known-i (b .own .entry)) (b .own .place)))
 
-        go : BestAmong table (BufferedBelow table places (e .cell .output) 1024) (getD numbers (e .cell .output) 0)
+        go : BestAmong table (Held (e .cell .output)) (getD numbers (e .cell .output) 0)
             → getD numbers (e .cell .output) 0 ≡ e .at
-        go (empty q f) = absurd (f (e .at) (record { early = small; cell = own }))
-        go (best s b) = past _ b (b .upper (e .at) (record { early = small; cell = own }))
+        go (empty q f) = absurd (f (e .at) own)
+        go (best s b) = past _ b (b .upper (e .at) own)
 
     -- a cell leaves if it is its output's choice
     pub among-leaving : {e : Waiting} → List·Memᴰ e all
         → among (leaving all) e ≡ eqb (getD numbers (e .cell .output) 0) (e .at)
-    unfolding waitingAt
     among-leaving {e} m =
         same _ _
-        (λ h. eq-eqb _ _ (leaves-e (among-e (r .orderly) (leaving all) (λ f. leaving-in all) m h)))
-        (λ h. go (eqb-true _ _ h) (c .each (e .cell .output) port))
+        (λ h. eq-eqb _ _ (leaves-e (among-e (waitingIn-orderly table good) (leaving all) (λ f. leaving-in all) m h)))
+        (λ h. go (eqb-true _ _ h) (c .each (e .cell .output) (port m)))
       where
-        x : (e ≡ cellAt (e .at)) × InTable table (e .at)
-        x = Window.inTable-e table places (ready-readable r) m
-
-        small : e .at < 1024
-        small = Window.inTable-below (ready-readable r) (x .1)
-
-        port : e .cell .output < 16
-        port =
-            omega
-            (arith, ap (λ w. w .cell .output) (x .0), ready-readable r .outputs (e .at) (x .1), ready-readable r .ports)
-
         go : getD numbers (e .cell .output) 0 ≡ e .at
-            → BestAmong table (BufferedBelow table places (e .cell .output) 1024) (getD numbers (e .cell .output) 0)
-            → among (leaving all) e ≡ true
-        go q (empty d f) = absurd (omega (arith, small))
-        go q (best s b) =
-            among-i (Memᴰ·cast (x .0 ∙ ap cellAt (sym q)) (leaves-i (e .cell .output) _ b))
+            → BestAmong table (Held (e .cell .output)) (getD numbers (e .cell .output) 0) → among (leaving all) e ≡ true
+        go q (empty d f) = absurd (omega (arith, Window.inTable-below readable (known m .1)))
+        go q (best s b) = among-i (Memᴰ·cast (known m .0 ∙ ap cellAt (sym q)) (leaves-i (e .cell .output) _ b))
 
 ------------------------------------------------------------------------
 -- what an output sends
@@ -273,9 +260,7 @@ module _ (ds : List (Option Cell)) (old : List ℕ) (room : 448 ≤ length old) 
 
 pub getD-map : {A B : Type 0} (f : A → B) (l : List A) (i : ℕ) (d : A) (e : B) → i < length l
     → getD (map f l) i e ≡ f (getD l i d)
-getD-map f [] i d e h = absurd (omega arith)
-getD-map f (x ∷ l) zero d e h = refl
-getD-map f (x ∷ l) (suc i) d e h = getD-map f l i d e (omega arith)
+getD-map f l i d e h = getD-any (map f l) i e (f d) (omega (arith, length-map l f)) ∙ List·getD-map f l i d
 
 -- where all members are one cell, it is the first
 first-of : (l : List Waiting) {e : Waiting} → List·Memᴰ e l → ((f : Waiting) → List·Memᴰ f l → f ≡ e)
@@ -289,86 +274,91 @@ unfolding first?
 first-none [] h = refl
 first-none (x ∷ l) h = absurd (h x (List·Memᴰ·head refl))
 
-module _ {table places : List ℕ} (r : Ready table places) {numbers : List ℕ} (c : Chosen table places 1024 numbers) where
-  goesTo : ℕ → Waiting → Bool
-  goesTo o e = eqb (e .cell .output) o
+goesTo : ℕ → Waiting → Bool
+goesTo o e = eqb (e .cell .output) o
 
-  -- a cell that leaves for an output
-  module _ (o : ℕ) {e : Waiting} (m : List·Memᴰ e (keep (goesTo o) (leaving (inTable table places)))) where
-    member : List·Memᴰ e (leaving (inTable table places))
-    member = mem-keep-in (goesTo o) (leaving (inTable table places)) m
+module _ (table : List ℕ) (good : IsTable table) {numbers : List ℕ} (c : BestBuffered table (placesIn table) numbers)
+  where
+    abbrev out : List Waiting
+    out = leaving (waitingIn table)
 
-    output-is : e .cell .output ≡ o
-    unfolding goesTo
-    output-is = eqb-true _ _ (mem-keep-passes (goesTo o) (leaving (inTable table places)) m)
+    -- the cells that leave for an output
+    abbrev sendsTo : ℕ → List Waiting
+    sendsTo o = keep (goesTo o) out
 
-    waits : (e ≡ waitingAt table places (e .at)) × InTable table (e .at)
-    waits = Window.inTable-e table places (ready-readable r) (leaving-in (inTable table places) member)
+    module _ (o : ℕ) {e : Waiting} (m : List·Memᴰ e (sendsTo o)) where
+      member : List·Memᴰ e out
+      member = mem-keep-in (goesTo o) out m
 
-    is-buffered : Buffered table places o (e .at)
-    is-buffered =
-        subst (λ p. Buffered table places p (e .at)) output-is
-        (buffered-e r (leaving-in (inTable table places) member) (leaving-buffered (inTable table places) member))
+      output-is : e .cell .output ≡ o
+      unfolding goesTo
+      output-is = eqb-true _ _ (mem-keep-passes (goesTo o) out m)
 
-    number-small : e .at < 1024
-    number-small = Window.inTable-below (ready-readable r) (waits .1)
+      is-buffered : Buffered table (placesIn table) o (e .at)
+      is-buffered =
+          subst (λ p. Buffered table (placesIn table) p (e .at)) output-is
+          (buffered-e table good (leaving-in (waitingIn table) member) (leaving-buffered (waitingIn table) member))
 
-    number-is : e .at ≡ getD numbers o 0
-    number-is = sym (leaves-e r c member) ∙ ap (λ p. getD numbers p 0) output-is
+      chosen-is : e ≡ waitingAt table (placesIn table) (getD numbers o 0)
+      chosen-is =
+          known table good (leaving-in (waitingIn table) member) .0
+          ∙ ap (waitingAt table (placesIn table)) (sym (leaves-e table good c member) ∙ ap (λ p. getD numbers p 0) output-is)
 
-  -- what an output sends
-  departure-chosen : (o : ℕ) → o < 16
-      → departureAt table (getD numbers o 0)
-      ≡ Option·map (λ e. e .cell) (first? (keep (goesTo o) (leaving (inTable table places))))
-  unfolding goesTo waitingAt
-  departure-chosen o l = go (c .each o l)
-    where
-      n : ℕ
-      n = getD numbers o 0
+    -- what an output sends
+    sends : ℕ → Option Cell
+    sends o = Option·map (λ e. e .cell) (first? (sendsTo o))
 
-      go : BestAmong table (BufferedBelow table places o 1024) (getD numbers o 0)
-          → departureAt table (getD numbers o 0)
-          ≡ Option·map (λ e. e .cell) (first? (keep (goesTo o) (leaving (inTable table places))))
-      go (empty q f) =
-          departureAt-none table n (omega arith)
-          ∙ sym (ap (Option·map (λ e. e .cell)) (first-none _ (λ e m. f (e .at) (record { early = number-small o m; cell = is-buffered o m }))))
-      go (best s b) =
-          departureAt-some table n s
-          ∙ sym
-          (ap (Option·map (λ e. e .cell))
-          (first-of _ (keep-mem (goesTo o) (leaves-i r o n b) (eq-eqb _ _ (b .own .cell .goes)))
-          (λ e m. waits o m .0 ∙ ap (waitingAt table places) (number-is o m))))
+    departure-chosen : (o : ℕ) → o < 16 → departureAt table (getD numbers o 0) ≡ sends o
+    unfolding goesTo waitingAt sends
+    departure-chosen o l = go (c .each o l)
+      where
+        n : ℕ
+        n = getD numbers o 0
 
-  -- an output that the switch does not have sends none
-  departure-past : (o : ℕ) → o < 16 → portsIn table ≤ o → departureAt table (getD numbers o 0) ≡ none
-  departure-past o l h = go (c .each o l)
-    where
-      go : BestAmong table (BufferedBelow table places o 1024) (getD numbers o 0) → departureAt table (getD numbers o 0) ≡ none
-      go (empty q f) = departureAt-none table (getD numbers o 0) (omega arith)
-      go (best s b) =
-          absurd (omega (arith, b .own .cell .goes, ready-readable r .outputs (getD numbers o 0) (b .own .cell .entry)))
+        go : BestAmong table (Buffered table (placesIn table) o) (getD numbers o 0)
+            → departureAt table (getD numbers o 0) ≡ Option·map (λ e. e .cell) (first? (sendsTo o))
+        go (empty q f) =
+            departureAt-none table n (omega arith)
+            ∙ sym (ap (Option·map (λ e. e .cell)) (first-none _ (λ e m. f (e .at) (is-buffered o m))))
+        go (best s b) =
+            departureAt-some table n s
+            ∙ sym
+            (ap (Option·map (λ e. e .cell))
+            (first-of _ (keep-mem (goesTo o) (leaves-i table good o n b) (eq-eqb _ _ (b .own .goes))) (λ e m. chosen-is o m)))
 
-  pub departures-chosen : departuresBytes 16 (map (departureAt table) numbers)
-      ≡ departuresBytes 16 (departuresOf (portsIn table) (leavingIn table places))
-  unfolding departuresOf leavingIn goesTo upTo
-  departures-chosen =
-      departuresBytes-ext 16 (map (departureAt table) numbers) (departuresOf (portsIn table) (leavingIn table places))
-      (λ o l. getD-map (departureAt table) numbers o 0 none (omega (arith, c .size)) ∙ go o l (compare o (portsIn table)))
-    where
-      sends : ℕ → Option Cell
-      sends o = Option·map (λ e. e .cell) (first? (keep (goesTo o) (leaving (inTable table places))))
+    -- an output that the switch does not have sends none
+    departure-past : (o : ℕ) → o < 16 → portsIn table ≤ o → departureAt table (getD numbers o 0) ≡ none
+    departure-past o l h = go (c .each o l)
+      where
+        go : BestAmong table (Buffered table (placesIn table) o) (getD numbers o 0)
+            → departureAt table (getD numbers o 0) ≡ none
+        go (empty q f) = departureAt-none table (getD numbers o 0) (omega arith)
+        go (best s b) =
+            absurd (omega (arith, b .own .goes, table-readable table good .outputs (getD numbers o 0) (b .own .entry)))
 
-      past : (o : ℕ) → o < 16 → portsIn table ≤ o
-          → departureAt table (getD numbers o 0) ≡ getD (departuresOf (portsIn table) (leavingIn table places)) o none
-      past o l h =
-          departure-past o l h
-          ∙ sym (List·getD-eq-default (departuresOf (portsIn table) (leavingIn table places)) none
-          (omega (arith, length-numbers sends 0 (portsIn table))))
+    departures-out : departuresBytes 16 (map (departureAt table) numbers)
+        ≡ departuresBytes 16 (departuresOf (portsIn table) out)
+    unfolding departuresOf goesTo sends upTo
+    departures-out =
+        departuresBytes-ext 16 (map (departureAt table) numbers) (departuresOf (portsIn table) out)
+        (λ o l. getD-map (departureAt table) numbers o 0 none (omega (arith, c .size)) ∙ go o l (compare o (portsIn table)))
+      where
+        past : (o : ℕ) → o < 16 → portsIn table ≤ o
+            → departureAt table (getD numbers o 0) ≡ getD (departuresOf (portsIn table) out) o none
+        past o l h =
+            departure-past o l h
+            ∙ sym (List·getD-eq-default (departuresOf (portsIn table) out) none
+            (omega (arith, length-numbers sends 0 (portsIn table))))
 
-      go : (o : ℕ) → o < 16 → Compared o (portsIn table)
-          → departureAt table (getD numbers o 0) ≡ getD (departuresOf (portsIn table) (leavingIn table places)) o none
-      go o l (below h) =
-          let at : 0 + o ≡ o = omega arith in
-          departure-chosen o l ∙ sym (numbersFrom-at sends 0 (portsIn table) o none h ∙ ap sends at)
-      go o l (equal h) = past o l (omega arith)
-      go o l (above h) = past o l (omega arith)
+        go : (o : ℕ) → o < 16 → Compared o (portsIn table)
+            → departureAt table (getD numbers o 0) ≡ getD (departuresOf (portsIn table) out) o none
+        go o l (below h) =
+            departure-chosen o l ∙ sym (numbersFrom-at sends 0 (portsIn table) o none h ∙ ap sends (zero-add o))
+        go o l (equal h) = past o l (omega arith)
+        go o l (above h) = past o l (omega arith)
+
+    pub departures-chosen : departuresBytes 16 (map (departureAt table) numbers)
+        ≡ departuresBytes 16 (departuresOf (portsIn table) (leaving (waiting (stateOf table .sections))))
+    departures-chosen =
+        departures-out
+        ∙ ap (λ all. departuresBytes 16 (departuresOf (portsIn table) (leaving all))) (waitingIn-state table good)

@@ -1,37 +1,37 @@
 -- The entries that stay close up in a section.
 --     cleared-            one record more is cleared
---     staying-, Closing   one entry more closes up
---     removed-section     a section that has closed up
-use Prim.Native.Nat.{ℕ, suc, _+_, _*_, _-_, _/_, _≤_, _<_}
+--     free-, closed-      one entry leaves or stays
+--     staying-            the entries that stay, of a run with one more
+--     Closing, closing-   the table while a section closes up
+--     removed-            a section that has closed up, and one that keeps all its cells
+use Prim.Native.Nat.{ℕ, zero, suc, _+_, _*_, _-_, _/_, _≤_, _<_}
 use native.Mathlib.Omega.{arith}
 use native.Mathlib.Nat.{add-zero}
 use mathlib.Core.Bool.{Bool, true, false, not}
-use mathlib.Core.Path.{_≡_, refl, sym, _∙_, ap, ap₂}
+use mathlib.Core.Path.{_≡_, refl, sym, _∙_, ap, ap₂, subst}
 use mathlib.Core.List.{List, [], _∷_, _++_, map, map-append, append-assoc, append-nil}
 use borrow.Author.Tests.{eq-eqb, ne-eqb}
-use lib.Dec.{eqb}
 use lib.ListN.{length, getD, set, take, drop, replicate, take-append-drop, length-append, length-map, length-replicate}
 use lib.ListN.{replicate-append-replicate}
+use lib.Seq.{drop-drop, set-getD}
 use Rattle.laws.specs.Lists.{keep, numbersFrom}
 use Rattle.laws.proofs.Tests.{cond-pass, cond-fail}
 use Rattle.laws.proofs.Lists.{keep-append, keep-pass, keep-fail, keep-nil}
 use Rattle.laws.proofs.Count.{length-keep, count-le-length}
-use Rattle.laws.proofs.Numbers.{length-numbersFrom, numbersFrom-more}
+use Rattle.laws.proofs.Numbers.{length-numbersFrom, numbersFrom-add}
 use Rattle.cell.specs.Limits.{cellLimit}
 use Rattle.model.specs.State.{Entry}
+use Rattle.model.specs.Phase.{Waiting}
+use Rattle.model.proofs.Numbering
 use Rattle.layout.specs.Number.{bytesOf}
-use Rattle.layout.specs.Table.{headerSize, entrySize, sectionSize, tableSize, placeOf, entryOf, entryBytes}
-use Rattle.layout.specs.Table.{entriesBytes}
+use Rattle.layout.specs.Table.{headerSize, entrySize, sectionSize, tableSize, entryOf, entryBytes, entriesBytes}
 use Rattle.layout.specs.Table.{sectionBytes}
 use Rattle.layout.specs.Entry.{entryAt, countIn}
 use Rattle.layout.specs.Records.{recordStart, recordAt}
 use Rattle.layout.proofs.Table.{length-entryBytes, length-entriesBytes, entriesBytes-append}
-use Rattle.places.specs.Sections.{entryPlaced}
-use Rattle.table.specs.Entries.{entryWith}
-use Rattle.departure.specs.Departing.{stays, staying, putAt, freeAfter, closedOne, closed, cleared}
-use Rattle.departure.specs.Departing.{Movable, Removable, removed}
+use Rattle.places.specs.Choices.{nowhere}
+use Rattle.departure.specs.Departing.{waitsAt, stays, staying, freeAfter, closedOne, cleared, Removable, removed}
 use Rattle.table.proofs.Put.{put, put-next, drop-put, length-put}
-use Rattle.departure.proofs.Copied.{placed-put}
 
 ------------------------------------------------------------------------
 -- one record more is cleared
@@ -48,71 +48,62 @@ pub cleared-none : (table : List ℕ) (first : ℕ) → cleared table first 0 �
 unfolding cleared
 cleared-none table first = put-nil (recordStart first) table
 
--- as many bytes as n records have
-cleared-put : (table : List ℕ) (first n : ℕ)
-    → cleared table first n ≡ put (recordStart first) (entrySize * n) (replicate (entrySize * n) 0) table
-unfolding cleared
-cleared-put table first n =
-    ap (λ m. put (recordStart first) m (replicate (entrySize * n) 0) table) (length-replicate (entrySize * n) 0)
-
 pub cleared-more : (table mid new : List ℕ) (first n : ℕ) → recordStart (first + n) + 16 ≤ length table
     → mid ≡ cleared table first n → new ≡ put (recordStart (first + n)) 16 (replicate 16 0) mid
     → new ≡ cleared table first (n + 1)
+unfolding cleared
 cleared-more table mid new first n room one two =
     let at : recordStart (first + n) ≡ recordStart first + entrySize * n = omega arith in
     let more : entrySize * n + 16 ≡ entrySize * (n + 1) = omega arith in
     put-next (recordStart first) (entrySize * n) 16 (replicate (entrySize * n) 0) (replicate 16 0) table mid new
-    (length-replicate (entrySize * n) 0) refl (omega arith)
-    (one ∙ cleared-put table first n)
-    (two ∙ ap (λ k. put k 16 (replicate 16 0) mid) at)
+    (length-replicate (entrySize * n) 0) refl (omega arith) one (two ∙ ap (λ k. put k 16 (replicate 16 0) mid) at)
     ∙ ap (λ bs. put (recordStart first) (entrySize * n + 16) bs table) (replicate-append-replicate (entrySize * n) 16 0)
     ∙ ap (λ m. put (recordStart first) m (replicate m 0) table) more
-    ∙ sym (cleared-put table first (n + 1))
 
 ------------------------------------------------------------------------
 -- one entry
 
-module _ (table places numbers : List ℕ) (k free : ℕ) where
+-- a record copied to itself
+copied-self : (k : ℕ) (old : List ℕ) → old ≡ put (recordStart k) entrySize (recordAt old k) old
+unfolding recordAt
+copied-self k old =
+    let at : ℕ = recordStart k in
+    sym
+    (ap (λ bs. take at old ++ (take entrySize (drop at old) ++ bs)) (sym (drop-drop entrySize at old))
+    ∙ ap (λ bs. take at old ++ bs) (take-append-drop entrySize (drop at old))
+    ∙ take-append-drop at old)
+
+module _ (table numbers : List ℕ) (k free : ℕ) where
   -- it leaves
   module _ (h : getD numbers (entryAt table k .cell .output) 0 ≡ k) where
-    leaves : stays table numbers k ≡ false
-    unfolding stays
+    leaves : stays numbers (waitsAt table k) ≡ false
+    unfolding stays waitsAt
     leaves = ap not (eq-eqb _ _ h)
 
     pub free-leave : free ≡ freeAfter table numbers k free
     unfolding freeAfter
-    free-leave = sym (cond-fail (stays table numbers k) (free + 1) free leaves)
+    free-leave = sym (cond-fail _ _ _ leaves)
 
-    pub closed-leave : table ≡ closedOne table places numbers k free
+    pub closed-leave : table ≡ closedOne table numbers k free
     unfolding closedOne
-    closed-leave =
-        sym (cond-fail (stays table numbers k) (putAt free (entryBytes (entryPlaced table places k)) table) table leaves)
+    closed-leave = sym (cond-fail _ _ _ leaves)
 
   -- it stays
-  module _ (h : getD numbers (entryAt table k .cell .output) 0 ≡ k → ⊥) where
-    remains : stays table numbers k ≡ true
-    unfolding stays
-    remains = ap not (ne-eqb _ _ h)
+  pub stays-i : (getD numbers (entryAt table k .cell .output) 0 ≡ k → ⊥) → stays numbers (waitsAt table k) ≡ true
+  unfolding stays waitsAt
+  stays-i h = ap not (ne-eqb _ _ h)
 
+  module _ (h : stays numbers (waitsAt table k) ≡ true) where
     pub free-stay : free + 1 ≡ freeAfter table numbers k free
     unfolding freeAfter
-    free-stay = sym (cond-pass (stays table numbers k) (free + 1) free remains)
+    free-stay = sym (cond-pass _ _ _ h)
 
-    pub closed-stay : (at : ℕ) (mid : List ℕ) → recordAt table k ≡ entryBytes (entryAt table k)
-        → recordStart free ≤ length table → 1 ≤ getD places k 0 → getD places k 0 ≤ 3 → at ≡ recordStart free
-        → mid ≡ put (recordStart free) entrySize (recordAt table k) table
-        → set mid (at + 2) (getD places k 0) ≡ closedOne table places numbers k free
-    unfolding closedOne entryWith entryPlaced
-    closed-stay at mid exact room low high e copied =
-        ap₂ (λ bs n. set bs (n + 2) (getD places k 0)) copied e
-        ∙ placed-put (recordStart free) (getD places k 0) (entryAt table k) (recordAt table k) table exact room low high
-        ∙ ap (λ w. put (recordStart free) w (entryBytes (entryPlaced table places k)) table)
-        (sym (length-entryBytes (entryPlaced table places k)))
-        ∙ sym
-        (cond-pass (stays table numbers k) (putAt free (entryBytes (entryPlaced table places k)) table) table remains)
+    pub closed-stay : put (recordStart free) entrySize (recordAt table k) table ≡ closedOne table numbers k free
+    unfolding closedOne
+    closed-stay = sym (cond-pass _ _ _ h)
 
 ------------------------------------------------------------------------
--- one entry more closes up
+-- the entries that stay
 
 -- the bytes from a record on decide it and its entry
 pub entryAt-same : (old new : List ℕ) (k : ℕ) → drop (recordStart k) new ≡ drop (recordStart k) old
@@ -129,188 +120,199 @@ entriesBytes-last : (es : List Entry) (e : Entry) → entriesBytes (es ++ (e ∷
 unfolding entriesBytes
 entriesBytes-last es e = entriesBytes-append es (e ∷ []) ∙ ap (λ bs. entriesBytes es ++ bs) (append-nil (entryBytes e))
 
-module _ (table places numbers : List ℕ) (first : ℕ) where
-  pub staying-none : staying table places numbers first 0 ≡ []
+module _ (table numbers : List ℕ) (first : ℕ) where
+  staying-none : staying table numbers first 0 ≡ []
   unfolding staying numbersFrom keep
   staying-none = refl
 
-  staying-stay : (n : ℕ) → stays table numbers (first + n) ≡ true
-      → staying table places numbers first (n + 1)
-      ≡ staying table places numbers first n ++ (entryPlaced table places (first + n) ∷ [])
-  unfolding staying
-  staying-stay n h =
-      let more : n + 1 ≡ suc n = omega arith in
-      ap (map (entryPlaced table places))
-      (ap (λ m. keep (stays table numbers) (numbersFrom first m)) more
-      ∙ ap (keep (stays table numbers)) (numbersFrom-more first n)
-      ∙ keep-append (stays table numbers) (numbersFrom first n) ((first + n) ∷ [])
-      ∙ ap (λ l. keep (stays table numbers) (numbersFrom first n) ++ l)
-      (keep-pass (stays table numbers) (first + n) [] h ∙ ap (λ l. (first + n) ∷ l) (keep-nil (stays table numbers))))
-      ∙ map-append (entryPlaced table places) (keep (stays table numbers) (numbersFrom first n)) ((first + n) ∷ [])
+  staying-stay : stays numbers (waitsAt table first) ≡ true → staying table numbers first 1 ≡ entryAt table first ∷ []
+  unfolding staying numbersFrom waitsAt
+  staying-stay h =
+      ap (map Numbering.entryOf)
+      (keep-pass (stays numbers) (waitsAt table first) [] h
+      ∙ ap (λ l. waitsAt table first ∷ l) (keep-nil (stays numbers)))
 
-  staying-leave : (n : ℕ) → stays table numbers (first + n) ≡ false
-      → staying table places numbers first (n + 1) ≡ staying table places numbers first n
-  unfolding staying
-  staying-leave n h =
-      let more : n + 1 ≡ suc n = omega arith in
-      ap (map (entryPlaced table places))
-      (ap (λ m. keep (stays table numbers) (numbersFrom first m)) more
-      ∙ ap (keep (stays table numbers)) (numbersFrom-more first n)
-      ∙ keep-append (stays table numbers) (numbersFrom first n) ((first + n) ∷ [])
-      ∙ ap (λ l. keep (stays table numbers) (numbersFrom first n) ++ l)
-      (keep-fail (stays table numbers) (first + n) [] h ∙ keep-nil (stays table numbers))
-      ∙ append-nil (keep (stays table numbers) (numbersFrom first n)))
+  staying-leave : stays numbers (waitsAt table first) ≡ false → staying table numbers first 1 ≡ []
+  unfolding staying numbersFrom
+  staying-leave h =
+      ap (map Numbering.entryOf) (keep-fail (stays numbers) (waitsAt table first) [] h ∙ keep-nil (stays numbers))
 
-  pub length-staying : (n : ℕ) → length (staying table places numbers first n) ≤ n
+  staying-next : (n : ℕ)
+      → staying table numbers first (n + 1) ≡ staying table numbers first n ++ staying table numbers (first + n) 1
+  unfolding staying
+  staying-next n =
+      ap (λ l. map Numbering.entryOf (keep (stays numbers) (map (waitsAt table) l))) (numbersFrom-add first n 1)
+      ∙ ap (λ l. map Numbering.entryOf (keep (stays numbers) l))
+      (map-append (waitsAt table) (numbersFrom first n) (numbersFrom (first + n) 1))
+      ∙ ap (map Numbering.entryOf)
+      (keep-append (stays numbers) (map (waitsAt table) (numbersFrom first n))
+      (map (waitsAt table) (numbersFrom (first + n) 1)))
+      ∙ map-append Numbering.entryOf (keep (stays numbers) (map (waitsAt table) (numbersFrom first n)))
+      (keep (stays numbers) (map (waitsAt table) (numbersFrom (first + n) 1)))
+
+  pub length-staying : (n : ℕ) → length (staying table numbers first n) ≤ n
   unfolding staying
   length-staying n =
+      let all : List Waiting = map (waitsAt table) (numbersFrom first n) in
       omega (
         arith,
-        length-map (keep (stays table numbers) (numbersFrom first n)) (entryPlaced table places),
-        length-keep (stays table numbers) (numbersFrom first n),
-        count-le-length (stays table numbers) (numbersFrom first n),
+        length-map (keep (stays numbers) all) Numbering.entryOf,
+        length-keep (stays numbers) all,
+        count-le-length (stays numbers) all,
+        length-map (numbersFrom first n) (waitsAt table),
         length-numbersFrom first n,
       )
 
-  -- as many bytes as the entries have
-  closed-put : (n : ℕ)
-      → let es = staying table places numbers first n in
-      closed table places numbers first n ≡ put (recordStart first) (entrySize * length es) (entriesBytes es) table
-  unfolding closed
-  closed-put n =
-      let es = staying table places numbers first n in
-      ap (λ m. put (recordStart first) m (entriesBytes es) table) (length-entriesBytes es)
+------------------------------------------------------------------------
+-- the table while a section closes up
 
-  -- the table while the entries from `first` up to k close up
+module _ (table numbers : List ℕ) (first : ℕ) where
+  -- n entries have closed up
+  abbrev closed : ℕ → List ℕ
+  closed n =
+      let es = staying table numbers first n in
+      put (recordStart first) (entrySize * length es) (entriesBytes es) table
+
+  -- the entries from `first` up to k have
   pub record Closing (k free : ℕ) (now : List ℕ) : Type 0 where
     pub low : first ≤ k
-    pub next : free ≡ first + length (staying table places numbers first (k - first))
-    pub bytes : now ≡ closed table places numbers first (k - first)
+    pub next : free ≡ first + length (staying table numbers first (k - first))
+    pub bytes : now ≡ closed (k - first)
 
-  closed-none : closed table places numbers first 0 ≡ table
-  unfolding closed entriesBytes
-  closed-none = ap (λ es. putAt first (entriesBytes es) table) staying-none ∙ put-nil (recordStart first) table
-
-  pub closing-none : Closing first first table
+  closing-none : Closing first first table
+  unfolding entriesBytes
   closing-none =
-      let none : _≡_ {A = ℕ} (first - first) 0 = omega arith in
-      let empty : _≡_ {A = ℕ} (length (staying table places numbers first (first - first))) 0 =
-      ap (λ n. length (staying table places numbers first n)) none ∙ ap length staying-none in
+      let none : staying table numbers first (first - first) ≡ [] =
+      ap (staying table numbers first) (omega arith) ∙ staying-none table numbers first in
       record {
         low = omega arith;
-        next = omega arith;
-        bytes = sym (ap (closed table places numbers first) none ∙ closed-none);
+        next = omega (arith, ap length none);
+        bytes =
+            sym (ap (λ es. put (recordStart first) (entrySize * length es) (entriesBytes es) table) none
+            ∙ put-nil (recordStart first) table);
       }
 
-  module _ {end : ℕ} (m : Movable table places first end) {k free : ℕ} {now : List ℕ} (c : Closing k free now)
-      (l : k < end) where
+module _ (table numbers : List ℕ) {input from : ℕ} (r : Removable table numbers input from) where
+  abbrev first : ℕ
+  first = cellLimit * input
+
+  abbrev count : ℕ
+  count = countIn table input
+
+  module _ {k free : ℕ} {now : List ℕ} (c : Closing table numbers (cellLimit * input) k free now)
+      (l : k < cellLimit * input + countIn table input) where
     abbrev kept : List Entry
-    kept = staying table places numbers first (k - first)
+    kept = staying table numbers first (k - first)
 
     pub closing-free : free ≤ k
-    closing-free = omega (arith, c .next, c .low, length-staying (k - first))
+    closing-free = omega (arith, c .next, c .low, length-staying table numbers first (k - first))
+
+    pub closing-number : k < 1024
+    closing-number = omega (arith, r .count, r .port)
 
     room : recordStart first + entrySize * length kept ≤ recordStart k
     room = omega (arith, c .next, closing-free)
 
     fits : recordStart k + entrySize ≤ length table
-    fits = omega (arith, m .limit, m .size)
-
-    bytes-put : now ≡ put (recordStart first) (entrySize * length kept) (entriesBytes kept) table
-    bytes-put = c .bytes ∙ closed-put (k - first)
+    fits = omega (arith, closing-number, r .size)
 
     pub closing-size : length now ≡ tableSize
     closing-size =
-        ap length bytes-put
+        ap length (c .bytes)
         ∙ length-put (recordStart first) (entrySize * length kept) (entriesBytes kept) table (length-entriesBytes kept)
         (omega (arith, room, fits))
-        ∙ m .size
+        ∙ r .size
 
     -- from this record on the bytes are the table's
     closing-rest : drop (recordStart k) now ≡ drop (recordStart k) table
     closing-rest =
-        ap (drop (recordStart k)) bytes-put
+        ap (drop (recordStart k)) (c .bytes)
         ∙ drop-put (recordStart first) (entrySize * length kept) (entriesBytes kept) table (length-entriesBytes kept)
         (omega (arith, room, fits)) (recordStart k) room
 
-    pub closing-entry : entryAt now k ≡ entryAt table k
+    closing-entry : entryAt now k ≡ entryAt table k
     closing-entry = entryAt-same table now k closing-rest
 
-    pub closing-bytes : recordAt now k ≡ entryBytes (entryAt now k)
-    closing-bytes = recordAt-same table now k closing-rest ∙ m .bytes k (c .low) l ∙ ap entryBytes (sym closing-entry)
-
     pub closing-output : entryAt now k .cell .output < 16
-    closing-output = rw closing-entry (m .outputs k (c .low) l)
+    closing-output = rw closing-entry (r .outputs k (c .low) l)
 
-    stays-same : stays now numbers k ≡ stays table numbers k
-    unfolding stays
-    stays-same = ap (λ e. not (eqb (getD numbers (e .cell .output) 0) k)) closing-entry
+    stays-same : stays numbers (waitsAt now k) ≡ stays numbers (waitsAt table k)
+    unfolding waitsAt
+    stays-same = ap (λ e. stays numbers (record { at = k; cell = e .cell; place = e .place })) closing-entry
 
-    placed-same : entryPlaced now places k ≡ entryPlaced table places k
-    unfolding entryPlaced
-    placed-same = ap (λ e. record { cell = e .cell; place = placeOf (getD places k 0) }) closing-entry
-
-    pub closing-more : (r : ℕ) (new : List ℕ) → r ≡ freeAfter now numbers k free
-        → new ≡ closedOne now places numbers k free → Closing (k + 1) r new
-    unfolding freeAfter closedOne closed
-    closing-more r new e d = go (stays table numbers k) refl
+    pub closing-more : (next : ℕ) (new : List ℕ) → next ≡ freeAfter now numbers k free
+        → new ≡ closedOne now numbers k free → Closing table numbers (cellLimit * input) (k + 1) next new
+    unfolding freeAfter closedOne
+    closing-more next new e d = go (stays numbers (waitsAt table k)) refl
       where
-        n : ℕ
-        n = k - first
-
-        at : k ≡ first + n
+        at : first + (k - first) ≡ k
         at = omega (arith, c .low)
 
-        more : k + 1 - first ≡ n + 1
-        more = omega (arith, c .low)
+        grown : staying table numbers first (k + 1 - first) ≡ kept ++ staying table numbers k 1
+        grown =
+            ap (staying table numbers first) (omega (arith, c .low))
+            ∙ staying-next table numbers first (k - first)
+            ∙ ap (λ j. kept ++ staying table numbers j 1) at
 
-        x : Entry
-        x = entryPlaced table places k
-
-        go : (b : Bool) → stays table numbers k ≡ b → Closing (k + 1) r new
+        go : (b : Bool) → stays numbers (waitsAt table k) ≡ b → Closing table numbers first (k + 1) next new
         go true h =
-            let stay : stays now numbers k ≡ true = stays-same ∙ h in
-            let next : r ≡ free + 1 = e ∙ cond-pass (stays now numbers k) (free + 1) free stay in
+            let stay : stays numbers (waitsAt now k) ≡ true = stays-same ∙ h in
+            let x : Entry = entryAt table k in
+            let one : staying table numbers first (k + 1 - first) ≡ kept ++ (x ∷ []) =
+            grown ∙ ap (λ l. kept ++ l) (staying-stay table numbers k h) in
             let put-in : new ≡ put (recordStart free) entrySize (entryBytes x) now =
             d
-            ∙ cond-pass (stays now numbers k) (putAt free (entryBytes (entryPlaced now places k)) now) now stay
-            ∙ ap (λ y. putAt free (entryBytes y) now) placed-same
-            ∙ ap (λ w. put (recordStart free) w (entryBytes x) now) (length-entryBytes x) in
-            let grown : staying table places numbers first (k + 1 - first) ≡ kept ++ (x ∷ []) =
-            ap (staying table places numbers first) more
-            ∙ staying-stay n (rw at at h)
-            ∙ ap (λ j. kept ++ (entryPlaced table places j ∷ [])) (sym at) in
+            ∙ cond-pass _ _ _ stay
+            ∙ ap (λ bs. put (recordStart free) entrySize bs now)
+            (recordAt-same table now k closing-rest ∙ r .bytes k (c .low) l) in
             let size : length (kept ++ (x ∷ [])) ≡ length kept + 1 = length-append kept (x ∷ []) in
             let start : recordStart free ≡ recordStart first + entrySize * length kept = omega (arith, c .next) in
-            let width : entrySize * length kept + entrySize ≡ length (entriesBytes (kept ++ (x ∷ []))) =
-            omega (arith, length-entriesBytes (kept ++ (x ∷ []))) in
+            let width : entrySize * length kept + entrySize ≡ entrySize * length (kept ++ (x ∷ [])) = omega arith in
             record {
               low = omega (arith, c .low);
-              next = omega (arith, c .next, ap length grown);
+              next = omega (arith, e, cond-pass _ (free + 1) free stay, c .next, ap length one);
               bytes =
                   put-next (recordStart first) (entrySize * length kept) entrySize (entriesBytes kept) (entryBytes x)
-                  table now new (length-entriesBytes kept) (length-entryBytes x) (omega (arith, room, fits)) bytes-put
+                  table now new (length-entriesBytes kept) (length-entryBytes x) (omega (arith, room, fits)) (c .bytes)
                   (put-in ∙ ap (λ j. put j entrySize (entryBytes x) now) start)
                   ∙ ap₂ (λ w bs. put (recordStart first) w bs table) width (sym (entriesBytes-last kept x))
-                  ∙ ap (λ es. putAt first (entriesBytes es) table) (sym grown);
+                  ∙ ap (λ es. put (recordStart first) (entrySize * length es) (entriesBytes es) table) (sym one);
             }
         go false h =
-            let leave : stays now numbers k ≡ false = stays-same ∙ h in
-            let same : staying table places numbers first (k + 1 - first) ≡ kept =
-            ap (staying table places numbers first) more ∙ staying-leave n (rw at at h) in
+            let leave : stays numbers (waitsAt now k) ≡ false = stays-same ∙ h in
+            let same : staying table numbers first (k + 1 - first) ≡ kept =
+            grown ∙ ap (λ l. kept ++ l) (staying-leave table numbers k h) ∙ append-nil kept in
             record {
               low = omega (arith, c .low);
-              next =
-                  e
-                  ∙ cond-fail (stays now numbers k) (free + 1) free leave
-                  ∙ c .next
-                  ∙ ap (λ es. first + length es) (sym same);
+              next = e ∙ cond-fail _ _ _ leave ∙ c .next ∙ ap (λ es. first + length es) (sym same);
               bytes =
                   d
-                  ∙ cond-fail (stays now numbers k) (putAt free (entryBytes (entryPlaced now places k)) now) now leave
+                  ∙ cond-fail _ _ _ leave
                   ∙ c .bytes
-                  ∙ ap (λ es. putAt first (entriesBytes es) table) (sym same);
+                  ∙ ap (λ es. put (recordStart first) (entrySize * length es) (entriesBytes es) table) (sym same);
             }
+
+  -- the entries before `from` have closed up
+  closed-before : (n k : ℕ) → k ≡ first + n → k ≤ from → k ≤ first + count → Closing table numbers first k k table
+  closed-before zero k e h l =
+      let at : first ≡ k = omega arith in
+      subst (λ k. Closing table numbers first k k table) at (closing-none table numbers first)
+  closed-before (suc n) k e h l =
+      let j : ℕ = first + n in
+      let stay : stays numbers (waitsAt table j) ≡ true = r .before j (omega arith) (omega arith) (omega arith) in
+      let next : j + 1 ≡ k = omega arith in
+      subst (λ k. Closing table numbers first k k table) next
+      (closing-more (closed-before n j refl (omega arith) (omega arith)) (omega arith) (j + 1) table
+      (free-stay table numbers j j stay) (copied-self j table ∙ closed-stay table numbers j j stay))
+
+  pub closing-from : from < nowhere → Closing table numbers (cellLimit * input) from from table
+  closing-from h =
+      closed-before (from - first) from (omega (arith, r .own h)) (omega arith) (omega (arith, r .own h))
+
+  pub closing-all : nowhere ≤ from
+      → Closing table numbers (cellLimit * input) (cellLimit * input + countIn table input)
+      (cellLimit * input + countIn table input) table
+  closing-all h = closed-before count (first + count) refl (omega (arith, r .count, r .port)) (omega arith)
 
 ------------------------------------------------------------------------
 -- a section that has closed up
@@ -325,64 +327,79 @@ zeros-join a b c m z n e =
     ∙ ap (λ bs. bs ++ c) (replicate-append-replicate m z 0 ∙ ap (λ k. replicate k 0) e))
     ∙ sym (append-assoc b (replicate n 0) c))
 
-module _ (table places numbers : List ℕ) (input : ℕ) (r : Removable table places input) where
-  abbrev first : ℕ
-  first = cellLimit * input
+module _ (table numbers : List ℕ) {input from : ℕ} (r : Removable table numbers input from) where
+  abbrev start : ℕ
+  start = cellLimit * input
 
-  abbrev count : ℕ
-  count = countIn table input
+  abbrev entries : ℕ
+  entries = countIn table input
 
   abbrev left : List Entry
-  left = staying table places numbers first count
+  left = staying table numbers start entries
 
-  pub length-left : length left ≤ count
-  length-left = length-staying table places numbers first count
+  module _ {free : ℕ} {mid : List ℕ}
+      (c : Closing table numbers (cellLimit * input) (cellLimit * input + countIn table input) free mid) where
+    all : start + entries - start ≡ entries
+    all = omega arith
 
-  -- the bytes from the first record on
-  closed-cleared : (mid new : List ℕ) → mid ≡ closed table places numbers first count
-      → new ≡ cleared mid (first + length left) (count - length left)
-      → new
-      ≡ put (recordStart first) (entrySize * count)
-      (entriesBytes left ++ replicate (entrySize * (count - length left)) 0) table
-  closed-cleared mid new one two =
-      let m : ℕ = count - length left in
-      let few : length left ≤ count = length-left in
-      let start : recordStart (first + length left) ≡ recordStart first + entrySize * length left = omega arith in
-      let whole : entrySize * length left + entrySize * m ≡ entrySize * count = omega arith in
-      put-next (recordStart first) (entrySize * length left) (entrySize * m) (entriesBytes left)
-      (replicate (entrySize * m) 0) table mid new (length-entriesBytes left) (length-replicate (entrySize * m) 0)
-      (omega (arith, r .records .size, r .records .limit))
-      (one ∙ closed-put table places numbers first count)
-      (two
-      ∙ cleared-put mid (first + length left) m
-      ∙ ap (λ k. put k (entrySize * m) (replicate (entrySize * m) 0) mid) start)
-      ∙ ap (λ w. put (recordStart first) w (entriesBytes left ++ replicate (entrySize * m) 0) table) whole
+    free-is : free ≡ start + length left
+    free-is = c .next ∙ ap (λ n. start + length (staying table numbers start n)) all
 
-  -- with zeros up to the next section they are the section's
-  section-closed : (new : List ℕ)
-      → new
-      ≡ put (recordStart first) (entrySize * count)
-      (entriesBytes left ++ replicate (entrySize * (count - length left)) 0) table
-      → new
-      ≡ take (headerSize + sectionSize * input) table
-      ++ (sectionBytes left ++ drop (headerSize + sectionSize * (input + 1)) table)
-  unfolding sectionBytes
-  section-closed new e =
-      let rest : List ℕ = drop (headerSize + sectionSize * (input + 1)) table in
-      let start : recordStart first ≡ headerSize + sectionSize * input = omega arith in
-      let end : recordStart first + entrySize * count ≡ recordStart (first + count) = omega arith in
-      let zeros : entrySize * (count - length left) + (sectionSize - entrySize * count)
-      ≡ sectionSize - length (entriesBytes left) =
-      omega (arith, length-left, r .count, length-entriesBytes left) in
-      e
-      ∙ ap₂ (λ n bs. take n table ++ ((entriesBytes left ++ replicate (entrySize * (count - length left)) 0) ++ bs)) start
-      (ap (λ n. drop n table) end ∙ r .rest)
-      ∙ zeros-join (take (headerSize + sectionSize * input) table) (entriesBytes left) rest
-      (entrySize * (count - length left)) (sectionSize - entrySize * count) (sectionSize - length (entriesBytes left)) zeros
+    pub closed-low : cellLimit * input ≤ free
+    closed-low = omega (arith, free-is)
 
-  pub removed-section : (mid new : List ℕ) (n : ℕ) → mid ≡ closed table places numbers first count
-      → new ≡ cleared mid (first + length left) (count - length left) → n ≡ length left
-      → set new (16 + input) n ≡ removed table places numbers input
-  unfolding removed
-  removed-section mid new n one two e =
-      ap₂ (λ bs k. set bs (16 + input) k) (section-closed new (closed-cleared mid new one two)) e
+    pub closed-high : free ≤ cellLimit * input + countIn table input
+    closed-high = omega (arith, free-is, length-staying table numbers start entries)
+
+    closed-cleared : (new : List ℕ) → new ≡ cleared mid free (start + entries - free)
+        → new
+        ≡ put (recordStart start) (entrySize * entries)
+        (entriesBytes left ++ replicate (entrySize * (entries - length left)) 0) table
+    unfolding cleared
+    closed-cleared new e =
+        let m : ℕ = entries - length left in
+        let few : length left ≤ entries = length-staying table numbers start entries in
+        let freed : start + entries - free ≡ m = omega (arith, free-is) in
+        let at : recordStart free ≡ recordStart start + entrySize * length left = omega (arith, free-is) in
+        let whole : entrySize * length left + entrySize * m ≡ entrySize * entries = omega arith in
+        put-next (recordStart start) (entrySize * length left) (entrySize * m) (entriesBytes left)
+        (replicate (entrySize * m) 0) table mid new (length-entriesBytes left) (length-replicate (entrySize * m) 0)
+        (omega (arith, r .size, r .count, r .port))
+        (c .bytes
+        ∙ ap (λ n. closed table numbers start n) all)
+        (e
+        ∙ ap₂ (λ j n. put j (entrySize * n) (replicate (entrySize * n) 0) mid) at freed)
+        ∙ ap (λ w. put (recordStart start) w (entriesBytes left ++ replicate (entrySize * m) 0) table) whole
+
+    -- with zeros up to the next section the bytes are the section's
+    pub removed-section : (new : List ℕ) → new ≡ cleared mid free (cellLimit * input + countIn table input - free)
+        → set new (16 + input) (free - cellLimit * input) ≡ removed table numbers input
+    unfolding removed sectionBytes
+    removed-section new e =
+        let rest : List ℕ = drop (headerSize + sectionSize * (input + 1)) table in
+        let at : recordStart start ≡ headerSize + sectionSize * input = omega arith in
+        let end : recordStart start + entrySize * entries ≡ recordStart (start + entries) = omega arith in
+        let few : length left ≤ entries = length-staying table numbers start entries in
+        let zeros : entrySize * (entries - length left) + (sectionSize - entrySize * entries)
+        ≡ sectionSize - length (entriesBytes left) =
+        omega (arith, r .count, length-entriesBytes left) in
+        ap₂ (λ bs n. set bs (16 + input) n)
+        (closed-cleared new e
+        ∙ ap₂ (λ n bs. take n table ++ ((entriesBytes left ++ replicate (entrySize * (entries - length left)) 0) ++ bs)) at
+        (ap (λ n. drop n table) end ∙ r .rest)
+        ∙ zeros-join (take (headerSize + sectionSize * input) table) (entriesBytes left) rest
+        (entrySize * (entries - length left)) (sectionSize - entrySize * entries)
+        (sectionSize - length (entriesBytes left)) zeros)
+        (omega (arith, free-is))
+
+  -- no cell leaves
+  pub removed-none : nowhere ≤ from → table ≡ removed table numbers input
+  unfolding countIn
+  removed-none h =
+      let end : ℕ = start + entries in
+      let none : end - end ≡ 0 = omega arith in
+      let count : end - start ≡ entries = omega arith in
+      sym (set-getD table (16 + input) 0)
+      ∙ ap (set table (16 + input)) (sym count)
+      ∙ removed-section (closing-all table numbers r h) table
+      (sym (ap (cleared table end) none ∙ cleared-none table end))

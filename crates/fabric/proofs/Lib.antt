@@ -1,4 +1,4 @@
 pub mod Course
-pub mod Positions
+pub mod Numbers
 pub mod Settling
-pub mod Turn
+pub mod Unmatched

@@ -1,22 +1,22 @@
-// Scope 3, one slot, on the table of a sound state and whole records that have no fault: arrival, the two phases and
-// departure.
+// Scope 3, one slot, on the table of a sound state from where its cells have arrived: the two phases and departure.
 use crate::phase::phase;
-use arrival::arrive;
 use departure::depart;
-use places::load;
+use loading::load;
+use places::NO_KEY;
+use places::NOWHERE;
+use table::entry::PORTS;
 ghost use mathlib.Core.Path.{_≡_};
-ghost use mathlib.Core.Option.{none};
-ghost use Prim.Native.Nat.{_≤_, _<_};
+ghost use Prim.Native.Nat.{_≤_};
 ghost use mathlib.Core.List.{_++_};
-ghost use lib.ListN.{length, take, drop};
+ghost use lib.ListN.{length, take, drop, replicate};
+ghost use Rattle.cell.specs.Limits.{portLimit};
+ghost use Rattle.places.specs.Choices.{nowhere};
 ghost use Rattle.model.specs.Crossbar.{answerOf};
 ghost use Rattle.layout.specs.Answer.{answerBytes, answerSize};
-ghost use Rattle.layout.specs.Entry.{clockIn};
 ghost use Rattle.layout.specs.Host.{filled};
 ghost use Rattle.layout.specs.Number.{bytesOf};
-ghost use Rattle.layout.specs.Table.{IsTable, encode};
-ghost use Rattle.arrival.specs.Fault.{faultIn};
-ghost use Rattle.fabric.specs.Slot.{courseIn, Scheduled};
+ghost use Rattle.layout.specs.Table.{IsTable, encode, stateOf};
+ghost use Rattle.fabric.specs.Slot.{courseOf, Scheduled};
 
 // Scheduling is done twice.
 const PHASES: usize = 2;
@@ -27,45 +27,34 @@ struct Proposals {
     second: u32,
 }
 
-// The course of a slot that is not turned back.
-pub fn run(table: &mut [u8], arrivals: &[u8], answer: &mut [u8])
+// The course of a slot whose cells have arrived and whose clock has risen.
+pub fn run(table: &mut [u8], answer: &mut [u8])
     requires { ⌜ IsTable (now table) ⌝ }
-    requires { ⌜ faultIn (now table) (now arrivals) ≡ none ⌝ }
-    requires { ⌜ clockIn (now table) < 4294967295 ⌝ }
     requires { ⌜ answerSize ≤ length (now answer) ⌝ }
-    ensures { λ _. ⌜ now (table .exit) ≡ encode (courseIn (now (table .entry)) (now (arrivals .entry)) .switch) ⌝ }
-    ensures { λ _. ⌜ now (answer .exit) ≡ filled (answerBytes (answerOf (courseIn (now (table .entry)) (now (arrivals .entry))))) (now (answer .entry)) ⌝ }
+    ensures { λ _. ⌜ now (table .exit) ≡ encode (courseOf (stateOf (now (table .entry))) .switch) ⌝ }
+    ensures { λ _. ⌜ now (answer .exit) ≡ filled (answerBytes (answerOf (courseOf (stateOf (now (table .entry)))))) (now (answer .entry)) ⌝ }
 {
-    arrive(table, arrivals);
-    let mut places = [0u8; 1024];
-    let proposals = schedule(table, &mut places);
-    depart(table, &places, answer);
+    let mut best = [NOWHERE; PORTS];
+    let proposals = schedule(table, &mut best);
+    depart(table, &best, answer);
     write_proposals(answer, proposals);
 }
 
-// The two phases: the column gets the places after them.
-fn schedule(table: &[u8], places: &mut [u8]) -> Proposals
-    requires { ⌜ IsTable (now table) ⌝ }
-    requires { ⌜ length (now places) ≡ 1024 ⌝ }
-    ensures { λ r. ⌜ Scheduled (now (table .entry)) (now (places .exit)) (r .first) (r .second) ⌝ }
+// The two phases, on a view of the table that is made once. `best` is lent with no cell in it and gets the best buffered
+// cell of each output.
+fn schedule(table: &mut [u8], best: &mut [u16; PORTS]) -> Proposals
+    requires { ⌜ IsTable (now table) × (now best ≡ replicate portLimit nowhere) ⌝ }
+    ensures { λ r. ⌜ Scheduled (stateOf (now (table .entry))) (now (table .exit)) (now (best .exit)) (r .first) (r .second) ⌝ }
 {
-    let mut numbers = [0u16; 1024];
-    let mut outputs = [0u8; 1024];
-    let mut ranks = [0u32; 1024];
-    let mut slots = [0u32; 1024];
-    let mut cross = load(table, places);
+    let mut listed = [0u64; PORTS];
+    let mut heads = [0u64; PORTS];
+    let mut cross = [[NOWHERE; PORTS]; PORTS];
+    let mut keys = [[NO_KEY; PORTS]; PORTS];
+    load(table, &mut listed, &mut heads, &mut cross, &mut keys, best);
     let mut made = [0u32; PHASES];
     let mut n = 0;
     while n < PHASES {
-        made[n] = phase(
-            table,
-            places,
-            &mut cross,
-            &mut numbers,
-            &mut outputs,
-            &mut ranks,
-            &mut slots,
-        );
+        made[n] = phase(table, &mut listed, &mut heads, &mut cross, &mut keys, best);
         n += 1;
     }
     let first = made[0];

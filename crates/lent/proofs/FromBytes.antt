@@ -1,4 +1,5 @@
 -- Records read from bytes, and a slot on the first of them.
+--     arrivalAt-fields         the record at a place, by its fields
 --     read-none, read-next     the records read so far
 --     lent-first              a slot looks at no record behind the seventeenth
 --     lent-torn, lent-called   a slot on bytes: no whole number of records, or the slot on the first of them
@@ -12,7 +13,7 @@ use mathlib.Core.Path.{_≡_, refl, sym, ap, ap₂, _∙_}
 use borrow.Author.Tests.{ltb-true, ltb-false}
 use lib.Dec.{ltb, eqb}
 use lib.ListN.{length, take, drop, set, take-append-drop, length-map, length-take}
-use lib.Seq.{take-suc-set, take-all, length-take-le}
+use lib.Seq.{take-suc-set, take-all, length-take-le, drop-drop}
 use Rattle.cell.specs.declared.Arrival.{Arrival}
 use Rattle.cell.specs.declared.Cell.{Cell}
 use Rattle.cell.specs.declared.Refusal.{Refusal}
@@ -29,22 +30,56 @@ use Rattle.model.proofs.CheckOrder.{faults-first, faults-next}
 use Rattle.layout.specs.Answer.{answerSize}
 use Rattle.layout.specs.Arrivals.{arrivalSize, arrivalOf, arrivalsOf, recordsOf}
 use Rattle.layout.specs.Host.{slotOf, tableAfter, answerAfter}
+use Rattle.layout.specs.Number.{word}
 use Rattle.layout.specs.Table.{decode}
 use Rattle.layout.specs.TallyBytes.{tallyOf, tallyBytes}
 use Rattle.layout.proofs.Arrivals.{recordsOf-whole, recordsOf-broken, length-arrivalsOf}
+use Rattle.layout.proofs.Records.{numberAt-part}
 use Rattle.layout.proofs.Table.{decode-sound, sound-ports}
 use Rattle.arrival.specs.declared.Fault.{Fault}
 use Rattle.arrival.specs.declared.Fault.the-variants.{At}
-use Rattle.arrival.specs.Fault.{arrivalAt, turnAfter}
+use Rattle.arrival.specs.Fault.{turnAfter}
 use Rattle.arrival.proofs.Faults.{port-input, turn-after}
 use Rattle.fabric.specs.Slot.{refusalOf}
 use Rattle.tally.specs.Counted.{countedAs}
-use Rattle.lent.specs.Lent.{lentSlot}
+use Rattle.lent.specs.Lent.{lentSlot, arrivalAt}
 use Rattle.lent.specs.Looked.{recordsSlot}
-use Rattle.lent.proofs.Copies.{arrivalsOf-more}
 
 ------------------------------------------------------------------------
 -- the bytes
+
+module _ (bs : List ℕ) (k : ℕ) where
+  arrivalAt-word : (at : ℕ) → at + 4 ≤ 20
+      → word bs (20 * k + at) ≡ word (take arrivalSize (drop (arrivalSize * k) bs)) at
+  unfolding word
+  arrivalAt-word at h = sym (numberAt-part 4 at 20 (20 * k) bs h)
+
+  -- the record whose fields are read
+  pub arrivalAt-fields : (a : Arrival) → a .input ≡ word bs (20 * k) → a .output ≡ word bs (20 * k + 4)
+      → a .flow ≡ word bs (20 * k + 8) → a .rank ≡ word bs (20 * k + 12) → a .tag ≡ word bs (20 * k + 16)
+      → a ≡ arrivalAt bs k
+  unfolding arrivalAt arrivalOf
+  arrivalAt-fields a i o f r t =
+      let first : 20 * k ≡ 20 * k + 0 = omega arith in
+      λ x. record {
+        input = (i ∙ ap (word bs) first ∙ arrivalAt-word 0 (omega arith)) x;
+        output = (o ∙ arrivalAt-word 4 (omega arith)) x;
+        flow = (f ∙ arrivalAt-word 8 (omega arith)) x;
+        rank = (r ∙ arrivalAt-word 12 (omega arith)) x;
+        tag = (t ∙ arrivalAt-word 16 (omega arith)) x;
+      }
+
+-- one more
+arrivalsOf-more : (n : ℕ) (bs : List ℕ)
+    → arrivalsOf (suc n) bs ≡ arrivalsOf n bs ++ (arrivalOf (take arrivalSize (drop (arrivalSize * n) bs)) ∷ [])
+unfolding arrivalsOf
+arrivalsOf-more zero bs = refl
+arrivalsOf-more (suc n) bs =
+    let next : arrivalSize + arrivalSize * n ≡ arrivalSize * suc n = omega arith in
+    ap (λ l. arrivalOf (take arrivalSize bs) ∷ l)
+    (arrivalsOf-more n (drop arrivalSize bs)
+    ∙ ap (λ l. arrivalsOf n (drop arrivalSize bs) ++ (arrivalOf (take arrivalSize l) ∷ []))
+    (drop-drop (arrivalSize * n) arrivalSize bs ∙ ap (λ k. drop k bs) next))
 
 pub read-none : (bs : List ℕ) → [] ≡ arrivalsOf 0 bs
 unfolding arrivalsOf

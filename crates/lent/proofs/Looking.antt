@@ -4,22 +4,22 @@
 --     next-input                                            a record without a fault has an input in its turn
 --     looked-behind, looked-fault, looked-next              behind a fault; a record with a fault; a record without
 --     looked-all                                            all records have been looked at
-use Prim.Native.Nat.{ℕ, zero, suc, _+_, _*_, _≤_, _<_, min}
+use Prim.Native.Nat.{ℕ, zero, suc, _+_, _≤_, _<_, min}
 use native.Mathlib.Omega.{arith}
-use mathlib.Core.Bool.{true, false}
+use mathlib.Core.Bool.{false}
 use mathlib.Core.Logic.{_≢_}
-use mathlib.Core.List.{List, [], _∷_, _++_, map}
+use mathlib.Core.List.{List, [], _∷_, map}
 use mathlib.Core.Option.{Option, none, some}
 use mathlib.Core.Path.{_≡_, refl, sym, ap, ap₂, _∙_, subst}
-use borrow.Author.Tests.{ltb-false, leb-true, lt-ltb, le-ltb, le-leb, ne-eqb}
-use lib.Dec.{ltb, leb}
-use lib.ListN.{length, take, drop, length-map, drop-of-length-le}
-use Rattle.laws.proofs.Tests.{clash, and-i}
+use borrow.Author.Tests.{ltb-false, leb-true, lt-ltb, le-ltb, ne-eqb}
+use lib.Dec.{ltb}
+use lib.ListN.{length, drop, length-map, drop-of-length-le}
+use Rattle.laws.proofs.Tests.{clash}
 use Rattle.cell.specs.declared.Arrival.{Arrival}
 use Rattle.cell.specs.declared.Cell.{Cell}
 use Rattle.cell.specs.declared.Refusal.{Refusal}
 use Rattle.cell.specs.declared.Refusal.the-variants.{BrokenTable, ClockEnd, ShortBuffer}
-use Rattle.cell.specs.Cell.{accepted, arrivalFits}
+use Rattle.cell.specs.Cell.{accepted}
 use Rattle.cell.specs.Limits.{clockEnd, portLimit, fits32}
 use Rattle.model.specs.State.{Switch, cells}
 use Rattle.model.specs.Checks.{done, refused, fault, faultFrom, firstFault}
@@ -27,7 +27,6 @@ use Rattle.model.specs.Crossbar.{run, slot}
 use Rattle.model.proofs.Admitted.{faultless}
 use Rattle.model.proofs.CheckOrder.{slot-clock-end, faults-first, faults-next}
 use Rattle.layout.specs.Answer.{answerSize}
-use Rattle.layout.specs.Arrivals.{arrivalSize, arrivalBytes, arrivalsOf}
 use Rattle.layout.specs.Entry.{portsIn, clockIn}
 use Rattle.layout.specs.Host.{slotOf}
 use Rattle.layout.specs.Table.{stateOf, decode, isTable, IsTable}
@@ -35,13 +34,11 @@ use Rattle.layout.specs.TallyBytes.{tallySize}
 use Rattle.layout.proofs.Table.{isTable-some, sound-clock}
 use Rattle.arrival.specs.declared.Fault.{Fault}
 use Rattle.arrival.specs.declared.Fault.the-variants.{Clear, At}
-use Rattle.arrival.specs.Fault.{faultAt, turnAfter}
+use Rattle.arrival.specs.Fault.{coming, faultAt, turnAfter}
 use Rattle.arrival.proofs.Faults.{port-input, turn-after, clear-not}
 use Rattle.arrival.proofs.Stored.{table-sound, table-ports, table-clock, ports-below}
-use Rattle.fabric.specs.Slot.{refusalOf}
 use Rattle.lent.specs.declared.records.Checked.{Checked}
-use Rattle.lent.specs.Looked.{recordsSlot, cellsOf, Open, Before, Passed, LookedAt, Looked, StandingAt, Found}
-use Rattle.lent.proofs.Copies.{copied-next}
+use Rattle.lent.specs.Looked.{recordsSlot, Open, Before, Passed, LookedAt, Looked, StandingAt, FoundAt, Found}
 
 ------------------------------------------------------------------------
 -- a slot on lent records
@@ -79,29 +76,29 @@ module _ (table : List ℕ) (room : ℕ) where
 
   -- then by the first fault of its records
   by-fault : (records : List Arrival) (o : Option (Refusal × ℕ)) → (stateOf table .clock ≡ clockEnd → ⊥)
-      → firstFault (stateOf table .ports) (cells (stateOf table)) (cellsOf table records) ≡ o
+      → firstFault (stateOf table .ports) (cells (stateOf table)) (coming (stateOf table) records) ≡ o
       → slot (stateOf table) (some records)
-      ≡ elim o [ some f ↦ refused (f .0) (f .1) | none ↦ done (run (stateOf table) (cellsOf table records)) ]
-  unfolding slot cellsOf
+      ≡ elim o [ some f ↦ refused (f .0) (f .1) | none ↦ done (run (stateOf table) (coming (stateOf table) records)) ]
+  unfolding slot coming
   by-fault records o early f = rw (ne-eqb (stateOf table .clock) clockEnd early, f, slot)
 
   pub lent-fault : Open table room → (records : List Arrival) (o : Option (Refusal × ℕ))
-      → firstFault (portsIn table) (cells (stateOf table)) (cellsOf table records) ≡ o
+      → firstFault (portsIn table) (cells (stateOf table)) (coming (stateOf table) records) ≡ o
       → recordsSlot table room records
-      ≡ elim o [ some f ↦ refused (f .0) (f .1) | none ↦ done (run (stateOf table) (cellsOf table records)) ]
+      ≡ elim o [ some f ↦ refused (f .0) (f .1) | none ↦ done (run (stateOf table) (coming (stateOf table) records)) ]
   lent-fault h records o e =
       lent-slot (h .sound) (h .space) records
       ∙ by-fault records o
       (λ q. let z : clockIn table ≡ clockEnd = sym (table-clock table (h .sound)) ∙ q in omega (arith, h .early))
-      (ap (λ p. firstFault p (cells (stateOf table)) (cellsOf table records)) (table-ports table (h .sound)) ∙ e)
+      (ap (λ p. firstFault p (cells (stateOf table)) (coming (stateOf table) records)) (table-ports table (h .sound)) ∙ e)
 
 ------------------------------------------------------------------------
 -- before any record
 
 module _ (table : List ℕ) (room : ℕ) (records : List Arrival) where
-  pub looked-before : (f : Fault) (bytes : List ℕ) → Before table room f → LookedAt table room records 0 f 0 bytes
-  unfolding turnAfter firstFault arrivalsOf
-  looked-before Clear bytes h =
+  pub looked-before : (f : Fault) → Before table room f → LookedAt table room records 0 f 0
+  unfolding turnAfter firstFault
+  looked-before Clear h =
       record {
         clear = h;
         few = omega arith;
@@ -109,14 +106,12 @@ module _ (table : List ℕ) (room : ℕ) (records : List Arrival) where
         before = none;
         after = refl;
         rest = refl;
-        copied = refl;
       }
-  looked-before (At r place) bytes h = h records
+  looked-before (At r place) h = h records
 
-  pub looked-standing : (n : ℕ) (f : Fault) (turn : ℕ) (bytes : List ℕ) → LookedAt table room records n f turn bytes
-      → StandingAt table n f turn
-  looked-standing n Clear turn bytes l = (l .clear .sound, (l .few, l .low))
-  looked-standing n (At r place) turn bytes l = tt
+  pub looked-standing : (n : ℕ) (f : Fault) (turn : ℕ) → LookedAt table room records n f turn → StandingAt table n f turn
+  looked-standing n Clear turn l = (l .clear .sound, (l .few, l .low))
+  looked-standing n (At r place) turn l = tt
 
 pub standing-clear : (table : List ℕ) (n : ℕ) (f : Fault) (turn : ℕ) → f ≡ Clear → StandingAt table n f turn
     → IsTable table × ((n ≤ turn) × (turn ≤ portLimit))
@@ -149,18 +144,6 @@ says-clear table turn place c found says clear before e = go (fault (portsIn tab
     go none q = q
     go (some r) q = absurd (clear-not (sym clear ∙ says before e ∙ ap (faultAt place) q))
 
--- a record of numbers of 32 bits
-pub fits-arrival : (a : Arrival) → a .input < 4294967296 → a .output < 4294967296 → a .flow < 4294967296
-    → a .rank < 4294967296 → a .tag < 4294967296 → arrivalFits a ≡ true
-unfolding arrivalFits fits32
-fits-arrival a i o f r t =
-    let i′ : leb (a .input) 4294967295 ≡ true = le-leb (a .input) 4294967295 (omega arith) in
-    let o′ : leb (a .output) 4294967295 ≡ true = le-leb (a .output) 4294967295 (omega arith) in
-    let f′ : leb (a .flow) 4294967295 ≡ true = le-leb (a .flow) 4294967295 (omega arith) in
-    let r′ : leb (a .rank) 4294967295 ≡ true = le-leb (a .rank) 4294967295 (omega arith) in
-    let t′ : leb (a .tag) 4294967295 ≡ true = le-leb (a .tag) 4294967295 (omega arith) in
-    search and-i depth 9
-
 pub next-input : (table : List ℕ) (turn place clock : ℕ) (a : Arrival) (c : Cell) (found : Fault) → IsTable table
     → c ≡ accepted clock a → Says table turn place c found → found ≡ Clear → (a .input < portLimit) × (turn ≤ a .input)
 unfolding accepted
@@ -173,23 +156,23 @@ next-input table turn place clock a c found t is says clear =
     ltb-false (c .input) turn (ap (ltb (c .input)) (sym (b .1)) ∙ turn-after (b .0) c ∙ w .turn) in
     (omega (arith, port-input (portsIn table) c (w .port), ports-below table t), omega arith)
 
-module _ (table : List ℕ) (room : ℕ) (records : List Arrival) (n : ℕ) (f : Fault) (turn : ℕ) (bytes : List ℕ)
-    (l : LookedAt table room records n f turn bytes) where
+module _ (table : List ℕ) (room : ℕ) (records : List Arrival) (n : ℕ) (f : Fault) (turn : ℕ)
+    (l : LookedAt table room records n f turn) where
   -- behind a fault
-  pub looked-behind : {r : Refusal} {place : ℕ} → f ≡ At r place → LookedAt table room records (n + 1) f turn bytes
+  pub looked-behind : {r : Refusal} {place : ℕ} → f ≡ At r place → LookedAt table room records (n + 1) f turn
   looked-behind {r} {place} e = go f e l
     where
-      go : (g : Fault) → g ≡ At r place → LookedAt table room records n g turn bytes → LookedAt table room records (n + 1) g turn bytes
+      go : (g : Fault) → g ≡ At r place → LookedAt table room records n g turn → LookedAt table room records (n + 1) g turn
       go Clear e l = absurd (clear-not e)
       go (At r place) e l = l
 
   module _ (clear : f ≡ Clear) (a : Arrival) (here : drop n records ≡ a ∷ drop (n + 1) records) (c : Cell)
       (is : c ≡ accepted (clockIn table) a) (found : Fault) (says : Says table turn (n + 1) c found) where
-    passed : Passed table room records n turn bytes
-    passed = subst (λ g. LookedAt table room records n g turn bytes) clear l
+    passed : Passed table room records n turn
+    passed = subst (λ g. LookedAt table room records n g turn) clear l
 
-    next : drop n (cellsOf table records) ≡ c ∷ drop (n + 1) (cellsOf table records)
-    unfolding cellsOf
+    next : drop n (coming (stateOf table) records) ≡ c ∷ drop (n + 1) (coming (stateOf table) records)
+    unfolding coming
     next =
         let same : c ≡ accepted (stateOf table .clock) a = is ∙ ap (λ k. accepted k a) (sym (table-clock table (passed .clear .sound))) in
         drop-map n records ∙ ap (map (accepted (stateOf table .clock))) here
@@ -200,35 +183,33 @@ module _ (table : List ℕ) (room : ℕ) (records : List Arrival) (n : ℕ) (f :
         drop-map (suc k) [] = refl
         drop-map (suc k) (r ∷ rs) = drop-map k rs
 
-    rest-at : firstFault (portsIn table) (cells (stateOf table)) (cellsOf table records)
-        ≡ faultFrom (portsIn table) (cells (stateOf table)) (n + 1) (passed .before) (c ∷ drop (n + 1) (cellsOf table records))
+    rest-at : firstFault (portsIn table) (cells (stateOf table)) (coming (stateOf table) records)
+        ≡ faultFrom (portsIn table) (cells (stateOf table)) (n + 1) (passed .before) (c ∷ drop (n + 1) (coming (stateOf table) records))
     rest-at = passed .rest ∙ ap (faultFrom (portsIn table) (cells (stateOf table)) (n + 1) (passed .before)) next
 
     -- it has a fault
-    pub looked-fault : {r : Refusal} {place : ℕ} → found ≡ At r place → (k : ℕ) (bs : List ℕ) → LookedAt table room records (n + 1) found k bs
+    pub looked-fault : {r : Refusal} {place : ℕ} → found ≡ At r place → (k : ℕ) → LookedAt table room records (n + 1) found k
     unfolding faultAt
-    looked-fault bad k bs = go (fault (portsIn table) (cells (stateOf table)) (passed .before) c) refl
+    looked-fault bad k = go (fault (portsIn table) (cells (stateOf table)) (passed .before) c) refl
       where
         go : (o : Option Refusal) → fault (portsIn table) (cells (stateOf table)) (passed .before) c ≡ o
-            → LookedAt table room records (n + 1) found k bs
+            → LookedAt table room records (n + 1) found k
         go none e = absurd (clear-not (sym (says (passed .before) (passed .after) ∙ ap (faultAt (n + 1)) e) ∙ bad))
         go (some r) e =
-            subst (λ g. LookedAt table room records (n + 1) g k bs)
+            subst (λ g. LookedAt table room records (n + 1) g k)
             (sym (says (passed .before) (passed .after) ∙ ap (faultAt (n + 1)) e))
             (lent-fault table room (passed .clear) records (some (r, n + 1))
             (rest-at ∙ faults-first _ _ (n + 1) (passed .before) c _ e))
 
     -- it has none
-    pub looked-next : found ≡ Clear → arrivalFits a ≡ true → length bytes ≡ 320 → (new : List ℕ)
-        → new ≡ take (arrivalSize * n) bytes ++ (arrivalBytes a ++ drop (arrivalSize * n + arrivalSize) bytes)
-        → LookedAt table room records (n + 1) found (a .input + 1) new
+    pub looked-next : found ≡ Clear → LookedAt table room records (n + 1) found (a .input + 1)
     unfolding turnAfter accepted
-    looked-next good fits size new e =
+    looked-next good =
         let w = next-input table turn (n + 1) (clockIn table) a c found (passed .clear .sound) is says good in
         let same : c .input ≡ a .input = ap (λ d. d .input) is in
         let none : fault (portsIn table) (cells (stateOf table)) (passed .before) c ≡ none =
         says-clear table turn (n + 1) c found says good (passed .before) (passed .after) in
-        subst (λ g. LookedAt table room records (n + 1) g (a .input + 1) new) (sym good)
+        subst (λ g. LookedAt table room records (n + 1) g (a .input + 1)) (sym good)
         (record {
           clear = passed .clear;
           few = omega (arith, passed .few, w .1);
@@ -236,8 +217,6 @@ module _ (table : List ℕ) (room : ℕ) (records : List Arrival) (n : ℕ) (f :
           before = some c;
           after = ap (λ k. k + 1) same;
           rest = rest-at ∙ faults-next _ _ (n + 1) (passed .before) c _ none;
-          copied = copied-next n bytes records a (drop (arrivalSize * n + arrivalSize) bytes) new fits
-              (omega (arith, w .0, w .1, passed .few)) here (passed .copied) e;
         })
 
 ------------------------------------------------------------------------
@@ -245,10 +224,10 @@ module _ (table : List ℕ) (room : ℕ) (records : List Arrival) (n : ℕ) (f :
 
 module _ (table : List ℕ) (room : ℕ) (records : List Arrival) where
   -- the first fault is none where all records have passed
-  pub passed-none : (turn : ℕ) (bytes : List ℕ) → Passed table room records (length records) turn bytes
-      → firstFault (portsIn table) (cells (stateOf table)) (cellsOf table records) ≡ none
-  unfolding faultFrom cellsOf
-  passed-none turn bytes p =
+  passed-none : (turn : ℕ) → Passed table room records (length records) turn
+      → firstFault (portsIn table) (cells (stateOf table)) (coming (stateOf table) records) ≡ none
+  unfolding faultFrom coming
+  passed-none turn p =
       let past : length (map (accepted (stateOf table .clock)) records) ≤ length records =
       omega (arith, length-map records (accepted (stateOf table .clock))) in
       let end : drop (length records) (map (accepted (stateOf table .clock)) records) ≡ [] =
@@ -256,17 +235,18 @@ module _ (table : List ℕ) (room : ℕ) (records : List Arrival) where
       p .rest ∙ ap (faultFrom (portsIn table) (cells (stateOf table)) (length records + 1) (p .before)) end
 
   pub looked-all : (n : ℕ) (c : Checked) → n ≡ min (length records) 17 → Looked table room records n c → Found table room records c
-  unfolding refusalOf
-  looked-all n c m l = go (c .fault) refl l
+  looked-all n c m l = go (c .fault) l
     where
-      go : (f : Fault) → c .fault ≡ f → LookedAt table room records n f (c .turn) (c .bytes) → Found table room records c
-      go Clear e p =
+      go : (f : Fault) → LookedAt table room records n f (c .turn) → FoundAt table room records f
+      go Clear p =
           let whole : n ≡ length records = omega (arith, p .few, p .low) in
-          let passed : Passed table room records (length records) (c .turn) (c .bytes) =
-          subst (λ k. Passed table room records k (c .turn) (c .bytes)) whole p in
-          record {
-            answer = e ∙ sym (ap refusalOf (lent-fault table room (passed .clear) records none (passed-none (c .turn) (c .bytes) passed)));
-            all = λ _. passed;
-          }
-      go (At r place) e p =
-          record { answer = e ∙ sym (ap refusalOf p); all = λ z. absurd (clear-not (sym z ∙ e)) }
+          let passed : Passed table room records (length records) (c .turn) =
+          subst (λ k. Passed table room records k (c .turn)) whole p in (
+            passed .clear .space,
+            record {
+              sound = passed .clear .sound;
+              early = passed .clear .early;
+              clear = passed-none (c .turn) passed;
+            },
+          )
+      go (At r place) p = p

@@ -1,26 +1,34 @@
--- What whoever holds a record or what was found so far knows by its type.
+-- What whoever holds a record knows by its type.
+use Prim.Native.Nat.{_<_}
+use native.Mathlib.Omega.{arith}
 use mathlib.Core.Bool.{true}
 use mathlib.Core.List.{List}
-use mathlib.Core.Path.{_≡_, sym, _∙_}
-use lib.ListN.{length, length-map}
+use mathlib.Core.Path.{_≡_}
+use borrow.Author.Tests.{le-leb}
+use lib.Dec.{leb}
 use mir.Val.{Val}
 use denote.Laws.{Is}
 use denote.Struct.Laws as LL
+use Rattle.laws.proofs.Tests.{and-i}
 use Rattle.cell.specs.declared.Arrival.{Arrival}
 use Rattle.cell.specs.Cell.{arrivalFits}
+use Rattle.cell.specs.Limits.{fits32}
 use Rattle.cell.proofs.Arrival as A
 use Rattle.cell.proofs.Arrival.Laws as A′
-use Rattle.lent.specs.declared.records.Checked.{Checked}
-use Rattle.lent.proofs.records.Checked as K
-use Rattle.lent.proofs.records.Checked.Laws as K′
-use Rattle.lent.proofs.Looking.{fits-arrival}
+
+-- a record of numbers of 32 bits
+fits-arrival : (a : Arrival) → a .input < 4294967296 → a .output < 4294967296 → a .flow < 4294967296
+    → a .rank < 4294967296 → a .tag < 4294967296 → arrivalFits a ≡ true
+unfolding arrivalFits fits32
+fits-arrival a i o f r t =
+    let i′ : leb (a .input) 4294967295 ≡ true = le-leb (a .input) 4294967295 (omega arith) in
+    let o′ : leb (a .output) 4294967295 ≡ true = le-leb (a .output) 4294967295 (omega arith) in
+    let f′ : leb (a .flow) 4294967295 ≡ true = le-leb (a .flow) 4294967295 (omega arith) in
+    let r′ : leb (a .rank) 4294967295 ≡ true = le-leb (a .rank) 4294967295 (omega arith) in
+    let t′ : leb (a .tag) 4294967295 ≡ true = le-leb (a .tag) 4294967295 (omega arith) in
+    search and-i depth 9
 
 pub arrival-fits : (a : Arrival) (vs : List Val) → Is A.the-row a vs → arrivalFits a ≡ true
 arrival-fits a vs p =
     let o = LL.owed A.the-type A′.the-laws a vs p in
     fits-arrival a (o .0 .1) (o .1 .0 .1) (o .1 .1 .0 .1) (o .1 .1 .1 .0 .1) (o .1 .1 .1 .1 .0 .1)
-
-pub checked-size : (k : Checked) (vs : List Val) → Is K.the-row k vs → length (k .bytes) ≡ 320
-checked-size k vs p =
-    let o = LL.owed K.the-type K′.the-laws k vs p in
-    sym (length-map (k .bytes) _) ∙ o .1 .1 .0 .1 .0 .1

@@ -1,3 +1,4 @@
 pub mod Looked
+pub mod Taken
 pub mod Ended
 pub mod Lent

@@ -1,35 +1,29 @@
 -- Scope 6.1: a slot on the records that it is lent, and how far they have been looked at.
 use Prim.Native.Nat.{ℕ, _+_, _≤_, _<_}
-use mathlib.Core.List.{List, map}
+use mathlib.Core.List.{List}
 use mathlib.Core.Option.{Option, some}
 use mathlib.Core.Path.{_≡_}
-use lib.ListN.{length, take, drop}
+use lib.ListN.{drop}
 use Rattle.cell.specs.declared.Arrival.{Arrival}
 use Rattle.cell.specs.declared.Cell.{Cell}
-use Rattle.cell.specs.Cell.{accepted}
 use Rattle.cell.specs.Limits.{clockEnd, portLimit}
 use Rattle.model.specs.State.{cells}
 use Rattle.model.specs.Checks.{Outcome, refused, faultFrom, firstFault}
 use Rattle.model.specs.Crossbar.{Course}
 use Rattle.layout.specs.Answer.{answerSize}
-use Rattle.layout.specs.Arrivals.{arrivalsOf}
 use Rattle.layout.specs.Entry.{portsIn, clockIn}
 use Rattle.layout.specs.Host.{slotOf}
 use Rattle.layout.specs.Table.{stateOf, decode, IsTable}
 use Rattle.layout.specs.TallyBytes.{tallySize}
 use Rattle.arrival.specs.declared.Fault.{Fault}
 use Rattle.arrival.specs.declared.Fault.the-variants.{Clear, At}
-use Rattle.arrival.specs.Fault.{turnAfter}
-use Rattle.fabric.specs.Slot.{refusalOf}
+use Rattle.arrival.specs.Arrival.{Arriving}
+use Rattle.arrival.specs.Fault.{coming, turnAfter}
 use Rattle.lent.specs.declared.records.Checked.{Checked}
 
 -- what a slot on a lent table, on lent records and with so much room for the answer comes to
 unfoldable pub recordsSlot : List ℕ → ℕ → List Arrival → Outcome Course
 recordsSlot table room records = slotOf (decode table) (some records) room tallySize
-
--- the cells that the records would become
-unfoldable pub cellsOf : List ℕ → List Arrival → List Cell
-cellsOf table records = map (accepted (stateOf table .clock)) records
 
 -- 2, 10 and 3 are not found
 pub record Open (table : List ℕ) (room : ℕ) : Type 0 where
@@ -42,24 +36,23 @@ abbrev pub Before : List ℕ → ℕ → Fault → Type 0
 Before table room Clear = Open table room
 Before table room (At r place) = (records : List Arrival) → recordsSlot table room records ≡ refused r place
 
--- the first n records have no fault and stand in the bytes, and it is the turn of the inputs from `turn` on
-pub record Passed (table : List ℕ) (room : ℕ) (records : List Arrival) (n turn : ℕ) (bytes : List ℕ) : Type 0 where
+-- the first n records have no fault, and it is the turn of the inputs from `turn` on
+pub record Passed (table : List ℕ) (room : ℕ) (records : List Arrival) (n turn : ℕ) : Type 0 where
   pub clear : Open table room
   pub few : n ≤ turn
   pub low : turn ≤ portLimit
   pub before : Option Cell
   pub after : turnAfter before ≡ turn
-  pub rest : firstFault (portsIn table) (cells (stateOf table)) (cellsOf table records)
-      ≡ faultFrom (portsIn table) (cells (stateOf table)) (n + 1) before (drop n (cellsOf table records))
-  pub copied : arrivalsOf n bytes ≡ take n records
+  pub rest : firstFault (portsIn table) (cells (stateOf table)) (coming (stateOf table) records)
+      ≡ faultFrom (portsIn table) (cells (stateOf table)) (n + 1) before (drop n (coming (stateOf table) records))
 
 -- the first n records have been looked at: they have no fault, or the slot is refused with the one that was found
-abbrev pub LookedAt : List ℕ → ℕ → List Arrival → ℕ → Fault → ℕ → List ℕ → Type 0
-LookedAt table room records n Clear turn bytes = Passed table room records n turn bytes
-LookedAt table room records n (At r place) turn bytes = recordsSlot table room records ≡ refused r place
+abbrev pub LookedAt : List ℕ → ℕ → List Arrival → ℕ → Fault → ℕ → Type 0
+LookedAt table room records n Clear turn = Passed table room records n turn
+LookedAt table room records n (At r place) turn = recordsSlot table room records ≡ refused r place
 
 abbrev pub Looked : List ℕ → ℕ → List Arrival → ℕ → Checked → Type 0
-Looked table room records n c = LookedAt table room records n (c .fault) (c .turn) (c .bytes)
+Looked table room records n c = LookedAt table room records n (c .fault) (c .turn)
 
 -- where a record may be looked at
 abbrev pub StandingAt : List ℕ → ℕ → Fault → ℕ → Type 0
@@ -69,7 +62,10 @@ StandingAt table n (At r place) turn = Unit {0}
 abbrev pub Standing : List ℕ → ℕ → Checked → Type 0
 Standing table n c = StandingAt table n (c .fault) (c .turn)
 
--- all records have been looked at: what was found is the slot's refusal, and if nothing was found they stand in the bytes
-pub record Found (table : List ℕ) (room : ℕ) (records : List Arrival) (c : Checked) : Type 0 where
-  pub answer : c .fault ≡ refusalOf (recordsSlot table room records)
-  pub all : c .fault ≡ Clear → Passed table room records (length records) (c .turn) (c .bytes)
+-- all records have been looked at: none has a fault, or the slot is refused with the one that was found
+abbrev pub FoundAt : List ℕ → ℕ → List Arrival → Fault → Type 0
+FoundAt table room records Clear = (answerSize ≤ room) × Arriving table records
+FoundAt table room records (At r place) = recordsSlot table room records ≡ refused r place
+
+abbrev pub Found : List ℕ → ℕ → List Arrival → Checked → Type 0
+Found table room records c = FoundAt table room records (c .fault)

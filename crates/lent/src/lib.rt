@@ -1,19 +1,20 @@
 // A slot on what it is lent: the arrivals are lent as a slice of records, and the tally is lent to be changed in place.
+mod arriving;
 pub mod bytes;
 mod records;
 mod running;
 
 use arrival::Fault;
+use arriving::take_held;
+use arriving::take_records;
 use cell::Arrival;
 use cell::Tally;
 use records::Checked;
 use records::before_records;
-use records::check_held;
-use records::check_records;
 use records::clock_refusal;
 use records::none_checked;
 use running::Ended;
-use running::run_checked;
+use running::run_taken;
 use tally::count;
 ghost use mathlib.Core.Path.{_≡_};
 ghost use Prim.Native.Nat.{_≤_};
@@ -38,8 +39,8 @@ pub fn slot(table: &mut [u8], records: &[Arrival], answer: &mut [u8], tally: &mu
     let room: usize = answer.len();
     let many: usize = records.len();
     let before: Checked = before_records(table, room);
-    let checked: Checked = check_records(table, before, records);
-    let ended: Ended = run_checked(table, answer, checked, many);
+    let taken: Fault = take_records(table, before, records);
+    let ended: Ended = run_taken(table, answer, taken);
     count(tally, ended.ran, many as u64, ended.departures);
     ended.fault
 }
@@ -83,6 +84,6 @@ pub fn sound_slot(table: &mut [u8], records: [Arrival; 17], many: usize, answer:
     ensures { λ _. ⌜ now (answer .exit) ≡ answerAfter (now (answer .entry)) (recordsSlot (now (table .entry)) (length (now (answer .entry))) (take many records)) ⌝ }
 {
     let before = none_checked(clock_refusal(table));
-    let checked = check_held(table, before, records, many);
-    run_checked(table, answer, checked, many).fault
+    let taken = take_held(table, before, records, many);
+    run_taken(table, answer, taken).fault
 }

@@ -1,16 +1,15 @@
-// The records that a slot is lent: each is copied out of the slice and looked at.
+// The records that a slot is lent, looked at: each is copied out of the slice.
 use arrival::Fault;
 use arrival::cell_of;
 use arrival::check_record;
 use cell::Arrival;
 use cell::Refusal;
 ghost use mathlib.Core.Path.{_≡_};
-ghost use mathlib.Core.List.{List, _∷_, _++_};
+ghost use mathlib.Core.List.{List, _∷_};
 ghost use Prim.Native.Nat.{ℕ, _+_, _≤_, min};
-ghost use lib.ListN.{length, take, drop};
+ghost use lib.ListN.{drop};
 ghost use Rattle.cell.specs.declared.Arrival.{Arrival};
 ghost use Rattle.layout.specs.Answer.{answerSize};
-ghost use Rattle.layout.specs.Arrivals.{arrivalBytes, arrivalSize};
 ghost use Rattle.layout.specs.Table.{IsTable};
 ghost use Rattle.lent.specs.Looked.{Before, Looked, Standing, Found};
 
@@ -20,11 +19,10 @@ const ANSWER_BYTES: usize = 456;
 // The number of no slot.
 const CLOCK_END: u32 = 4294967295;
 
-// The records looked at so far: what was found, the lowest input whose turn it is, and the records as bytes.
+// The records looked at so far: what was found, and the lowest input whose turn it is.
 pub struct Checked {
     pub fault: Fault,
     pub turn: u32,
-    pub bytes: [u8; 320],
 }
 
 // Looks at the lent records one by one, each copied out of the slice, after what was found before them. Inputs rise and
@@ -43,15 +41,6 @@ pub fn check_records(table: &[u8], before: Checked, records: &[Arrival]) -> Chec
         n += 1;
     }
     checked
-}
-
-// The same for a caller that holds the first records by value.
-pub fn check_held(table: &[u8], before: Checked, records: [Arrival; 17], many: usize) -> Checked
-    requires { ⌜ (many ≤ 17) × ((room : ℕ) × Looked (now table) room (take many records) 0 before) ⌝ }
-    ensures { λ r. ⌜ ((room : ℕ) → Looked (now (table .entry)) room (take many records) 0 before
-        → Found (now (table .entry)) room (take many records) r) ⌝ }
-{
-    check_records(table, before, &records[..many])
 }
 
 // How many of so many records are looked at.
@@ -75,11 +64,7 @@ pub fn before_records(table: &[u8], room: usize) -> Checked
 pub fn none_checked(fault: Fault) -> Checked
     ensures { λ r. ⌜ ((table : List ℕ) (room : ℕ) (records : List Arrival) → Before table room fault → Looked table room records 0 r) ⌝ }
 {
-    Checked {
-        fault,
-        turn: 0,
-        bytes: [0; 320],
-    }
+    Checked { fault, turn: 0 }
 }
 
 // 2, 10 and 3.
@@ -116,32 +101,16 @@ fn check_next(table: &[u8], checked: Checked, n: usize, a: Arrival) -> Checked
     let Fault::Clear = fault else {
         return checked;
     };
-    let mut bytes = checked.bytes;
     let c = cell_of(a, table::entry::clock_of(table));
     let found = check_record(table, checked.turn, (n + 1) as u32, c);
     let Fault::Clear = found else {
         return Checked {
             fault: found,
             turn: 0,
-            bytes,
         };
     };
-    put_record(&mut bytes, 20 * n, a);
     Checked {
         fault: found,
         turn: a.input + 1,
-        bytes,
     }
-}
-
-// Puts the 20 bytes of a record at a place.
-fn put_record(bytes: &mut [u8], at: usize, a: Arrival)
-    requires { ⌜ at + arrivalSize ≤ length (now bytes) ⌝ }
-    ensures { λ _. ⌜ now (bytes .exit) ≡ take at (now (bytes .entry)) ++ (arrivalBytes a ++ drop (at + arrivalSize) (now (bytes .entry))) ⌝ }
-{
-    table::word::write_u32(bytes, at, a.input);
-    table::word::write_u32(bytes, at + 4, a.output);
-    table::word::write_u32(bytes, at + 8, a.flow);
-    table::word::write_u32(bytes, at + 12, a.rank);
-    table::word::write_u32(bytes, at + 16, a.tag);
 }

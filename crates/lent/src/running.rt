@@ -1,14 +1,14 @@
-// The course of a slot whose records have been looked at.
-use crate::records::Checked;
+// The course of a slot whose records have been taken.
 use arrival::Fault;
 use fabric::slot::run;
 ghost use mathlib.Core.Path.{_≡_};
-ghost use Prim.Native.Nat.{_*_, _≤_};
+ghost use Prim.Native.Nat.{_≤_};
 ghost use lib.ListN.{length};
 ghost use Rattle.layout.specs.Answer.{answerSize};
 ghost use Rattle.layout.specs.Host.{tableAfter, answerAfter};
+ghost use Rattle.layout.specs.Table.{IsTable};
 ghost use Rattle.arrival.specs.declared.Fault.the-variants.{Clear};
-ghost use Rattle.lent.specs.Ended.{Runs, foundOutcome, endedOf, sentIn};
+ghost use Rattle.lent.specs.Ended.{takenOutcome, endedOf, sentIn};
 
 // What came of a slot: its refusal if it is turned back, and its departures if it ran.
 pub struct Ended {
@@ -17,14 +17,13 @@ pub struct Ended {
     pub departures: u64,
 }
 
-// Runs the slot of so many records if no fault was found; else nothing is written.
-pub fn run_checked(table: &mut [u8], answer: &mut [u8], checked: Checked, count: usize) -> Ended
-    requires { ⌜ (checked .fault ≡ Clear → Runs (now table) (length (now answer)) count (checked .bytes)) ⌝ }
-    ensures { λ r. ⌜ r ≡ endedOf (foundOutcome (now (table .entry)) count (checked .fault) (checked .bytes)) ⌝ }
-    ensures { λ _. ⌜ now (table .exit) ≡ tableAfter (now (table .entry)) (foundOutcome (now (table .entry)) count (checked .fault) (checked .bytes)) ⌝ }
-    ensures { λ _. ⌜ now (answer .exit) ≡ answerAfter (now (answer .entry)) (foundOutcome (now (table .entry)) count (checked .fault) (checked .bytes)) ⌝ }
+// Runs the slot from the table after its arrivals if no fault was found; else nothing is written.
+pub fn run_taken(table: &mut [u8], answer: &mut [u8], fault: Fault) -> Ended
+    requires { ⌜ (fault ≡ Clear → IsTable (now table) × (answerSize ≤ length (now answer))) ⌝ }
+    ensures { λ r. ⌜ r ≡ endedOf (takenOutcome (now (table .entry)) fault) ⌝ }
+    ensures { λ _. ⌜ now (table .exit) ≡ tableAfter (now (table .entry)) (takenOutcome (now (table .entry)) fault) ⌝ }
+    ensures { λ _. ⌜ now (answer .exit) ≡ answerAfter (now (answer .entry)) (takenOutcome (now (table .entry)) fault) ⌝ }
 {
-    let fault = checked.fault;
     let Fault::Clear = fault else {
         return Ended {
             fault,
@@ -32,8 +31,7 @@ pub fn run_checked(table: &mut [u8], answer: &mut [u8], checked: Checked, count:
             departures: 0,
         };
     };
-    let bytes = checked.bytes;
-    run(table, &bytes[..20 * count], answer);
+    run(table, answer);
     Ended {
         fault,
         ran: true,

@@ -4,7 +4,3 @@ pub mod Refusing
 pub mod Rounds
 pub mod Matching
 pub mod Renaming
-pub mod Positions
-pub mod Left
-pub mod Asking
-pub mod Found

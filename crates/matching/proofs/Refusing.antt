@@ -1,5 +1,6 @@
 -- Laws of refusing in any order, from the candidates l down to what is left, l′.
 --     refusing-part, refusing-keep     what is left is a part of l, in the order of l
+--     refusing-more                    refusing goes on
 --     refusing-over                    a candidate is left, or a proposal is over it
 --     stable-not-over, stable-left     no match of a stable matching is refused
 --     rest-stable, rest-best           the proposals of a list at rest are stable, and best for the inputs
@@ -31,6 +32,13 @@ module _ {A : Type 0} (ahead over : A → A → Bool) where
   refusing-keep {l′} (refuse {l = l} p h r) =
       let w : (q : A → Bool) × (l′ ≡ keep q (keep p l)) = refusing-keep r in
       ((λ c. p c && w .0 c), w .1 ∙ keep-keep p (w .0) l)
+
+  -- refusing goes on with what is left
+  pub refusing-more : {l l′ : List A} → Refusing ahead over l l′ → (p : A → Bool)
+      → ((c : A) → List·Memᴰ c l′ → p c ≡ false → some? (λ d. over d c) (proposed ahead over l′) ≡ true)
+      → Refusing ahead over l (keep p l′)
+  refusing-more stop p h = refuse p h stop
+  refusing-more (refuse q g r) p h = refuse q g (refusing-more r p h)
 
   -- the proposals of what is left, as a part of the list
   pub refusing-proposed : {l l′ : List A} → Refusing ahead over l l′

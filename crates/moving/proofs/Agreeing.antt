@@ -8,7 +8,7 @@ use mathlib.Core.List.{List, []}
 use borrow.Author.Tests.{eqb-true, eqb-false, ltb-true, ltb-false}
 use lib.Dec.{eqb, ltb}
 use lib.ListN.{length, getD, set, length-set}
-use lib.Seq.{getD-set-same, getD-set-other, set-out}
+use lib.Seq.{getD-set-same, getD-set-other, set-out, set-getD}
 use Rattle.laws.proofs.Tests.{either, clash}
 use Rattle.cell.specs.Limits.{cellLimit}
 use Rattle.model.specs.State.{isCrossed}
@@ -71,6 +71,18 @@ module _ (cross : List (List ℕ)) (square : Square cross) where
   pub put-nowhere : (i o k : ℕ) → 16 ≤ i → put cross i o k ≡ cross
   unfolding put
   put-nowhere i o k h = set-out cross i (set (getD cross i []) o k) (let s = square .rows in omega arith)
+
+  pub put-past : (i o k : ℕ) → 16 ≤ o → put cross i o k ≡ cross
+  unfolding put
+  put-past i o k h = go (either (ltb i 16))
+    where
+      go : (ltb i 16 ≡ true) ⊎ (ltb i 16 ≡ false) → set cross i (set (getD cross i []) o k) ≡ cross
+      go (inl t) =
+          let row : length (getD cross i []) ≡ 16 = square .columns i (ltb-true _ _ t) in
+          ap (set cross i) (set-out (getD cross i []) o k (omega arith)) ∙ set-getD cross i []
+      go (inr t) =
+          let past : 16 ≤ i = ltb-false _ _ t in
+          set-out cross i (set (getD cross i []) o k) (omega (arith, square .rows))
 
   square-rows : (i o k : ℕ) → length (put cross i o k) ≡ 16
   unfolding put

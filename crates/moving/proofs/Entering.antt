@@ -32,7 +32,7 @@ use Rattle.moving.proofs.Agreeing.{put-same, put-row, put-column, put-n
 -- the column
 
 module _ (table : List ℕ) where
-  length-entered : (best : List ℕ) (k : ℕ) → length (entered table best k) ≡ length best
+  pub length-entered : (best : List ℕ) (k : ℕ) → length (entered table best k) ≡ length best
   unfolding entered
   length-entered best k =
       length-set best (outputAt table k) (betterOf table (getD best (outputAt table k) 0) k)
@@ -50,13 +50,13 @@ module _ (table : List ℕ) where
       ∙ set-getD best (outputAt table k) 0
 
   module _ (best : List ℕ) (size : length best ≡ 16) (k : ℕ) where
-    entered-own : outputAt table k < 16
+    pub entered-own : outputAt table k < 16
         → getD (entered table best k) (outputAt table k) 0 ≡ betterOf table (getD best (outputAt table k) 0) k
     unfolding entered
     entered-own h =
         getD-set-same best (outputAt table k) (betterOf table (getD best (outputAt table k) 0) k) 0 (omega arith)
 
-    entered-other : (o : ℕ) → o ≢ outputAt table k → getD (entered table best k) o 0 ≡ getD best o 0
+    pub entered-other : (o : ℕ) → o ≢ outputAt table k → getD (entered table best k) o 0 ≡ getD best o 0
     unfolding entered
     entered-other o n =
         getD-set-other best (outputAt table k) o (betterOf table (getD best (outputAt table k) 0) k) 0 n

@@ -1,10 +1,15 @@
 pub mod Agreeing
+pub mod Buffering
+pub mod Encoded
 pub mod Entering
+pub mod Keying
 pub mod Known
+pub mod Leaving
 pub mod Moved
 pub mod Ports
 pub mod Pulling
 pub mod Relocated
 pub mod Rounds
 pub mod Rules
+pub mod Steps
 pub mod Written

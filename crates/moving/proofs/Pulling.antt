@@ -14,7 +14,7 @@ use Rattle.places.specs.View.{InTable, Agrees, Square}
 use Rattle.places.specs.Scan.{Readable}
 use Rattle.places.specs.Choices.{empty, best}
 use Rattle.choosing.proofs.Best.{Crossed, BestUpTo}
-use Rattle.moving.specs.Moves.{takeOf, Pulled}
+use Rattle.moving.specs.Moves.{written, pulling, takeOf}
 use Rattle.moving.proofs.Rules.{take-none, take-best}
 use Rattle.moving.proofs.Agreeing.{outputAt, crossedAt, agrees-real, agrees-pulling, Pullable}
 use Rattle.moving.proofs.Entering.{BestOfEach}
@@ -53,7 +53,5 @@ module _ {table : List ℕ} (r : Readable table) (straight : List Bool) (places 
               (omega (arith, c .held, c .some)) in
               subst (At o) (c .held ∙ sym is) (w .0, w .1, w .3)
 
-  pub pulled-agrees : {n : ℕ} {places′ : List ℕ} {cross′ : List (List ℕ)} → Pulled f n places places′ cross cross′ → n ≤ 16
-      → Agrees table places′ cross′
-  pulled-agrees {n} p l =
-      rw (p .to-buffers, p .emptied) (agrees-pulling r f cross square places size a n l (pullable n l))
+  pub pulled-agrees : (n : ℕ) → n ≤ 16 → Agrees table (written f 3 n places) (pulling f n cross)
+  pulled-agrees n l = agrees-pulling r f cross square places size a n l (pullable n l)

@@ -30,7 +30,7 @@ module _ {A B C : Type 0} (f : B → C) (g : A → List C) (h : A → List B) wh
 
 module _ {table : List ℕ} (r : Readable table) where
   -- a number in the section of an input is an entry's
-  section-entry : (i k : ℕ) → i < portsIn table → cellLimit * i ≤ k → k < cellLimit * i + countIn table i
+  pub section-entry : (i k : ℕ) → i < portsIn table → cellLimit * i ≤ k → k < cellLimit * i + countIn table i
       → InTable table k
   section-entry i k p a b =
       let small : countIn table i ≤ cellLimit = r .counts i (omega (arith, r .ports)) in

@@ -1,52 +1,137 @@
 -- The rounds over the ports: how each begins, what one port more adds, and what it keeps.
-use Prim.Native.Nat.{ℕ, _+_, _/_}
+--     placing-kept, placesIn-placing   the table after a round, and its places
+--     straightened-, sent-, pulled-    the three rounds
+use Prim.Native.Nat.{ℕ, zero, suc, _+_, _/_}
 use native.Mathlib.Numerals.{add-one}
 use mathlib.Core.Bool.{Bool, true, false}
-use mathlib.Core.Path.{_≡_, refl, _∙_, ap}
+use mathlib.Core.Path.{_≡_, refl, sym, _∙_, ap, ap₂, subst}
 use mathlib.Core.List.{List}
-use lib.ListN.{length, set, replicate}
+use lib.ListN.{length, set, replicate, length-set}
 use Rattle.cell.specs.Limits.{cellLimit, portLimit}
 use Rattle.layout.specs.Entry.{entryAt}
+use Rattle.layout.specs.Table.{tableSize}
 use Rattle.places.specs.Choices.{nowhere}
-use Rattle.places.specs.View.{Square}
-use Rattle.moving.specs.Moves.{written, put, sending, entered, entering, pulling, markOf}
-use Rattle.moving.specs.Moves.{Straightened, Sent, Pulled}
+use Rattle.places.specs.View.{Square, placesIn}
+use Rattle.places.specs.Viewed.{noKey, keyAt}
+use Rattle.places.proofs.Placing.{Kept, kept-same, kept-trans, placed-kept, placesIn-placed}
+use Rattle.moving.specs.Moves.{written, placeAt, placing, left, leftHeads, leaving, leavingHeads, put, sending}
+use Rattle.moving.specs.Moves.{keying, pulling, unkeying, entered, entering, markOf, Bound}
+use Rattle.moving.specs.Moves.{Straight, Crossed, Taken, Straightened, Sent, Pulled}
 use Rattle.moving.proofs.Written.{length-written}
-use Rattle.moving.proofs.Agreeing.{square-sending, square-pulling}
+use Rattle.moving.proofs.Agreeing.{square-put, square-sending, square-pulling}
 use Rattle.moving.proofs.Entering.{length-entering}
+use Rattle.moving.proofs.Steps.{entered-kept, leftHeads-kept, keyAt-kept}
+
+------------------------------------------------------------------------
+-- the table
+
+module _ (f : ℕ → ℕ) (v : ℕ) where
+  pub placing-kept : (n : ℕ) (table : List ℕ) → Kept table (placing f v n table)
+  unfolding written
+  placing-kept zero table = kept-same table
+  placing-kept (suc n) table = kept-trans (placing-kept n table) (placed-kept (placing f v n table) (f n) v)
+
+  pub placesIn-placing : (n : ℕ) (table : List ℕ) → length table ≡ tableSize
+      → placesIn (placing f v n table) ≡ written f v n (placesIn table)
+  unfolding written
+  placesIn-placing zero table size = refl
+  placesIn-placing (suc n) table size =
+      placesIn-placed (placing f v n table) (f n) v (placing-kept n table .size ∙ size)
+      ∙ ap (λ l. set l (f n) v) (placesIn-placing n table size)
+
+-- a table that a round has left
+kept-by : {table table′ : List ℕ} (f : ℕ → ℕ) (v n : ℕ) → table′ ≡ placing f v n table → Kept table table′
+kept-by {table} {table′} f v n e = subst (Kept table) (sym e) (placing-kept f v n table)
+
+pub bound-kept : {table table′ : List ℕ} → Kept table table′ → (k : ℕ) → Bound table k → Bound table′ k
+bound-kept kept k b h = rw (kept .cells k) (b h)
 
 -- a write more
-written-more : {A : Type 0} (f : ℕ → ℕ) (v : A) (n : ℕ) (l : List A) {l′ l″ : List A} {k : ℕ} → l′ ≡ written f v n l
-    → k ≡ f n → l″ ≡ set l′ k v → l″ ≡ written f v (n + 1) l
+written-more : {A : Type 0} (f : ℕ → ℕ) (v : A) (n : ℕ) (l : List A) {l′ l″ : List A} {i : ℕ} → l′ ≡ written f v n l
+    → i ≡ f n → l″ ≡ set l′ i v → l″ ≡ written f v (n + 1) l
 unfolding written
 written-more f v n l e h p = rw (add-one n, ← e, ← h) p
 
 ------------------------------------------------------------------------
+-- the lists and the best of each output
+
+module _ (f : ℕ → ℕ) where
+  length-leaving : (n : ℕ) (listed : List ℕ) → length (leaving f n listed) ≡ length listed
+  unfolding leaving left
+  length-leaving zero listed = refl
+  length-leaving (suc n) listed = length-set (leaving f n listed) (f n / cellLimit) _ ∙ length-leaving n listed
+
+  length-leavingHeads : (n : ℕ) (table listed heads : List ℕ)
+      → length (leavingHeads table f n listed heads) ≡ length heads
+  unfolding leavingHeads leftHeads
+  length-leavingHeads zero table listed heads = refl
+  length-leavingHeads (suc n) table listed heads =
+      length-set (leavingHeads table f n listed heads) (f n / cellLimit) _ ∙ length-leavingHeads n table listed heads
+
+  leaving-more : (n : ℕ) (listed : List ℕ) {listed′ listed″ : List ℕ} {k : ℕ} → listed′ ≡ leaving f n listed → k ≡ f n
+      → listed″ ≡ left listed′ k → listed″ ≡ leaving f (n + 1) listed
+  unfolding leaving
+  leaving-more n listed s e q = rw (add-one n, ← s, ← e) q
+
+  module _ (n : ℕ) {table table′ : List ℕ} (kept : Kept table table′) {k : ℕ} (e : k ≡ f n) where
+    heads-more : (listed heads : List ℕ) {listed′ heads′ heads″ : List ℕ} → listed′ ≡ leaving f n listed
+        → heads′ ≡ leavingHeads table f n listed heads → heads″ ≡ leftHeads table′ listed′ heads′ k
+        → heads″ ≡ leavingHeads table f (n + 1) listed heads
+    unfolding leavingHeads
+    heads-more listed heads {listed′} {heads′} s t q =
+        rw (add-one n, ← s, ← t, ← e) (q ∙ leftHeads-kept kept listed′ heads′ k)
+
+    entering-more : (best : List ℕ) {best′ best″ : List ℕ} → best′ ≡ entering table f n best
+        → best″ ≡ entered table′ best′ k → best″ ≡ entering table f (n + 1) best
+    unfolding entering
+    entering-more best {best′} s q = rw (add-one n, ← s, ← e) (q ∙ entered-kept kept best′ k)
+
+------------------------------------------------------------------------
 -- straight cells
 
-pub straightened-none : (f : ℕ → ℕ) (places : List ℕ)
-    → Straightened f 0 places places (replicate portLimit false) (replicate portLimit false)
-unfolding written
-straightened-none f places = record { to-buffers = refl; from-inputs = refl; to-outputs = refl }
+pub straightened-none : (f : ℕ → ℕ) (table listed heads best : List ℕ)
+    → Straightened f 0 table table listed listed heads heads best best (replicate portLimit false) (replicate portLimit false)
+unfolding written leaving leavingHeads entering
+straightened-none f table listed heads best =
+    record {
+      to-buffers = refl;
+      lists = refl;
+      list-heads = refl;
+      bests = refl;
+      from-inputs = refl;
+      to-outputs = refl;
+    }
 
-module _ {f : ℕ → ℕ} {n : ℕ} {places places′ : List ℕ} {inputs outputs : List Bool}
-    (s : Straightened f n places places′ inputs outputs) where
-  pub straightened-more : {k : ℕ} {places″ : List ℕ} {inputs″ outputs″ : List Bool} → k ≡ f n
-      → places″ ≡ set places′ k 3 → inputs″ ≡ set inputs (k / cellLimit) true → outputs″ ≡ set outputs (markOf k n) true
-      → Straightened f (n + 1) places places″ inputs″ outputs″
-  straightened-more e p q t =
+module _ {f : ℕ → ℕ} {n : ℕ} {table table′ listed listed′ heads heads′ best best′ : List ℕ} {inputs outputs : List Bool}
+    (s : Straightened f n table table′ listed listed′ heads heads′ best best′ inputs outputs) where
+  pub kept-straightened : Kept table table′
+  kept-straightened = kept-by f 3 n (s .to-buffers)
+
+  pub straightened-more : {k : ℕ} {table″ listed″ heads″ best″ : List ℕ} {inputs″ outputs″ : List Bool} → k ≡ f n
+      → Straight table′ k n table″ listed′ listed″ heads′ heads″ best′ best″ inputs inputs″ outputs outputs″
+      → Straightened f (n + 1) table table″ listed listed″ heads heads″ best best″ inputs″ outputs″
+  straightened-more e p =
       record {
-        to-buffers = written-more f 3 n places (s .to-buffers) e p;
+        to-buffers = written-more (λ i. placeAt (f i)) 3 n table (s .to-buffers) (ap placeAt e) (p .to-buffer);
+        lists = leaving-more f n listed (s .lists) e (p .left-list);
+        list-heads = heads-more f n kept-straightened e listed heads (s .lists) (s .list-heads) (p .left-heads);
+        bests = entering-more f n kept-straightened e best (s .bests) (p .best-in);
         from-inputs =
             written-more (λ o. f o / cellLimit) true n (replicate portLimit false) (s .from-inputs)
-            (ap (λ x. x / cellLimit) e) q;
+            (ap (λ x. x / cellLimit) e) (p .from-input);
         to-outputs =
             written-more (λ o. markOf (f o) o) true n (replicate portLimit false) (s .to-outputs)
-            (ap (λ x. markOf x n) e) t;
+            (ap (λ x. markOf x n) e) (p .to-output);
       }
 
-  pub length-straightened : length places′ ≡ length places
-  length-straightened = ap length (s .to-buffers) ∙ length-written f 3 n places
+  pub length-straight-lists : length listed′ ≡ length listed
+  length-straight-lists = ap length (s .lists) ∙ length-leaving f n listed
+
+  pub length-straight-heads : length heads′ ≡ length heads
+  length-straight-heads = ap length (s .list-heads) ∙ length-leavingHeads f n table listed heads
+
+  pub length-straight-best : length best′ ≡ length best
+  length-straight-best = ap length (s .bests) ∙ length-entering table f n best
 
   pub length-inputs : length inputs ≡ portLimit
   length-inputs = ap length (s .from-inputs) ∙ length-written (λ o. f o / cellLimit) true n (replicate portLimit false)
@@ -57,62 +142,153 @@ module _ {f : ℕ → ℕ} {n : ℕ} {places places′ : List ℕ} {inputs outpu
 ------------------------------------------------------------------------
 -- sent cells
 
-pub sent-none : (table : List ℕ) (f : ℕ → ℕ) (places : List ℕ) (cross : List (List ℕ)) (best : List ℕ)
-    → Sent table f 0 places places cross cross best best
-unfolding written sending entering
-sent-none table f places cross best = record { to-crosspoints = refl; filled = refl; bests = refl }
+square-keying : (table : List ℕ) (f : ℕ → ℕ) (keys : List (List ℕ)) → Square keys → (n : ℕ)
+    → Square (keying table f n keys)
+unfolding keying
+square-keying table f keys h zero = h
+square-keying table f keys h (suc n) =
+    square-put (keying table f n keys) (square-keying table f keys h n) (entryAt table (f n) .cell .output)
+    (f n / cellLimit) (keyAt table (f n))
 
-module _ {table : List ℕ} {f : ℕ → ℕ} {n : ℕ} {places places′ : List ℕ} {cross cross′ : List (List ℕ)}
-    {best best′ : List ℕ} (s : Sent table f n places places′ cross cross′ best best′) where
+pub sent-none : (f : ℕ → ℕ) (table listed heads : List ℕ) (cross keys : List (List ℕ)) (best : List ℕ)
+    → Sent f 0 table table listed listed heads heads cross cross keys keys best best
+unfolding written leaving leavingHeads sending keying entering
+sent-none f table listed heads cross keys best =
+    record {
+      to-crosspoints = refl;
+      lists = refl;
+      list-heads = refl;
+      filled = refl;
+      keyed = refl;
+      bests = refl;
+    }
+
+module _ {f : ℕ → ℕ} {n : ℕ} {table table′ listed listed′ heads heads′ : List ℕ} {cross cross′ keys keys′ : List (List ℕ)}
+    {best best′ : List ℕ} (s : Sent f n table table′ listed listed′ heads heads′ cross cross′ keys keys′ best best′) where
+  pub kept-sent : Kept table table′
+  kept-sent = kept-by f 2 n (s .to-crosspoints)
+
   sending-more : {k : ℕ} {cross″ : List (List ℕ)} → k ≡ f n
-      → cross″ ≡ put cross′ (k / cellLimit) (entryAt table k .cell .output) k → cross″ ≡ sending table f (n + 1) cross
+      → cross″ ≡ put cross′ (k / cellLimit) (entryAt table′ k .cell .output) k → cross″ ≡ sending table f (n + 1) cross
   unfolding sending
-  sending-more e q = rw (add-one n, ← s .filled, ← e) q
+  sending-more {k} e q =
+      rw (add-one n, ← s .filled, ← e)
+      (q ∙ ap (λ c. put cross′ (k / cellLimit) (c .output) k) (kept-sent .cells k))
 
-  entering-more : {k : ℕ} {best″ : List ℕ} → k ≡ f n → best″ ≡ entered table best′ k → best″ ≡ entering table f (n + 1) best
-  unfolding entering
-  entering-more e q = rw (add-one n, ← s .bests, ← e) q
+  keying-more : {k : ℕ} {keys″ : List (List ℕ)} → k ≡ f n
+      → keys″ ≡ put keys′ (entryAt table′ k .cell .output) (k / cellLimit) (keyAt table′ k)
+      → keys″ ≡ keying table f (n + 1) keys
+  unfolding keying
+  keying-more {k} e q =
+      rw (add-one n, ← s .keyed, ← e)
+      (q
+      ∙ ap (λ c. put keys′ (c .output) (k / cellLimit) (keyAt table′ k)) (kept-sent .cells k)
+      ∙ ap (put keys′ (entryAt table k .cell .output) (k / cellLimit)) (keyAt-kept kept-sent k))
 
-  pub sent-more : {k : ℕ} {places″ : List ℕ} {cross″ : List (List ℕ)} {best″ : List ℕ} → k ≡ f n
-      → places″ ≡ set places′ k 2 → cross″ ≡ put cross′ (k / cellLimit) (entryAt table k .cell .output) k
-      → best″ ≡ entered table best′ k → Sent table f (n + 1) places places″ cross cross″ best best″
-  sent-more e p q t =
+  pub sent-more : {k : ℕ} {table″ listed″ heads″ : List ℕ} {cross″ keys″ : List (List ℕ)} {best″ : List ℕ} → k ≡ f n
+      → Crossed table′ k table″ listed′ listed″ heads′ heads″ cross′ cross″ keys′ keys″ best′ best″
+      → Sent f (n + 1) table table″ listed listed″ heads heads″ cross cross″ keys keys″ best best″
+  sent-more e p =
       record {
-        to-crosspoints = written-more f 2 n places (s .to-crosspoints) e p;
-        filled = sending-more e q;
-        bests = entering-more e t;
+        to-crosspoints = written-more (λ i. placeAt (f i)) 2 n table (s .to-crosspoints) (ap placeAt e) (p .to-crosspoint);
+        lists = leaving-more f n listed (s .lists) e (p .left-list);
+        list-heads = heads-more f n kept-sent e listed heads (s .lists) (s .list-heads) (p .left-heads);
+        filled = sending-more e (p .filled);
+        keyed = keying-more e (p .keyed);
+        bests = entering-more f n kept-sent e best (s .bests) (p .best-in);
       }
 
-  pub length-sent : length places′ ≡ length places
-  length-sent = ap length (s .to-crosspoints) ∙ length-written f 2 n places
+  pub length-sent-lists : length listed′ ≡ length listed
+  length-sent-lists = ap length (s .lists) ∙ length-leaving f n listed
 
-  pub length-best : length best′ ≡ length best
-  length-best = ap length (s .bests) ∙ length-entering table f n best
+  pub length-sent-heads : length heads′ ≡ length heads
+  length-sent-heads = ap length (s .list-heads) ∙ length-leavingHeads f n table listed heads
+
+  pub length-sent-best : length best′ ≡ length best
+  length-sent-best = ap length (s .bests) ∙ length-entering table f n best
 
   pub square-sent : Square cross → Square cross′
   square-sent h = rw (s .filled) (square-sending table f cross h n)
 
+  pub square-sent-keys : Square keys → Square keys′
+  square-sent-keys h = rw (s .keyed) (square-keying table f keys h n)
+
 ------------------------------------------------------------------------
 -- pulled cells
 
-pub pulled-none : (f : ℕ → ℕ) (places : List ℕ) (cross : List (List ℕ)) → Pulled f 0 places places cross cross
-unfolding written pulling
-pulled-none f places cross = record { to-buffers = refl; emptied = refl }
+square-unkeying : (f : ℕ → ℕ) (keys : List (List ℕ)) → Square keys → (n : ℕ) → Square (unkeying f n keys)
+unfolding unkeying
+square-unkeying f keys h zero = h
+square-unkeying f keys h (suc n) =
+    square-put (unkeying f n keys) (square-unkeying f keys h n) n (f n / cellLimit) noKey
 
-module _ {f : ℕ → ℕ} {n : ℕ} {places places′ : List ℕ} {cross cross′ : List (List ℕ)}
-    (s : Pulled f n places places′ cross cross′) where
+pub pulled-none : (f : ℕ → ℕ) (table : List ℕ) (cross keys : List (List ℕ)) (best : List ℕ)
+    → Pulled f 0 table table cross cross keys keys best best
+unfolding written pulling unkeying entering
+pulled-none f table cross keys best = record { to-buffers = refl; emptied = refl; unkeyed = refl; bests = refl }
+
+module _ {f : ℕ → ℕ} {n : ℕ} {table table′ : List ℕ} {cross cross′ keys keys′ : List (List ℕ)} {best best′ : List ℕ}
+    (s : Pulled f n table table′ cross cross′ keys keys′ best best′) where
+  pub kept-pulled : Kept table table′
+  kept-pulled = kept-by f 3 n (s .to-buffers)
+
   pulling-more : {k : ℕ} {cross″ : List (List ℕ)} → k ≡ f n → cross″ ≡ put cross′ (k / cellLimit) n nowhere
       → cross″ ≡ pulling f (n + 1) cross
   unfolding pulling
   pulling-more e q = rw (add-one n, ← s .emptied, ← e) q
 
-  pub pulled-more : {k : ℕ} {places″ : List ℕ} {cross″ : List (List ℕ)} → k ≡ f n → places″ ≡ set places′ k 3
-      → cross″ ≡ put cross′ (k / cellLimit) n nowhere → Pulled f (n + 1) places places″ cross cross″
-  pulled-more e p q =
-      record { to-buffers = written-more f 3 n places (s .to-buffers) e p; emptied = pulling-more e q }
+  unkeying-more : {k : ℕ} {keys″ : List (List ℕ)} → k ≡ f n → keys″ ≡ put keys′ n (k / cellLimit) noKey
+      → keys″ ≡ unkeying f (n + 1) keys
+  unfolding unkeying
+  unkeying-more e q = rw (add-one n, ← s .unkeyed, ← e) q
 
-  pub length-pulled : length places′ ≡ length places
-  length-pulled = ap length (s .to-buffers) ∙ length-written f 3 n places
+  pub pulled-more : {k : ℕ} {table″ : List ℕ} {cross″ keys″ : List (List ℕ)} {best″ : List ℕ} → k ≡ f n
+      → Taken table′ k n table″ cross′ cross″ keys′ keys″ best′ best″
+      → Pulled f (n + 1) table table″ cross cross″ keys keys″ best best″
+  pulled-more e p =
+      record {
+        to-buffers = written-more (λ i. placeAt (f i)) 3 n table (s .to-buffers) (ap placeAt e) (p .to-buffer);
+        emptied = pulling-more e (p .emptied);
+        unkeyed = unkeying-more e (p .unkeyed);
+        bests = entering-more f n kept-pulled e best (s .bests) (p .best-in);
+      }
+
+  pub length-pulled-best : length best′ ≡ length best
+  length-pulled-best = ap length (s .bests) ∙ length-entering table f n best
 
   pub square-pulled : Square cross → Square cross′
   square-pulled h = rw (s .emptied) (square-pulling f cross h n)
+
+  pub square-pulled-keys : Square keys → Square keys′
+  square-pulled-keys h = rw (s .unkeyed) (square-unkeying f keys h n)
+
+------------------------------------------------------------------------
+-- the rounds on a table that is kept
+
+module _ {old new : List ℕ} (kept : Kept old new) (f : ℕ → ℕ) where
+  pub heads-kept : (n : ℕ) (listed heads : List ℕ) → leavingHeads new f n listed heads ≡ leavingHeads old f n listed heads
+  unfolding leavingHeads
+  heads-kept zero listed heads = refl
+  heads-kept (suc n) listed heads =
+      leftHeads-kept kept (leaving f n listed) (leavingHeads new f n listed heads) (f n)
+      ∙ ap (λ h. leftHeads old (leaving f n listed) h (f n)) (heads-kept n listed heads)
+
+  pub sending-kept : (n : ℕ) (cross : List (List ℕ)) → sending new f n cross ≡ sending old f n cross
+  unfolding sending
+  sending-kept zero cross = refl
+  sending-kept (suc n) cross =
+      ap (λ c. put (sending new f n cross) (f n / cellLimit) (c .output) (f n)) (kept .cells (f n))
+      ∙ ap (λ x. put x (f n / cellLimit) (entryAt old (f n) .cell .output) (f n)) (sending-kept n cross)
+
+  pub keying-kept : (n : ℕ) (keys : List (List ℕ)) → keying new f n keys ≡ keying old f n keys
+  unfolding keying
+  keying-kept zero keys = refl
+  keying-kept (suc n) keys =
+      ap (λ c. put (keying new f n keys) (c .output) (f n / cellLimit) (keyAt new (f n))) (kept .cells (f n))
+      ∙ ap₂ (λ x y. put x (entryAt old (f n) .cell .output) (f n / cellLimit) y) (keying-kept n keys) (keyAt-kept kept (f n))
+
+  pub entering-kept : (n : ℕ) (best : List ℕ) → entering new f n best ≡ entering old f n best
+  unfolding entering
+  entering-kept zero best = refl
+  entering-kept (suc n) best =
+      entered-kept kept (entering new f n best) (f n) ∙ ap (λ b. entered old b (f n)) (entering-kept n best)

@@ -1,55 +1,43 @@
 -- The cases of rules 5 and 6 on numbers.
 --     straight-, mark-   what goes straight to an output, and what it marks
 --     send-, take-       what an input sends, and what an output takes
-use Prim.Native.Nat.{ℕ, _+_, _*_, _<_, _≤_}
-use native.Mathlib.Omega.{arith}
-use mathlib.Core.Bool.{Bool, true, false}
-use mathlib.Core.Path.{_≡_, sym}
+--     heads-             the heads that a head leaves
+use Prim.Native.Nat.{ℕ, _+_, _*_, _/_, _%_, _<_, _≤_}
+use mathlib.Core.Bool.{Bool, true, false, cond, _&&_}
+use mathlib.Core.Path.{_≡_, sym, _∙_, ap, subst}
 use mathlib.Core.Logic.{_≢_}
 use mathlib.Core.List.{List}
 use borrow.Author.Tests.{le-leb, lt-leb, lt-ltb, le-ltb, eq-eqb, ne-eqb}
 use lib.Dec.{ltb, leb, eqb}
 use lib.ListN.{getD}
-use Rattle.laws.proofs.Tests.{or-l, or-r, or-false, cond-pass, cond-fail}
+use Rattle.laws.proofs.Tests.{or-l, or-r, or-false, and-false-l, cond-pass, cond-fail}
+use Rattle.sets.specs.Sets.{positions, withOne, withoutOne, from, firstOf}
 use Rattle.cell.specs.Limits.{cellLimit, portLimit}
+use Rattle.layout.specs.Entry.{entryAt}
+use Rattle.table.specs.Entries.{flowWord}
 use Rattle.places.specs.Choices.{nowhere}
-use Rattle.moving.specs.Moves.{matchAt, straightTo, markOf, sendOf, takeOf, Matches}
+use Rattle.moving.specs.Moves.{nextOf, headsLeft, straightTo, markOf, sendOf, takeOf}
 
-module _ (scheduled numbers held refused : List ℕ) (output : ℕ) where
-  -- the input that the output holds, and where its match stands in the columns
-  abbrev input : ℕ
-  input = getD held output 0
+module _ (scheduled held : List ℕ) (output : ℕ) where
+  -- the match that the output holds, and the scheduled cell of its input
+  abbrev number : ℕ
+  number = getD held output 0
 
-  abbrev position : ℕ
-  position = cellLimit * input + getD refused input 0
+  abbrev own : ℕ
+  own = getD scheduled (number / cellLimit) 0
 
-  pub match-position : Matches numbers held refused → output < portLimit → input < portLimit
-      → position < portLimit * cellLimit
-  match-position known o l = omega (arith, known .position output o l)
-
-  pub straight-free : portLimit ≤ input → nowhere ≡ straightTo scheduled numbers held refused output
+  pub straight-free : nowhere ≤ number → nowhere ≡ straightTo scheduled held output
   unfolding straightTo
-  straight-free h =
-      sym
-      (cond-pass _ _ _
-      (or-l (leb portLimit input) (eqb (matchAt numbers refused input) (getD scheduled input 0)) (le-leb portLimit input h)))
+  straight-free h = sym (cond-pass _ _ _ (or-l (leb nowhere number) (eqb number own) (le-leb nowhere number h)))
 
-  pub straight-scheduled : getD numbers position 0 ≡ getD scheduled input 0
-      → nowhere ≡ straightTo scheduled numbers held refused output
-  unfolding straightTo matchAt
-  straight-scheduled h =
-      sym
-      (cond-pass _ _ _
-      (or-r (leb portLimit input) (eqb (getD numbers position 0) (getD scheduled input 0)) (eq-eqb _ _ h)))
+  pub straight-scheduled : number ≡ own → nowhere ≡ straightTo scheduled held output
+  unfolding straightTo
+  straight-scheduled h = sym (cond-pass _ _ _ (or-r (leb nowhere number) (eqb number own) (eq-eqb _ _ h)))
 
-  pub straight-match : input < portLimit → getD numbers position 0 ≢ getD scheduled input 0
-      → getD numbers position 0 ≡ straightTo scheduled numbers held refused output
-  unfolding straightTo matchAt
+  pub straight-match : number < nowhere → number ≢ own → number ≡ straightTo scheduled held output
+  unfolding straightTo
   straight-match l h =
-      sym
-      (cond-fail _ _ _
-      (or-false (leb portLimit input) (eqb (getD numbers position 0) (getD scheduled input 0)) (lt-leb portLimit input l)
-      (ne-eqb _ _ h)))
+      sym (cond-fail _ _ _ (or-false (leb nowhere number) (eqb number own) (lt-leb nowhere number l) (ne-eqb _ _ h)))
 
 module _ (k output : ℕ) where
   pub mark-some : k < nowhere → markOf k output ≡ output
@@ -77,3 +65,40 @@ module _ (straight : List Bool) (best : List ℕ) (output : ℕ) where
   pub take-best : getD straight output false ≡ false → takeOf straight best output ≡ getD best output 0
   unfolding takeOf
   take-best h = cond-fail (getD straight output false) nowhere (getD best output 0) h
+
+module _ (table : List ℕ) (list heads k : ℕ) where
+  abbrev others : ℕ
+  others = withoutOne heads (k % cellLimit)
+
+  abbrev next : ℕ
+  next = nextOf list (k % cellLimit)
+
+  abbrev follower : ℕ
+  follower = flowWord (entryAt table (cellLimit * (k / cellLimit) + next) .cell)
+
+  abbrev leaver : ℕ
+  leaver = flowWord (entryAt table k .cell)
+
+  -- nothing follows, or a cell, which is of the same flow or not
+  pub heads-end : positions ≤ next → headsLeft table list heads k ≡ others
+  unfolding headsLeft
+  heads-end h =
+      cond-fail _ _ _ (and-false-l (ltb next positions) (eqb follower leaver) (le-ltb next positions h))
+
+  heads-next : next < positions → headsLeft table list heads k ≡ cond (eqb follower leaver) (withOne others next) others
+  unfolding headsLeft
+  heads-next l = ap (λ b. cond (b && eqb follower leaver) (withOne others next) others) (lt-ltb next positions l)
+
+  -- as the code finds it
+  pub heads-found : {found kept n f g : ℕ} → found ≡ cond (eqb f g) (withOne kept n) kept → kept ≡ others → n ≡ next
+      → f ≡ follower → g ≡ leaver → n < positions → found ≡ headsLeft table list heads k
+  heads-found e o m p q l =
+      e
+      ∙ (λ x. cond (eqb (p x) (q x)) (withOne (o x) (m x)) (o x))
+      ∙ sym (heads-next (subst (λ i. i < positions) m l))
+
+-- the position behind one, as the code finds it
+pub next-is : (list j : ℕ) {without after next : ℕ} → without ≡ withoutOne list j → after ≡ from without j → next ≡ firstOf after
+    → next ≡ nextOf list j
+unfolding nextOf
+next-is list j p q r = r ∙ ap firstOf (q ∙ ap (λ l. from l j) p)

@@ -1,147 +1,174 @@
-// Scope 3.7 and 3.8, rules 5 and 6: the cells move.
+// Scope 3.7 and 3.8, rules 5 and 6: the cells move. A cell that moves has its place written into the table at once, and
+// the view of the table follows it.
 // Each rule has a function that chooses the number of a cell, 1,024 for none, a function that moves that cell, and a
 // function that does both for every port.
+use places::Choice;
+use places::NO_KEY;
 use places::NOWHERE;
 use places::better;
 use table::entry::BUFFERED;
+use table::entry::CELLS;
 use table::entry::CROSSED;
+use table::entry::PORTS;
+use table::entry::flow_word_of;
+use table::entry::key_of;
+use table::entry::output_of;
+use table::entry::write_place;
 ghost use mathlib.Core.Path.{_≡_};
-ghost use mathlib.Core.Bool.{true};
-ghost use Prim.Native.Nat.{ℕ, _/_, _<_, _≤_};
-ghost use lib.ListN.{length, set};
-ghost use Rattle.cell.specs.Limits.{cellLimit};
-ghost use Rattle.layout.specs.Entry.{entryAt, portsIn};
-ghost use Rattle.layout.specs.Table.{tableSize};
+ghost use Prim.Native.Nat.{_<_};
+ghost use lib.ListN.{length};
+ghost use Rattle.layout.specs.Entry.{entryAt};
+ghost use Rattle.layout.specs.Table.{tableSize, encode, stateOf, IsTable};
 ghost use Rattle.places.specs.Choices.{nowhere};
 ghost use Rattle.places.specs.Scan.{Bests};
 ghost use Rattle.places.specs.View.{Square};
-ghost use Rattle.moving.specs.Moved.{Steady, Settled, Moved};
-ghost use Rattle.moving.specs.Moves.{put, entered, straightTo, markOf, sendOf, takeOf};
-ghost use Rattle.moving.specs.Moves.{Matches, Straightened, Sent, Pulled};
+ghost use Rattle.places.specs.Viewed.{Viewed};
+ghost use Rattle.moving.specs.Moved.{afterPhase, Settled};
+ghost use Rattle.moving.specs.Moves.{put, entered, left, leftHeads, headsLeft, straightTo, sendOf, takeOf};
+ghost use Rattle.moving.specs.Moves.{Bound, AllBound, Straight, Crossed, Taken, Straightened, Sent, Pulled};
 
 // The ports of the straight cells: the inputs that they left, and the outputs that they went to.
-struct Straight {
+struct Marks {
     inputs: [bool; 16],
     outputs: [bool; 16],
 }
 
-// Rules 5 and 6: the straight cells go, then the inputs send, then the outputs take. `best` is lent with the best
-// crosspoint cell of each output before anything moves; only the cells that are sent can be better. What is in it
-// afterwards is the function's own: sixteen numbers.
+// Rules 5 and 6: the straight cells go, then the inputs send, then the outputs take. `best` has the best buffered cell of
+// each output, `choice.best` the best crosspoint cell before anything moves, and `held` the match of each output.
 pub fn move_cells(
-    table: &[u8],
-    places: &mut [u8],
+    table: &mut [u8],
+    listed: &mut [u64; 16],
+    heads: &mut [u64; 16],
     cross: &mut [[u16; 16]; 16],
-    ports: usize,
+    keys: &mut [[u64; 16]; 16],
     best: &mut [u16; 16],
-    scheduled: &[u16; 16],
-    numbers: &[u16],
-    held: &[u8; 16],
-    refused: &[u8; 16],
+    choice: Choice,
+    held: [u16; 16],
 )
-    requires { ⌜ Steady (now table) (now places) (now cross) × (ports ≡ portsIn (now table)) ⌝ }
-    requires { ⌜ Settled (now table) (now places) (now scheduled) (now numbers) (now held) (now refused) ⌝ }
-    requires { ⌜ Bests (now table) (now cross) (now best) ⌝ }
-    ensures { λ _. ⌜ Moved (now (table .entry)) (now (places .entry)) (now (places .exit)) (now (cross .exit)) ⌝ }
+    requires { ⌜ IsTable (now table)
+        × Viewed (now table) (now listed) (now heads) (now cross) (now keys) (now best) ⌝ }
+    requires { ⌜ Settled (now table) (choice .scheduled) held × Bests (now table) (now cross) (choice .best) ⌝ }
+    ensures { λ _. ⌜ now (table .exit) ≡ encode (afterPhase (stateOf (now (table .entry)))) ⌝ }
+    ensures { λ _. ⌜ Viewed (now (table .exit)) (now (listed .exit)) (now (heads .exit)) (now (cross .exit))
+        (now (keys .exit)) (now (best .exit)) ⌝ }
+    ensures { λ _. ⌜ IsTable (now (table .exit)) ⌝ }
 {
-    let straight = go_straight(places, scheduled, numbers, held, refused);
-    let inputs = straight.inputs;
-    let outputs = straight.outputs;
-    send_scheduled(table, places, cross, best, scheduled, &inputs);
-    pull_best(places, cross, ports, best, &outputs);
+    let scheduled = choice.scheduled;
+    let mut crossed = choice.best;
+    let marks = go_straight(table, listed, heads, best, &scheduled, &held);
+    let inputs = marks.inputs;
+    let outputs = marks.outputs;
+    send_scheduled(
+        table,
+        listed,
+        heads,
+        cross,
+        keys,
+        &mut crossed,
+        &scheduled,
+        &inputs,
+    );
+    pull_best(table, cross, keys, best, &crossed, &outputs);
 }
 
 // Rule 5: every matched urgent cell goes straight to its output buffer.
 fn go_straight(
-    places: &mut [u8],
+    table: &mut [u8],
+    listed: &mut [u64; 16],
+    heads: &mut [u64; 16],
+    best: &mut [u16; 16],
     scheduled: &[u16; 16],
-    numbers: &[u16],
-    held: &[u8; 16],
-    refused: &[u8; 16],
-) -> Straight
-    requires { ⌜ length (now places) ≡ 1024 ⌝ }
-    requires { ⌜ Matches (now numbers) (now held) (now refused) ⌝ }
-    ensures { λ r. ⌜ Straightened
-        (straightTo (now (scheduled .entry)) (now (numbers .entry)) (now (held .entry)) (now (refused .entry))) 16
-        (now (places .entry)) (now (places .exit)) (r .inputs) (r .outputs) ⌝ }
+    held: &[u16; 16],
+) -> Marks
+    requires { ⌜ (length (now table) ≡ tableSize) × (length (now listed) ≡ 16) × (length (now heads) ≡ 16)
+        × (length (now best) ≡ 16) ⌝ }
+    requires { ⌜ AllBound (now table) (straightTo (now scheduled) (now held)) ⌝ }
+    ensures { λ r. ⌜ Straightened (straightTo (now (scheduled .entry)) (now (held .entry))) 16
+        (now (table .entry)) (now (table .exit)) (now (listed .entry)) (now (listed .exit))
+        (now (heads .entry)) (now (heads .exit)) (now (best .entry)) (now (best .exit)) (r .inputs) (r .outputs) ⌝ }
 {
     let mut inputs = [false; 16];
     let mut outputs = [false; 16];
     let mut output = 0;
-    while output < 16 {
-        let number = straight_number(scheduled, numbers, held, refused, output);
-        straight_to(places, &mut inputs, &mut outputs, number, output);
+    while output < PORTS {
+        let number = straight_number(scheduled, held, output);
+        straight_to(
+            table,
+            listed,
+            heads,
+            best,
+            &mut inputs,
+            &mut outputs,
+            number,
+            output,
+        );
         output += 1;
     }
-    Straight { inputs, outputs }
+    Marks { inputs, outputs }
 }
 
 // Rule 5: every input without a straight cell sends its scheduled cell to the crosspoint, where it may be the best of its
-// output.
+// output: `best` has the best crosspoint cell of each.
 fn send_scheduled(
-    table: &[u8],
-    places: &mut [u8],
+    table: &mut [u8],
+    listed: &mut [u64; 16],
+    heads: &mut [u64; 16],
     cross: &mut [[u16; 16]; 16],
+    keys: &mut [[u64; 16]; 16],
     best: &mut [u16; 16],
     scheduled: &[u16; 16],
     straight: &[bool; 16],
 )
-    requires { ⌜ (length (now table) ≡ tableSize) × (length (now places) ≡ 1024) × Square (now cross)
-        × (length (now best) ≡ 16) ⌝ }
-    requires { ⌜ ((input : ℕ) → input < 16 → sendOf (now straight) (now scheduled) input < nowhere
-        → entryAt (now table) (sendOf (now straight) (now scheduled) input) .cell .output < 16) ⌝ }
-    ensures { λ _. ⌜ Sent (now (table .entry)) (sendOf (now (straight .entry)) (now (scheduled .entry))) 16
-        (now (places .entry)) (now (places .exit)) (now (cross .entry)) (now (cross .exit))
-        (now (best .entry)) (now (best .exit)) ⌝ }
+    requires { ⌜ (length (now table) ≡ tableSize) × (length (now listed) ≡ 16) × (length (now heads) ≡ 16)
+        × (length (now best) ≡ 16) × Square (now cross) × Square (now keys) ⌝ }
+    requires { ⌜ AllBound (now table) (sendOf (now straight) (now scheduled)) ⌝ }
+    ensures { λ _. ⌜ Sent (sendOf (now (straight .entry)) (now (scheduled .entry))) 16
+        (now (table .entry)) (now (table .exit)) (now (listed .entry)) (now (listed .exit))
+        (now (heads .entry)) (now (heads .exit)) (now (cross .entry)) (now (cross .exit))
+        (now (keys .entry)) (now (keys .exit)) (now (best .entry)) (now (best .exit)) ⌝ }
 {
     let mut input = 0;
-    while input < 16 {
+    while input < PORTS {
         let number = send_number(scheduled, straight, input);
-        send(table, places, cross, number);
-        enter(table, best, number);
+        send(table, listed, heads, cross, keys, best, number);
         input += 1;
     }
 }
 
-// Rule 6: every output without a straight cell takes the best cell at its crosspoints.
+// Rule 6: every output without a straight cell takes the best cell at its crosspoints, `crossed`, to its buffer, whose best
+// cell is in `best`.
 fn pull_best(
-    places: &mut [u8],
+    table: &mut [u8],
     cross: &mut [[u16; 16]; 16],
-    ports: usize,
-    best: &[u16; 16],
+    keys: &mut [[u64; 16]; 16],
+    best: &mut [u16; 16],
+    crossed: &[u16; 16],
     straight: &[bool; 16],
 )
-    requires { ⌜ (ports ≤ 16) × (length (now places) ≡ 1024) × Square (now cross) ⌝ }
-    ensures { λ _. ⌜ Pulled (takeOf (now (straight .entry)) (now (best .entry))) ports
-        (now (places .entry)) (now (places .exit)) (now (cross .entry)) (now (cross .exit)) ⌝ }
+    requires { ⌜ (length (now table) ≡ tableSize) × (length (now best) ≡ 16) × Square (now cross) × Square (now keys) ⌝ }
+    requires { ⌜ AllBound (now table) (takeOf (now straight) (now crossed)) ⌝ }
+    ensures { λ _. ⌜ Pulled (takeOf (now (straight .entry)) (now (crossed .entry))) 16
+        (now (table .entry)) (now (table .exit)) (now (cross .entry)) (now (cross .exit))
+        (now (keys .entry)) (now (keys .exit)) (now (best .entry)) (now (best .exit)) ⌝ }
 {
     let mut output = 0;
-    while output < ports {
-        let number = pull_number(best, straight, output);
-        pull(places, cross, number, output);
+    while output < PORTS {
+        let number = pull_number(crossed, straight, output);
+        pull(table, cross, keys, best, number, output);
         output += 1;
     }
 }
 
 // The cell that goes straight to an output: the match that it holds, unless that is the scheduled cell of its input.
-fn straight_number(
-    scheduled: &[u16; 16],
-    numbers: &[u16],
-    held: &[u8; 16],
-    refused: &[u8; 16],
-    output: usize,
-) -> u16
-    requires { ⌜ Matches (now numbers) (now held) (now refused) × (output < 16) ⌝ }
-    ensures { λ r. ⌜ r
-        ≡ straightTo (now (scheduled .entry)) (now (numbers .entry)) (now (held .entry)) (now (refused .entry)) output ⌝ }
+fn straight_number(scheduled: &[u16; 16], held: &[u16; 16], output: usize) -> u16
+    requires { ⌜ output < 16 ⌝ }
+    ensures { λ r. ⌜ r ≡ straightTo (now (scheduled .entry)) (now (held .entry)) output ⌝ }
 {
-    let proposer = held[output];
-    if proposer >= 16 {
+    let number = held[output];
+    if number >= NOWHERE {
         return NOWHERE;
     }
-    let input = proposer as usize;
-    let number = numbers[64 * input + refused[input] as usize];
-    if number == scheduled[input] {
+    if number == scheduled[number as usize / CELLS] {
         return NOWHERE;
     }
     number
@@ -149,23 +176,31 @@ fn straight_number(
 
 // A straight cell goes to the buffer of its output, and its ports are marked.
 fn straight_to(
-    places: &mut [u8],
+    table: &mut [u8],
+    listed: &mut [u64; 16],
+    heads: &mut [u64; 16],
+    best: &mut [u16; 16],
     inputs: &mut [bool; 16],
     outputs: &mut [bool; 16],
     number: u16,
     output: usize,
 )
-    requires { ⌜ (length (now places) ≡ 1024) × (length (now inputs) ≡ 16) × (length (now outputs) ≡ 16) × (output < 16) ⌝ }
-    ensures { λ _. ⌜ now (places .exit) ≡ set (now (places .entry)) number 3 ⌝ }
-    ensures { λ _. ⌜ now (inputs .exit) ≡ set (now (inputs .entry)) (number / cellLimit) true ⌝ }
-    ensures { λ _. ⌜ now (outputs .exit) ≡ set (now (outputs .entry)) (markOf number output) true ⌝ }
+    requires { ⌜ (length (now table) ≡ tableSize) × (length (now listed) ≡ 16) × (length (now heads) ≡ 16)
+        × (length (now best) ≡ 16) × (length (now inputs) ≡ 16) × (length (now outputs) ≡ 16) ⌝ }
+    requires { ⌜ Bound (now table) number × (output < 16) ⌝ }
+    ensures { λ _. ⌜ Straight (now (table .entry)) number output (now (table .exit))
+        (now (listed .entry)) (now (listed .exit)) (now (heads .entry)) (now (heads .exit))
+        (now (best .entry)) (now (best .exit)) (now (inputs .entry)) (now (inputs .exit))
+        (now (outputs .entry)) (now (outputs .exit)) ⌝ }
 {
-    let k = number as usize;
-    if k >= 1024 {
+    if number >= NOWHERE {
         return;
     }
-    places[k] = BUFFERED;
-    inputs[k / 64] = true;
+    let k = number as usize;
+    leave_list(table, listed, heads, k);
+    enter(table, best, number);
+    write_place(table, k, BUFFERED);
+    inputs[k / CELLS] = true;
     outputs[output] = true;
 }
 
@@ -181,57 +216,121 @@ fn send_number(scheduled: &[u16; 16], straight: &[bool; 16], input: usize) -> u1
 }
 
 // A cell goes to its crosspoint.
-fn send(table: &[u8], places: &mut [u8], cross: &mut [[u16; 16]; 16], number: u16)
-    requires { ⌜ (length (now table) ≡ tableSize) × (length (now places) ≡ 1024) × Square (now cross) ⌝ }
-    requires { ⌜ (number < nowhere → entryAt (now table) number .cell .output < 16) ⌝ }
-    ensures { λ _. ⌜ now (places .exit) ≡ set (now (places .entry)) number 2 ⌝ }
-    ensures { λ _. ⌜ now (cross .exit)
-        ≡ put (now (cross .entry)) (number / cellLimit) (entryAt (now (table .entry)) number .cell .output) number ⌝ }
+fn send(
+    table: &mut [u8],
+    listed: &mut [u64; 16],
+    heads: &mut [u64; 16],
+    cross: &mut [[u16; 16]; 16],
+    keys: &mut [[u64; 16]; 16],
+    best: &mut [u16; 16],
+    number: u16,
+)
+    requires { ⌜ (length (now table) ≡ tableSize) × (length (now listed) ≡ 16) × (length (now heads) ≡ 16)
+        × (length (now best) ≡ 16) × Square (now cross) × Square (now keys) ⌝ }
+    requires { ⌜ Bound (now table) number ⌝ }
+    ensures { λ _. ⌜ Crossed (now (table .entry)) number (now (table .exit))
+        (now (listed .entry)) (now (listed .exit)) (now (heads .entry)) (now (heads .exit))
+        (now (cross .entry)) (now (cross .exit)) (now (keys .entry)) (now (keys .exit))
+        (now (best .entry)) (now (best .exit)) ⌝ }
 {
-    let k = number as usize;
-    if k >= 1024 {
+    if number >= NOWHERE {
         return;
     }
-    let output = table::entry::output_of(table, k) as usize;
-    places[k] = CROSSED;
-    cross[k / 64][output] = number;
-}
-
-// A cell that went to its crosspoint is the best of its output, unless the one so far is better.
-fn enter(table: &[u8], best: &mut [u16; 16], number: u16)
-    requires { ⌜ (length (now table) ≡ tableSize) × (length (now best) ≡ 16) ⌝ }
-    requires { ⌜ (number < nowhere → entryAt (now table) number .cell .output < 16) ⌝ }
-    ensures { λ _. ⌜ now (best .exit) ≡ entered (now (table .entry)) (now (best .entry)) number ⌝ }
-{
     let k = number as usize;
-    if k >= 1024 {
-        return;
-    }
-    let output = table::entry::output_of(table, k) as usize;
-    best[output] = better(table, best[output], number);
+    leave_list(table, listed, heads, k);
+    enter(table, best, number);
+    let output = output_of(table, k) as usize;
+    let key = key_of(table, k);
+    fill(cross, keys, k / CELLS, output, number, key);
+    write_place(table, k, CROSSED);
 }
 
 // The cell that an output takes: the best at its crosspoints, unless a straight cell came to it.
-fn pull_number(best: &[u16; 16], straight: &[bool; 16], output: usize) -> u16
+fn pull_number(crossed: &[u16; 16], straight: &[bool; 16], output: usize) -> u16
     requires { ⌜ output < 16 ⌝ }
-    ensures { λ r. ⌜ r ≡ takeOf (now (straight .entry)) (now (best .entry)) output ⌝ }
+    ensures { λ r. ⌜ r ≡ takeOf (now (straight .entry)) (now (crossed .entry)) output ⌝ }
 {
     if straight[output] {
         return NOWHERE;
     }
-    best[output]
+    crossed[output]
 }
 
 // A cell goes from its crosspoint to the buffer of its output.
-fn pull(places: &mut [u8], cross: &mut [[u16; 16]; 16], number: u16, output: usize)
-    requires { ⌜ (length (now places) ≡ 1024) × Square (now cross) × (output < 16) ⌝ }
-    ensures { λ _. ⌜ now (places .exit) ≡ set (now (places .entry)) number 3 ⌝ }
-    ensures { λ _. ⌜ now (cross .exit) ≡ put (now (cross .entry)) (number / cellLimit) output nowhere ⌝ }
+fn pull(
+    table: &mut [u8],
+    cross: &mut [[u16; 16]; 16],
+    keys: &mut [[u64; 16]; 16],
+    best: &mut [u16; 16],
+    number: u16,
+    output: usize,
+)
+    requires { ⌜ (length (now table) ≡ tableSize) × (length (now best) ≡ 16) × Square (now cross) × Square (now keys) ⌝ }
+    requires { ⌜ Bound (now table) number × (output < 16) ⌝ }
+    ensures { λ _. ⌜ Taken (now (table .entry)) number output (now (table .exit))
+        (now (cross .entry)) (now (cross .exit)) (now (keys .entry)) (now (keys .exit))
+        (now (best .entry)) (now (best .exit)) ⌝ }
 {
-    let k = number as usize;
-    if k >= 1024 {
+    if number >= NOWHERE {
         return;
     }
-    places[k] = BUFFERED;
-    cross[k / 64][output] = NOWHERE;
+    let k = number as usize;
+    fill(cross, keys, k / CELLS, output, NOWHERE, NO_KEY);
+    enter(table, best, number);
+    write_place(table, k, BUFFERED);
+}
+
+// What stands at a crosspoint, and its key.
+fn fill(
+    cross: &mut [[u16; 16]; 16],
+    keys: &mut [[u64; 16]; 16],
+    input: usize,
+    output: usize,
+    number: u16,
+    key: u64,
+)
+    requires { ⌜ Square (now cross) × Square (now keys) × (input < 16) × (output < 16) ⌝ }
+    ensures { λ _. ⌜ now (cross .exit) ≡ put (now (cross .entry)) input output number ⌝ }
+    ensures { λ _. ⌜ now (keys .exit) ≡ put (now (keys .entry)) output input key ⌝ }
+{
+    cross[input][output] = number;
+    keys[output][input] = key;
+}
+
+// A cell is the best of its output, unless the one so far is better.
+fn enter(table: &[u8], best: &mut [u16; 16], number: u16)
+    requires { ⌜ (length (now table) ≡ tableSize) × (length (now best) ≡ 16) × (number < nowhere) ⌝ }
+    requires { ⌜ entryAt (now table) number .cell .output < 16 ⌝ }
+    ensures { λ _. ⌜ now (best .exit) ≡ entered (now (table .entry)) (now (best .entry)) number ⌝ }
+{
+    let output = output_of(table, number as usize) as usize;
+    best[output] = better(table, best[output], number);
+}
+
+// A head leaves the list of its input.
+fn leave_list(table: &[u8], listed: &mut [u64; 16], heads: &mut [u64; 16], k: usize)
+    requires { ⌜ (length (now table) ≡ tableSize) × (length (now listed) ≡ 16) × (length (now heads) ≡ 16) × (k < 1024) ⌝ }
+    ensures { λ _. ⌜ now (listed .exit) ≡ left (now (listed .entry)) k ⌝ }
+    ensures { λ _. ⌜ now (heads .exit) ≡ leftHeads (now (table .entry)) (now (listed .entry)) (now (heads .entry)) k ⌝ }
+{
+    let input = k / CELLS;
+    let list = listed[input];
+    heads[input] = heads_left(table, list, heads[input], k);
+    listed[input] = sets::without(list, k % CELLS);
+}
+
+// The heads that it leaves. The cells of a flow stand together in a list, so that the next head of its flow is the next
+// cell of the list, if that is of its flow; nothing branches on that, as it would be guessed badly.
+fn heads_left(table: &[u8], list: u64, heads: u64, k: usize) -> u64
+    requires { ⌜ (length (now table) ≡ tableSize) × (k < 1024) ⌝ }
+    ensures { λ r. ⌜ r ≡ headsLeft (now (table .entry)) list heads k ⌝ }
+{
+    let j = k % CELLS;
+    let others = sets::without(heads, j);
+    let next = sets::first(sets::from(sets::without(list, j), j));
+    if next >= CELLS {
+        return others;
+    }
+    let same = flow_word_of(table, CELLS * (k / CELLS) + next) == flow_word_of(table, k);
+    sets::with_if(others, next, same)
 }

@@ -1,5 +1,11 @@
 pub mod Bytes
 pub mod Choices
+pub mod Encoding
+pub mod Heads
+pub mod Keys
+pub mod Own
 pub mod Placed
-pub mod Rows
+pub mod Placing
+pub mod Squares
+pub mod Together
 pub mod Window

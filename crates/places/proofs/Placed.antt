@@ -21,7 +21,8 @@ use Rattle.layout.specs.Table.{placeByte, placeOf, entryBytes, countsBytes, sec
 use Rattle.layout.specs.Entry.{entryAt, portsIn, clockIn, countIn}
 use Rattle.layout.specs.Records.{recordAt, placeByteAt, between, entriesBetween, sectionAt}
 use Rattle.layout.proofs.Table.{placeOf-placeByte, decode-length, encode-counts, encode-decode, stateOf-encode}
-use Rattle.layout.proofs.Table.{decode-sound, decode-state, entryBytes-place, sound-ports, sound-sections}
+use Rattle.layout.proofs.Number.{fits32-below}
+use Rattle.layout.proofs.Table.{decode-sound, decode-state, entryBytes-place, sound-ports, sound-clock, sound-sections}
 use Rattle.layout.proofs.Records.{entryAt-place, stateOf-sections}
 use Rattle.places.specs.View.{waitingAt, window, inTable, InTable}
 use Rattle.places.specs.Scan.{Readable}
@@ -193,6 +194,7 @@ module _ (table : List ℕ) (s : Switch) (e : decode table ≡ some s) where
         counts = decode-count-few;
         outputs = λ k t. rw decode-ports (decode-entry k t .output);
         flows = λ k t. ltb-true _ _ (decode-entry k t .flow);
+        early = λ k t. omega (arith, decode-entry k t .slot, fits32-below _ (sound-clock s (decode-sound table s e)));
       }
 
   -- where the column has the table's own places, the sections are those of its state

@@ -1,23 +1,23 @@
 -- The waiting cells as a table has them: section by section, each a window.
 --     numbersFrom-, run-      a run of numbers rises, and a list for each number
 --     waitingAt-              the fields of the cell with a number
---     window-suc, window-     the first cells of an input
+--     window-                 the first cells of an input
 --     inTable-i, inTable-e    the waiting cells are those whose number is in the table
 --     ofInput-window          those of an input are its window
-use Prim.Native.Nat.{ℕ, zero, suc, _+_, _*_, _-_, _/_, _<_, _≤_}
+use Prim.Native.Nat.{ℕ, zero, suc, _+_, _*_, _/_, _<_, _≤_}
 use native.Mathlib.Omega.{arith}
 use mathlib.Core.Bool.{Bool, true, false}
 use mathlib.Core.Path.{_≡_, refl, sym, _∙_, ap, ap₂, subst}
 use mathlib.Core.Logic.{_⊎_, inl, inr, _≢_}
-use mathlib.Core.List.{List, [], _∷_, _++_, map, map-append, flatten, append-nil, List·Memᴰ}
+use mathlib.Core.List.{List, [], _∷_, _++_, map, flatten, append-nil, List·Memᴰ}
 use mathlib.Core.List.{List·Memᴰ·not-nil, List·Memᴰ·append-cases}
 use mathlib.Core.List.{Memᴰ·append-left, Memᴰ·append-right, Memᴰ·map, Memᴰ·of-map}
 use borrow.Author.Tests.{eq-eqb, ne-eqb}
 use lib.Dec.{eqb}
-use lib.ListN.{length, getD, length-map}
+use lib.ListN.{getD}
 use Rattle.laws.specs.Lists.{keep, pairwise, numbersFrom, upTo}
 use Rattle.laws.proofs.Lists.{keep-append, keep-all, keep-none, all?-i, none?-i}
-use Rattle.laws.proofs.Numbers.{length-numbersFrom, numbersFrom-mem, mem-numbersFrom, numbersFrom-more, numbersFrom-add}
+use Rattle.laws.proofs.Numbers.{numbersFrom-mem, mem-numbersFrom}
 use Rattle.laws.proofs.Pairwise.{pairwise-nil, pairwise-cons, pairwise-map}
 use Rattle.cell.specs.Limits.{cellLimit}
 use Rattle.cell.proofs.Order.{Compared, below, equal, above, compare}
@@ -33,10 +33,6 @@ use Rattle.places.specs.Scan.{Readable, Holds}
 
 ------------------------------------------------------------------------
 -- runs of numbers
-
-numbersFrom-cons : (k n : ℕ) → numbersFrom k (suc n) ≡ k ∷ numbersFrom (k + 1) n
-unfolding numbersFrom
-numbersFrom-cons k n = refl
 
 -- a run rises
 pub numbersFrom-pairwise : (r : ℕ → ℕ → Bool) (k n : ℕ) → ((a b : ℕ) → k ≤ a → a < b → b < k + n → r a b ≡ true)
@@ -135,18 +131,6 @@ module _ (table places : List ℕ) where
   ------------------------------------------------------------------------
   -- windows
 
-  pub window-zero : (input : ℕ) → window table places input 0 ≡ []
-  unfolding window numbersFrom
-  window-zero input = refl
-
-  pub window-suc : (input n : ℕ)
-      → window table places input (suc n)
-      ≡ window table places input n ++ (waitingAt table places (cellLimit * input + n) ∷ [])
-  unfolding window
-  window-suc input n =
-      ap (map (waitingAt table places)) (numbersFrom-more (cellLimit * input) n)
-      ∙ map-append (waitingAt table places) (numbersFrom (cellLimit * input) n) ((cellLimit * input + n) ∷ [])
-
   pub window-i : (input n k : ℕ) → cellLimit * input ≤ k → k < cellLimit * input + n
       → List·Memᴰ (waitingAt table places k) (window table places input n)
   unfolding window
@@ -180,26 +164,6 @@ module _ (table places : List ℕ) where
       let w = window-e input n m in
       let q : e .at / cellLimit ≡ input = omega (arith, w .from, w .to) in
       ap (λ w. w .cell .input) (w .self) ∙ waitingAt-input (e .at) ∙ q
-
-  pub length-window : (input n : ℕ) → length (window table places input n) ≡ n
-  unfolding window
-  length-window input n =
-      length-map (numbersFrom (cellLimit * input) n) (waitingAt table places) ∙ length-numbersFrom (cellLimit * input) n
-
-  -- a window goes on after its first n cells
-  pub window-split : (input n m k : ℕ) → n < m → k ≡ cellLimit * input + n
-      → window table places input m
-      ≡ window table places input n
-      ++ (waitingAt table places k ∷ map (waitingAt table places) (numbersFrom (k + 1) (m - (n + 1))))
-  unfolding window
-  window-split input n m k l at =
-      let q : m ≡ n + suc (m - (n + 1)) = omega arith in
-      ap (λ m. map (waitingAt table places) (numbersFrom (cellLimit * input) m)) q
-      ∙ ap (map (waitingAt table places)) (numbersFrom-add (cellLimit * input) n (suc (m - (n + 1))))
-      ∙ map-append (waitingAt table places) (numbersFrom (cellLimit * input) n)
-      (numbersFrom (cellLimit * input + n) (suc (m - (n + 1))))
-      ∙ ap (λ l. window table places input n ++ map (waitingAt table places) l)
-      (ap (λ a. numbersFrom a (suc (m - (n + 1)))) (sym at) ∙ numbersFrom-cons k (m - (n + 1)))
 
   -- its cells stand in the order of their numbers
   pub window-ordered : (input n : ℕ) → n ≤ cellLimit → pairwise ahead (window table places input n) ≡ true

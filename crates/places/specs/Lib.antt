@@ -1,5 +1,5 @@
 pub mod Choices
-pub mod Loading
 pub mod Scan
 pub mod Sections
 pub mod View
+pub mod Viewed

@@ -1,6 +1,6 @@
--- How the code of a phase sees the switch: the table's bytes, which a phase only reads; a column of places, one byte for
--- each entry (1 in a list, 2 at a crosspoint, 3 in a buffer), which it changes; and the crosspoints, sixteen rows of
--- sixteen numbers of entries. A number of 1,024 or more at a crosspoint says that it is empty.
+-- How the code of a phase sees the switch: the cells of the table, which stay the same; their places, one byte for each
+-- entry (1 in a list, 2 at a crosspoint, 3 in a buffer), which it changes; and the crosspoints, sixteen rows of sixteen
+-- numbers of entries. A number of 1,024 or more at a crosspoint says that it is empty.
 use Prim.Native.Nat.{ℕ, _*_, _<_, _≤_, _/_, _+_}
 use mathlib.Core.List.{List, [], map, flatten, List·Memᴰ}
 use mathlib.Core.Bool.{true}
@@ -11,6 +11,7 @@ use Rattle.cell.specs.Limits.{cellLimit}
 use Rattle.model.specs.Phase.{Waiting}
 use Rattle.model.specs.State.{isCrossed}
 use Rattle.layout.specs.Entry.{entryAt, portsIn, countIn}
+use Rattle.layout.specs.Records.{placeByteAt}
 use Rattle.layout.specs.Table.{placeOf}
 
 -- the waiting cell with a number
@@ -40,6 +41,10 @@ pub record InTable (table : List ℕ) (k : ℕ) : Type 0 where
   pub input : k / cellLimit < portsIn table
   pub position : k < cellLimit * (k / cellLimit) + countIn table (k / cellLimit)
 
+-- each entry has one of the three places
+abbrev pub InPlace : List ℕ → List ℕ → Type 0
+InPlace table places = (k : ℕ) → InTable table k → (1 ≤ getD places k 0) × (getD places k 0 ≤ 3)
+
 -- the crosspoints are those of the places: each crossed cell's number stands at its crosspoint, and each number that
 -- stands at a crosspoint is that of a crossed cell of its input and output
 pub record Agrees (table places : List ℕ) (cross : List (List ℕ)) : Type 0 where
@@ -50,3 +55,13 @@ pub record Agrees (table places : List ℕ) (cross : List (List ℕ)) : Type 0 w
       × (isCrossed (waitingAt table places (crosspointAt cross input output) .place) ≡ true)
       × (waitingAt table places (crosspointAt cross input output) .cell .input ≡ input)
       × (waitingAt table places (crosspointAt cross input output) .cell .output ≡ output)
+
+------------------------------------------------------------------------
+-- the places that the table itself has
+
+unfoldable pub placesIn : List ℕ → List ℕ
+placesIn table = map (placeByteAt table) (numbersFrom 0 1024)
+
+-- its waiting cells
+abbrev pub waitingIn : List ℕ → List Waiting
+waitingIn table = inTable table (placesIn table)

@@ -1,16 +1,17 @@
 -- The laws of sets by their members.
 --     has-setFrom, has-setOf, setOf-is      the members of the set at which a test holds, and when a set is that one
 --     setFrom-lt, setFrom-ext               its size as a number, and by what it is known
---     minus-setFrom                         the difference of two such sets
+--     minus-setFrom, both-setFrom           the difference of two such sets, and what they share
 --     has-withOne, .., has-from             the members of the sets that the code makes
 --     first-is, first-before, first-member  what the first member is
 --     members-none, members-cons            the members of the empty set; of another, the first and those of the rest
 --     members-in, in-members                which numbers are listed
 --     members-rising                        in which order
 --     members-setFrom                       the numbers of a run that pass a test
+--     members-with                          with a position behind them all
 --     Visited, visited-..                   a loop over a set: the members passed, rising, and those left
 use mathlib.Core.Path.{_≡_, refl, sym, ap, ap₂, _∙_, subst}
-use mathlib.Core.Bool.{Bool, true, false, not, cond, _&&_, _||_, and-true}
+use mathlib.Core.Bool.{Bool, true, false, not, cond, _&&_, _||_, and-true, or-false}
 use mathlib.Core.Logic.{_⊎_, inl, inr}
 use mathlib.Core.List.{List, [], _∷_, _++_, map, append-assoc, append-nil}
 use mathlib.Core.List.{List·Memᴰ, List·Memᴰ·head, Memᴰ·append-right}
@@ -24,13 +25,13 @@ use lib.Count.{trailingZeros, trailing-le, ones, ones-step}
 use lib.Dec.{eqb, ltb, leb·suc-suc, leb·zero, leb·suc-zero}
 use lib.Pow.{pow-mono}
 use Rattle.laws.specs.Lists.{keep, all?, count, pairwise, numbersFrom, upTo}
-use Rattle.laws.proofs.Tests.{either, and-i, and-false-l, and-false-r}
+use Rattle.laws.proofs.Tests.{either, by-fail, and-i, and-false-l, and-false-r, or-r}
 use Rattle.laws.proofs.Lists.{keep-append, keep-pass, keep-fail, keep-none, keep-ext, keep-map, keep-mem, mem-keep}
 use Rattle.laws.proofs.Lists.{none?-i, all?-i}
 use Rattle.laws.proofs.Pairwise.{pairwise-keep}
 use Rattle.laws.proofs.Count.{count-cons, count-ext, count-map}
 use Rattle.laws.proofs.Numbers.{numbersFrom-add, numbersFrom-mem, mem-numbersFrom}
-use Rattle.sets.specs.Sets.{positions, has, pushed, setFrom, setOf, withOne, withoutOne, minus, below, from}
+use Rattle.sets.specs.Sets.{positions, has, pushed, setFrom, setOf, withOne, withoutOne, minus, both, below, from}
 use Rattle.sets.specs.Sets.{members, headOr, firstOf, restOf}
 use Rattle.sets.proofs.Digits.{has-zero, has-suc, has-past, same-members, has-and, has-pred, digit, half-lt}
 use Rattle.sets.proofs.Digits.{trailing-none, trailing-member}
@@ -89,7 +90,7 @@ module _ (p : ℕ → Bool) where
       same-members positions set (setOf p) h setOf-lt (λ j k. same j k ∙ sym (has-setOf j k))
 
 -- a set of fewer positions is one of them all
-setFrom-fits : (p : ℕ → Bool) (k n : ℕ) → n ≤ positions → setFrom p k n < 2 ^ positions
+pub setFrom-fits : (p : ℕ → Bool) (k n : ℕ) → n ≤ positions → setFrom p k n < 2 ^ positions
 setFrom-fits p k n h = let most : 2 ^ n ≤ 2 ^ positions = pow-mono h in omega (arith, setFrom-lt p k n)
 
 pub minus-setFrom : (p q : ℕ → Bool) (k n : ℕ) → n ≤ positions
@@ -102,6 +103,19 @@ minus-setFrom p q k n h =
     ∙ ap₂ (λ b c. b && not c) (sym (has-setFrom p k n j)) (sym (has-setFrom q k n j))))
   where
     go : (b x y : Bool) → (b && (x && not y)) ≡ ((b && x) && not (b && y))
+    go true x y = refl
+    go false x y = refl
+
+pub both-setFrom : (p q : ℕ → Bool) (k n : ℕ) → n ≤ positions
+    → both (setFrom p k n) (setFrom q k n) ≡ setFrom (λ i. p i && q i) k n
+unfolding both
+both-setFrom p q k n h =
+    sym (setOf-is _ (setFrom (λ i. p i && q i) k n) (setFrom-fits (λ i. p i && q i) k n h)
+    (λ j l. has-setFrom (λ i. p i && q i) k n j
+    ∙ go (ltb j n) (p (k + j)) (q (k + j))
+    ∙ ap₂ _&&_ (sym (has-setFrom p k n j)) (sym (has-setFrom q k n j))))
+  where
+    go : (b x y : Bool) → (b && (x && y)) ≡ ((b && x) && (b && y))
     go true x y = refl
     go false x y = refl
 
@@ -127,6 +141,10 @@ module _ (set k j : ℕ) (position : j < positions) where
   unfolding from
   has-from = has-setOf (λ j. has set j && not (ltb j k)) j position
 
+pub withOne-lt : (set k : ℕ) → withOne set k < 2 ^ positions
+unfolding withOne
+withOne-lt set k = setOf-lt (λ j. has set j || eqb j k)
+
 ------------------------------------------------------------------------
 -- members
 
@@ -134,20 +152,23 @@ module _ (set k j : ℕ) (position : j < positions) where
 abbrev after : ℕ → List ℕ
 after f = numbersFrom (f + 1) (positions - 1 - f)
 
-module _ (set f : ℕ) (position : f < positions) (before : (j : ℕ) → j < f → has set j ≡ false) where
-  positions-split : upTo positions ≡ numbersFrom 0 f ++ (f ∷ after f)
-  unfolding upTo numbersFrom
-  positions-split =
-      let size : positions ≡ f + suc (positions - 1 - f) = omega arith in
-      ap (numbersFrom 0) size
-      ∙ numbersFrom-add 0 f (suc (positions - 1 - f))
-      ∙ ap (λ k. numbersFrom 0 f ++ numbersFrom k (suc (positions - 1 - f))) (zero-add f)
+positions-split : (f : ℕ) → f < positions → upTo positions ≡ numbersFrom 0 f ++ (f ∷ after f)
+unfolding upTo numbersFrom
+positions-split f h =
+    let size : positions ≡ f + suc (positions - 1 - f) = omega arith in
+    ap (numbersFrom 0) size
+    ∙ numbersFrom-add 0 f (suc (positions - 1 - f))
+    ∙ ap (λ k. numbersFrom 0 f ++ numbersFrom k (suc (positions - 1 - f))) (zero-add f)
 
+members-split : (set f : ℕ) → f < positions
+    → members set ≡ keep (has set) (numbersFrom 0 f) ++ keep (has set) (f ∷ after f)
+unfolding members
+members-split set f h = ap (keep (has set)) (positions-split f h) ∙ keep-append (has set) (numbersFrom 0 f) (f ∷ after f)
+
+module _ (set f : ℕ) (position : f < positions) (before : (j : ℕ) → j < f → has set j ≡ false) where
   members-later : members set ≡ keep (has set) (f ∷ after f)
-  unfolding members
   members-later =
-      ap (keep (has set)) positions-split
-      ∙ keep-append (has set) (numbersFrom 0 f) (f ∷ after f)
+      members-split set f position
       ∙ ap (λ l. l ++ keep (has set) (f ∷ after f))
       (keep-none (has set) (numbersFrom 0 f)
       (none?-i (has set) (numbersFrom 0 f) (λ j m. before j (omega (arith, mem-numbersFrom 0 f m)))))
@@ -256,7 +277,7 @@ in-members set m =
     let k = mem-keep (has set) (numbersFrom 0 positions) m in
     (omega (arith, mem-numbersFrom 0 positions (k .0)), k .1)
 
-numbersFrom-rising : (k n : ℕ) → pairwise ltb (numbersFrom k n) ≡ true
+pub numbersFrom-rising : (k n : ℕ) → pairwise ltb (numbersFrom k n) ≡ true
 unfolding numbersFrom pairwise
 numbersFrom-rising k zero = refl
 numbersFrom-rising k (suc n) =
@@ -269,7 +290,7 @@ unfolding members upTo
 members-rising set = pairwise-keep ltb (has set) (numbersFrom 0 positions) (numbersFrom-rising 0 positions)
 
 -- the numbers from k on, by their distance from it
-numbersFrom-shift : (k a n : ℕ) → map (λ j. k + j) (numbersFrom a n) ≡ numbersFrom (k + a) n
+pub numbersFrom-shift : (k a n : ℕ) → map (λ j. k + j) (numbersFrom a n) ≡ numbersFrom (k + a) n
 unfolding numbersFrom
 numbersFrom-shift k a zero = refl
 numbersFrom-shift k a (suc n) =
@@ -297,6 +318,50 @@ members-setFrom p k n h =
     ap (map (λ j. k + j)) all
     ∙ sym (keep-map p (λ j. k + j) (numbersFrom 0 n))
     ∙ ap (keep p) (numbersFrom-shift k 0 n ∙ ap (λ b. numbersFrom b n) (add-zero k))
+
+-- with a position behind them all
+pub members-with : (set f : ℕ) → f < positions → ((j : ℕ) → List·Memᴰ j (members set) → j < f)
+    → members (withOne set f) ≡ members set ++ (f ∷ [])
+members-with set f position behind =
+    members-split new f position
+    ∙ ap₂ _++_ (keep-ext (has new) (has set) (numbersFrom 0 f) before)
+    (keep-pass (has new) f (after f) here
+    ∙ ap (λ l. f ∷ l) (keep-none (has new) (after f) (none?-i (has new) (after f) (λ j m. later j (mem-after m)))))
+    ∙ sym (ap (λ l. l ++ (f ∷ [])) all)
+  where
+    new : ℕ
+    new = withOne set f
+
+    mem-after : {j : ℕ} → List·Memᴰ j (after f) → (f < j) × (j < positions)
+    mem-after m =
+        let b = mem-numbersFrom (f + 1) (positions - 1 - f) m in
+        (omega (arith, b .0), omega (arith, b .1))
+
+    none : (j : ℕ) → f ≤ j → j < positions → has set j ≡ false
+    none j l p = by-fail (has set j) (λ t. omega (arith, behind j (members-in set j p t)))
+
+    before : (j : ℕ) → List·Memᴰ j (numbersFrom 0 f) → has new j ≡ has set j
+    before j m =
+        let b : j < f = omega (arith, mem-numbersFrom 0 f m) in
+        has-withOne set f j (omega arith)
+        ∙ ap (λ b. has set j || b) (ne-eqb j f (λ e. omega arith))
+        ∙ or-false (has set j)
+
+    here : has new f ≡ true
+    here = has-withOne set f f position ∙ or-r (has set f) (eqb f f) (eq-eqb f f refl)
+
+    later : (j : ℕ) → (f < j) × (j < positions) → has new j ≡ false
+    later j (l, p) =
+        has-withOne set f j p ∙ ap₂ _||_ (none j (omega arith) p) (ne-eqb j f (λ e. omega arith))
+
+    all : members set ≡ keep (has set) (numbersFrom 0 f)
+    all =
+        members-split set f position
+        ∙ ap (λ l. keep (has set) (numbersFrom 0 f) ++ l)
+        (keep-fail (has set) f (after f) (none f (omega arith) position)
+        ∙ keep-none (has set) (after f)
+        (none?-i (has set) (after f) (λ j m. let b = mem-after m in none j (omega (arith, b .0)) (b .1))))
+        ∙ append-nil (keep (has set) (numbersFrom 0 f))
 
 -- how many there are
 numbersFrom-suc : (k n : ℕ) → map suc (numbersFrom k n) ≡ numbersFrom (k + 1) n

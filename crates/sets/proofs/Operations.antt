@@ -13,7 +13,7 @@ use lib.Pow.{pow-lt, ones-lt}
 use Rattle.laws.specs.Lists.{upTo}
 use Rattle.laws.proofs.Tests.{same, and-i, and-l, and-r}
 use Rattle.laws.proofs.Count.{length-keep}
-use Rattle.sets.specs.Sets.{positions, has, withOne, withoutOne, minus, below, from, members, sizeOf, Last}
+use Rattle.sets.specs.Sets.{positions, has, withOne, withoutOne, minus, both, below, from, members, sizeOf, Last}
 use Rattle.sets.proofs.Digits.{has-past, has-and, has-or, has-not, has-one, has-ones}
 use Rattle.sets.proofs.Members.{setOf-is, ones-count}
 
@@ -64,6 +64,10 @@ module _ (set : ℕ) (fits : set < 2 ^ positions) where
   minus-and b small =
       setOf-is (λ j. has set j && not (has b j)) (bitAnd set (2 ^ positions - 1 - b)) (and-fits (2 ^ positions - 1 - b))
       (λ j h. has-and set (2 ^ positions - 1 - b) j ∙ ap (λ t. has set j && t) (has-not positions b j small h))
+
+  pub both-and : (b : ℕ) → bitAnd set b ≡ both set b
+  unfolding both
+  both-and b = setOf-is (λ j. has set j && has b j) (bitAnd set b) (and-fits b) (λ j h. has-and set b j)
 
   pub size-ones : ones set ≡ sizeOf set
   unfolding sizeOf members upTo

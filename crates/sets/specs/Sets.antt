@@ -41,6 +41,10 @@ withoutOne set k = setOf (λ j. has set j && not (eqb j k))
 unfoldable pub minus : ℕ → ℕ → ℕ
 minus a b = setOf (λ j. has a j && not (has b j))
 
+-- the members that both sets have
+unfoldable pub both : ℕ → ℕ → ℕ
+both a b = setOf (λ j. has a j && has b j)
+
 -- the members before a position, and those from it on
 unfoldable pub below : ℕ → ℕ → ℕ
 below set k = setOf (λ j. has set j && ltb j k)

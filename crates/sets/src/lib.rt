@@ -1,8 +1,9 @@
 // Sets of positions below 64 as the bits of a number: position j is a member exactly if bit j is set. The set with no
 // member is 0, so a loop over a set takes its first member and goes on with the rest while the rest is not 0.
+ghost use mathlib.Core.Bool.{cond};
 ghost use mathlib.Core.Path.{_≡_};
 ghost use Prim.Native.Nat.{_<_, _^_};
-ghost use Rattle.sets.specs.Sets.{has, pushed, withOne, withoutOne, minus, below, from};
+ghost use Rattle.sets.specs.Sets.{has, pushed, withOne, withoutOne, minus, both, below, from};
 ghost use Rattle.sets.specs.Sets.{firstOf, restOf, sizeOf, Last};
 
 // Whether a position is a member.
@@ -30,6 +31,14 @@ pub fn with(set: u64, j: usize) -> u64
     set | (1 << j)
 }
 
+// The same if a test passes, without a branch on it.
+pub fn with_if(set: u64, j: usize, member: bool) -> u64
+    requires { ⌜ j < 64 ⌝ }
+    ensures { λ r. ⌜ r ≡ cond member (withOne set j) set ⌝ }
+{
+    set | ((member as u64) << j)
+}
+
 // The set with a position not in it.
 pub fn without(set: u64, j: usize) -> u64
     requires { ⌜ j < 64 ⌝ }
@@ -43,6 +52,13 @@ pub fn minus(a: u64, b: u64) -> u64
     ensures { λ r. ⌜ r ≡ minus a b ⌝ }
 {
     a & !b
+}
+
+// The members that `a` and `b` both have.
+pub fn both(a: u64, b: u64) -> u64
+    ensures { λ r. ⌜ r ≡ both a b ⌝ }
+{
+    a & b
 }
 
 // The members before a position.

@@ -51,7 +51,7 @@ pub record Collecting (ports clock : ℕ) (bs : List ℕ) (from to mark : ℕ) (
   pub marked : Marked mark marks (λ n. some? (slotIs n) (entriesBetween bs k to))
 
 -- one position down
-set-back : (p : ℕ → Bool) (k to : ℕ) → 0 < k → k ≤ to
+pub set-back : (p : ℕ → Bool) (k to : ℕ) → 0 < k → k ≤ to
     → pushed (setFrom p k (to - k)) (p (k - 1)) ≡ setFrom p (k - 1) (to - (k - 1))
 unfolding setFrom
 set-back p k to some h =

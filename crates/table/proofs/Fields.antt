@@ -14,7 +14,7 @@ use Rattle.laws.specs.Lists.{all?}
 use Rattle.laws.proofs.Tests.{same, and-i, and-l, and-r}
 use Rattle.laws.proofs.Lists.{all?-mono}
 use Rattle.cell.specs.Limits.{portLimit, flowLimit, cellLimit, fits32}
-use Rattle.model.specs.State.{Entry, listed, crossed, buffered, isListed, isCrossed}
+use Rattle.model.specs.State.{Entry, listed, crossed, buffered, isListed, isCrossed, isBuffered}
 use Rattle.model.specs.Sound.{soundEntry}
 use Rattle.layout.specs.Number.{bytesOf, numberOf, numberAt, word, sameBytes}
 use Rattle.layout.specs.Table.{tableSize, entrySize, placeByte, placeOf, entryBytes, entryOf}
@@ -61,6 +61,16 @@ placeOf-crossed b = go (eqb b 1) refl (eqb b 2) refl
     go true e two f = ap (λ n. eqb n 2) (sym (eqb-true b 1 e)) ∙ f
     go false e true f = refl
     go false e false f = refl
+
+pub placeOf-buffered : (b : ℕ) → 1 ≤ b → b ≤ 3 → isBuffered (placeOf b) ≡ eqb b 3
+unfolding placeOf isBuffered
+placeOf-buffered b low high = go (eqb b 1) refl (eqb b 2) refl
+  where
+    go : (one : Bool) → eqb b 1 ≡ one → (two : Bool) → eqb b 2 ≡ two
+        → isBuffered (elim one [ true ↦ listed | false ↦ elim two [ true ↦ crossed | false ↦ buffered ] ]) ≡ eqb b 3
+    go true e two f = ap (λ n. eqb n 3) (sym (eqb-true b 1 e))
+    go false e true f = ap (λ n. eqb n 3) (sym (eqb-true b 2 f))
+    go false e false f = sym (eq-eqb b 3 (omega (arith, eqb-false b 1 e, eqb-false b 2 f)))
 
 ------------------------------------------------------------------------
 -- the bytes of an entry

@@ -11,18 +11,18 @@ use Rattle.laws.specs.Lists.{keep, all?, pairwise, numbersFrom}
 use Rattle.laws.proofs.Tests.{same, and-i, and-l, and-r, and-false-l}
 use Rattle.laws.proofs.Lists.{all?-append, all?-e, all?-map, keep-map}
 use Rattle.laws.proofs.Numbers.{numbersFrom-add}
-use Rattle.sets.specs.Sets.{setFrom, minus, members}
+use Rattle.sets.specs.Sets.{setFrom, minus, both, members}
 use Rattle.sets.proofs.Operations.{or-none}
-use Rattle.sets.proofs.Members.{minus-setFrom, setFrom-ext, members-setFrom}
+use Rattle.sets.proofs.Members.{minus-setFrom, both-setFrom, setFrom-ext, members-setFrom}
 use Rattle.cell.specs.Limits.{portLimit, flowLimit, cellLimit}
-use Rattle.model.specs.State.{Entry, isListed, isCrossed}
+use Rattle.model.specs.State.{Entry, isListed, isCrossed, isBuffered}
 use Rattle.model.specs.Sound.{otherSlot}
 use Rattle.layout.specs.Entry.{entryAt}
 use Rattle.layout.specs.Records.{placeByteAt, between, entriesBetween}
 use Rattle.table.specs.Check.{inRange, sharesSlot, lowPlace, highPlace, entriesIn}
 use Rattle.layout.proofs.Records.{between-nil, between-cons, entryAt-place, all?-entriesBetween, entriesBetween-nil}
 use Rattle.layout.proofs.Records.{entriesBetween-cons}
-use Rattle.table.proofs.Fields.{placeOf-listed, placeOf-crossed}
+use Rattle.table.proofs.Fields.{placeOf-listed, placeOf-crossed, placeOf-buffered}
 
 ------------------------------------------------------------------------
 -- a test of each number from one up to another: b is the answer, k the number to come
@@ -188,7 +188,7 @@ by-place P one two three (suc (suc zero)) low high = two
 by-place P one two three (suc (suc (suc zero))) low high = three
 by-place P one two three (suc (suc (suc (suc b)))) low high = absurd (omega arith)
 
--- the listed and the crossed of a run of entries, by the digits of their places
+-- the listed, the crossed and the buffered of a run of entries, by the digits of their places
 module _ (bs : List ℕ) (first n : ℕ) (few : n ≤ cellLimit)
     (places : (j : ℕ) → j < n → (1 ≤ placeByteAt bs (first + j)) × (placeByteAt bs (first + j) ≤ 3)) where
   pub listed-set : minus (setFrom (lowPlace bs) first n) (setFrom (highPlace bs) first n)
@@ -214,3 +214,17 @@ module _ (bs : List ℕ) (first n : ℕ) (few : n ≤ cellLimit)
       by-place (λ b. (eqb (b / 2 % 2) 1 && not (eqb (b % 2) 1)) ≡ eqb b 2) refl refl refl (placeByteAt bs (first + j))
       (place .0) (place .1)
       ∙ sym (ap isCrossed (entryAt-place bs (first + j)) ∙ placeOf-crossed (placeByteAt bs (first + j))))
+
+  pub buffered-set : both (setFrom (lowPlace bs) first n) (setFrom (highPlace bs) first n)
+      ≡ setFrom (λ k. isBuffered (entryAt bs k .place)) first n
+  unfolding lowPlace highPlace
+  buffered-set =
+      both-setFrom (lowPlace bs) (highPlace bs) first n few
+      ∙ setFrom-ext (λ k. lowPlace bs k && highPlace bs k) (λ k. isBuffered (entryAt bs k .place)) first n
+      (λ j h.
+      let place = places j h in
+      by-place (λ b. (eqb (b % 2) 1 && eqb (b / 2 % 2) 1) ≡ eqb b 3) refl refl refl (placeByteAt bs (first + j))
+      (place .0) (place .1)
+      ∙ sym
+      (ap isBuffered (entryAt-place bs (first + j))
+      ∙ placeOf-buffered (placeByteAt bs (first + j)) (place .0) (place .1)))

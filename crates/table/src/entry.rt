@@ -136,6 +136,14 @@ pub fn place_of(bytes: &[u8], k: usize) -> u8
     bytes[start_of(k) + 2]
 }
 
+// Moves an entry: the byte of its place is written.
+pub fn write_place(bytes: &mut [u8], k: usize, place: u8)
+    requires { ⌜ (length (now bytes) ≡ tableSize) × (k < 1024) ⌝ }
+    ensures { λ _. ⌜ now (bytes .exit) ≡ set (now (bytes .entry)) (recordStart k + 2) place ⌝ }
+{
+    bytes[start_of(k) + 2] = place;
+}
+
 pub fn rank_of(bytes: &[u8], k: usize) -> u32
     requires { ⌜ (length (now bytes) ≡ tableSize) × (k < 1024) ⌝ }
     ensures { λ r. ⌜ r ≡ entryAt (now (bytes .entry)) k .cell .rank ⌝ }

@@ -1,31 +1,14 @@
 -- The records of a block, from its numbers.
---     read-at                     the record of five numbers
 --     records-none, records-next  the records read so far
 use Prim.Native.Nat.{ℕ, zero, suc, _+_, _*_, _<_}
 use native.Mathlib.Numerals.{add-one}
 use native.Mathlib.Omega.{arith}
 use mathlib.Core.List.{List, [], _∷_, _++_}
 use mathlib.Core.Path.{_≡_, refl, sym, ap, ap₂, _∙_}
-use lib.ListN.{length, getD, take, drop, set}
-use lib.Seq.{drop-drop, getD-drop, take-suc-set}
+use lib.ListN.{length, take, drop, set}
+use lib.Seq.{drop-drop, take-suc-set}
 use Rattle.cell.specs.declared.Arrival.{Arrival}
 use Rattle.trace.specs.Flat.{arrivalAt, arrivalsFrom}
-
-pub read-at : (ns : List ℕ) (at : ℕ)
-    → record { input = getD ns at 0; output = getD ns (at + 1) 0; flow = getD ns (at + 2) 0; rank = getD ns (at + 3) 0; tag = getD ns (at + 4) 0 }
-    ≡ arrivalAt (drop at ns)
-unfolding arrivalAt
-read-at ns at =
-    let here : at + 0 ≡ at = omega arith in
-    let first : getD (drop at ns) 0 0 ≡ getD ns at 0 = getD-drop at ns 0 0 ∙ ap (λ i. getD ns i 0) here in
-    λ k.
-    record {
-      input = sym first k;
-      output = sym (getD-drop at ns 1 0) k;
-      flow = sym (getD-drop at ns 2 0) k;
-      rank = sym (getD-drop at ns 3 0) k;
-      tag = sym (getD-drop at ns 4 0) k;
-    }
 
 pub records-none : (ns : List ℕ) → [] ≡ arrivalsFrom 0 ns
 unfolding arrivalsFrom

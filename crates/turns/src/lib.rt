@@ -13,10 +13,10 @@ ghost use mathlib.Core.List.{_++_};
 ghost use mathlib.Core.Option.{some};
 ghost use mathlib.Core.Path.{_≡_};
 ghost use Prim.Native.Nat.{_+_, _*_, _≤_};
-ghost use lib.ListN.{length, take, drop};
+ghost use lib.ListN.{length, take};
 ghost use Rattle.model.specs.Crossbar.{slot};
 ghost use Rattle.trace.specs.declared.Key.the-variants.{Ports, First, Slot};
-ghost use Rattle.trace.specs.Flat.{arrivalAt, arrivalsFrom};
+ghost use Rattle.trace.specs.Flat.{arrivalsFrom};
 ghost use Rattle.trace.specs.Line.{line};
 ghost use Rattle.trace.specs.Piece.{nextIn, headerIn};
 ghost use Rattle.writer.specs.Writing.{Put};
@@ -237,24 +237,10 @@ fn records_of(numbers: &[u32], count: usize) -> [Arrival; 17]
     let mut records = [none; 17];
     let mut n = 0;
     while n < count {
-        records[n] = record_at(numbers, 5 * n);
+        records[n] = writer::arrival_at(&numbers[5 * n..]);
         n += 1;
     }
     records
-}
-
-// The record of the five numbers from a place on.
-fn record_at(numbers: &[u32], at: usize) -> Arrival
-    requires { ⌜ at + 5 ≤ length (now numbers) ⌝ }
-    ensures { λ r. ⌜ r ≡ arrivalAt (drop at (now (numbers .entry))) ⌝ }
-{
-    Arrival {
-        input: numbers[at],
-        output: numbers[at + 1],
-        flow: numbers[at + 2],
-        rank: numbers[at + 3],
-        tag: numbers[at + 4],
-    }
 }
 
 // The line that a refusal names: the slot's own, or the first of the record's.

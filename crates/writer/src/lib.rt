@@ -336,7 +336,7 @@ fn write_text(out: &mut [u8], end: usize, text: &[u8]) -> usize
 }
 
 // The arrival that these numbers begin with.
-fn arrival_at(numbers: &[u32]) -> Arrival
+pub fn arrival_at(numbers: &[u32]) -> Arrival
     ensures { λ r. ⌜ r ≡ arrivalAt (now (numbers .entry)) ⌝ }
 {
     Arrival {

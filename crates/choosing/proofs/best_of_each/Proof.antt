@@ -1,30 +1,46 @@
--- Output by output, the best of each so far, whatever cells the crosspoints hold.
+-- Output by output, the number and the least key of each so far.
 use borrow.Author.Needs.{needs}
-use Prim.Native.Nat.{ℕ, _-_, _<_, _≤_}
+use Prim.Native.Nat.{_-_, _≤_}
 use native.Mathlib.Omega.{arith}
-use mathlib.Core.Path.{_≡_, _∙_}
-use mathlib.Core.List.{List}
-use lib.ListN.{length, getD, length-set}
-use Rattle.model.specs.Phase.{Waiting}
-use Rattle.places.specs.Choices.{bestOf}
-use Rattle.places.specs.Scan.{Holds}
-use Rattle.choosing.proofs.Columns.{set-below}
+use mathlib.Core.Path.{_≡_}
+use Rattle.places.specs.View.{crosspointAt}
+use Rattle.choosing.specs.Keys.{LeadingTo}
+use Rattle.choosing.proofs.Keys.{leading-none, leading-to, leading-more, smaller-came}
 use Rattle.choosing.proofs.best_of_each.Statement.{statement}
 use Rattle.choosing.proofs.best_of_each.Tie as tie
 
 abbrev Inv-loop : tie.InvT-loop
-Inv-loop table cross ports best₀ output₀ best output =
-    (output ≤ 16) × (length best ≡ 16)
-    × ((cells : List Waiting) → Holds table cross cells → (o : ℕ) → o < output → getD best o 0 ≡ bestOf cells o)
+Inv-loop cross keys best₀ least₀ output₀ best least output = (output ≤ 16) × LeadingTo cross keys output best least
 
 abbrev μ-loop : tie.MeasureT-loop
-μ-loop table cross ports best₀ output₀ best output = 16 - output
+μ-loop cross keys best₀ least₀ output₀ best least output = 16 - output
 
 loop-holds : tie.Need-loop-holds Inv-loop μ-loop
-loop-holds c = (omega arith, c .before .pre .1 .1, λ cells h o l. absurd (omega arith))
+loop-holds c = (omega arith, leading-none _ _ (c .pre .0) (c .pre .1))
 
-best-crossed-requires : tie.Need-best-crossed-requires Inv-loop μ-loop
-best-crossed-requires c κs = search needs
+least-key-requires : tie.Need-least-key-requires Inv-loop μ-loop
+least-key-requires c κs = search needs
+
+holder-requires : tie.Need-holder-requires Inv-loop μ-loop
+holder-requires c κs = search needs
+
+mul-number : tie.Need-mul-number Inv-loop μ-loop
+mul-number c = search needs
+
+mul-number-2 : tie.Need-mul-number-2 Inv-loop μ-loop
+mul-number-2 c = search needs
+
+index-1-number : tie.Need-index-1-number Inv-loop μ-loop
+index-1-number c = c .holder .ensures .inside
+
+index-2-number : tie.Need-index-2-number Inv-loop μ-loop
+index-2-number c = search needs
+
+mul-least : tie.Need-mul-least Inv-loop μ-loop
+mul-least c = search needs
+
+element-write-least : tie.Need-element-write-least Inv-loop μ-loop
+element-write-least c = search needs
 
 mul-best : tie.Need-mul-best Inv-loop μ-loop
 mul-best c = search needs
@@ -39,20 +55,27 @@ loop-less : tie.Need-loop-less Inv-loop μ-loop
 loop-less c = search needs
 
 loop-again : tie.Need-loop-again Inv-loop μ-loop
+unfolding crosspointAt
 loop-again c =
-    let loop = c .before .before .loop in
-    let room : loop .output < length (loop .best) = omega arith in (
+    let key = c .before .before .before .least-key in
+    let holder = c .before .before .holder in
+    let l = c .before .before .before .before .before .loop in (
       omega arith,
-      length-set (loop .best) (loop .output) (c .best-crossed .result) ∙ loop .inv .1,
-      λ cells h.
-          set-below (loop .best) (bestOf cells) (loop .output) (c .best-crossed .result) room (loop .inv .2 cells h)
-          (c .best-crossed .ensures cells h),
+      leading-more _ _ (l .output) (c .if1 .best) (key .result) (omega arith)
+          (record {
+            least = key .ensures;
+            holder = holder .result;
+            holds = holder .ensures;
+            number-is = smaller-came (λ t. t .taken) (λ t. t .left) (c .if1 .came);
+          })
+          (l .inv .1),
     )
 
 returns : tie.Need-returns Inv-loop μ-loop
 returns c =
-    let inv = c .before .loop .inv in
-    record { size = inv .1; at = λ cells h o l. inv .2 cells h o (omega (arith, c .loop-test .left)) }
+    let l = c .before .loop in
+    let end : l .output ≡ 16 = omega arith in
+    leading-to _ _ end (l .inv .1)
 
 pub best-of-each-spec : {M : Type 1} → statement M
 best-of-each-spec =
@@ -61,7 +84,14 @@ best-of-each-spec =
     Inv-loop
     μ-loop
     loop-holds
-    best-crossed-requires
+    least-key-requires
+    holder-requires
+    mul-number
+    mul-number-2
+    index-1-number
+    index-2-number
+    mul-least
+    element-write-least
     mul-best
     element-write-best
     add-output

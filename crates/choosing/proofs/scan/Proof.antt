@@ -1,174 +1,131 @@
--- Cell by cell, none so far was ready, and the numbers of the pressing ones are written down.
+-- Head by head, none so far was ready, and the positions of the pressing ones are gathered.
 use borrow.Author.Needs.{needs}
-use Prim.Native.Nat.{_+_, _*_, _-_, _<_}
+use Prim.Native.Nat.{_+_, _*_, _<_}
 use native.Mathlib.Omega.{arith}
-use mathlib.Core.Path.{subst}
-use Rattle.choosing.specs.Walk.{Means}
-use Rattle.layout.specs.Entry.{countIn}
-use Rattle.choosing.proofs.Walked.{Walked, walked-start, walked-on, walked-small, walked-room, walked-write}
+use mathlib.Core.Path.{sym, _∙_, subst}
+use Rattle.sets.specs.Sets.{firstOf, restOf}
+use Rattle.sets.proofs.Members.{rest-less, visited-member}
+use Rattle.places.specs.View.{placesIn, waitingIn, waitingAt}
+use Rattle.choosing.specs.Walk.{HeadOf, Means, Scanned}
+use Rattle.choosing.proofs.Walked.{Walked, head-here, walked-start, walked-position, walked-next}
 use Rattle.choosing.proofs.Walked.{walked-stop, walked-end}
 use Rattle.choosing.proofs.scan.Statement.{statement}
 use Rattle.choosing.proofs.scan.Tie as tie
 
 abbrev Inv-loop : tie.InvT-loop
-Inv-loop table places cross best numbers₀ input seen₀ first end urgent₀ k₀ numbers seen urgent k =
-    Walked table places input k seen urgent numbers₀ numbers
+Inv-loop table heads cross best least input urgent₀ left₀ urgent left = Walked table input urgent left
 
 abbrev μ-loop : tie.MeasureT-loop
-μ-loop table places cross best numbers₀ input seen₀ first end urgent₀ k₀ numbers seen urgent k = end - k
+μ-loop table heads cross best least input urgent₀ left₀ urgent left = left
 
-mul-first : tie.Need-mul-first Inv-loop μ-loop
-mul-first c = search needs
+-- where a position is left: it is a head's
+module _ (c : tie.In-loop Inv-loop μ-loop) where
+  some : 0 < c .before .loop .left
+  some = omega (arith, c .loop-test .taken)
 
-end-of-requires : tie.Need-end-of-requires Inv-loop μ-loop
-end-of-requires c κs =
-    let start = c .before .before .before in
-    let readable = start .pre .0 .readable in
-    (readable .size, omega (arith, readable .ports, start .pre .1 .0))
+  position : firstOf (c .before .loop .left) < 64
+  position =
+      let start = c .before .before .before in
+      walked-position _ _ (start .pre .0 .readable) (start .pre .1 .0) (c .before .loop .inv) some
 
--- the walk has come to a cell of the input
-inside : (t : tie.In-loop Inv-loop μ-loop) → let start = t .before .before .before .before .before .before in
-    t .before .loop .k < 64 * start .args .input + countIn (start .args .table .now) (start .args .input)
-inside t = omega (arith, t .loop-test .taken, t .before .before .end-of .ensures)
+  head : let a = c .before .before .before .args in
+      HeadOf (a .table .now) (a .input) (64 * a .input + firstOf (c .before .loop .left))
+  head =
+      let start = c .before .before .before in
+      head-here _ _ (start .pre .0 .readable) (start .pre .1 .0) (visited-member (c .before .loop .inv .visited) some)
+
+  less : restOf (c .before .loop .left) < c .before .loop .left
+  less = rest-less (c .before .loop .left) some (c .before .loop .inv .visited .fits)
+
+-- what it is
+kind : (c : tie.After-kind-of Inv-loop μ-loop)
+    → let in-loop = c .before .before .before in
+    let a = in-loop .before .before .before .args in
+    let table = a .table .now in
+    Means (waitingIn table) (waitingAt table (placesIn table) (64 * a .input + firstOf (in-loop .before .loop .left)))
+    (c .kind-of .result .ready) (c .kind-of .result .pressing)
+kind c =
+    let in-loop = c .before .before .before in
+    let a = in-loop .before .before .before .args in
+    let table = a .table .now in
+    subst
+    (λ j. Means (waitingIn table) (waitingAt table (placesIn table) (64 * a .input + j)) (c .kind-of .result .ready)
+    (c .kind-of .result .pressing))
+    (c .before .before .first .ensures) (c .kind-of .ensures)
 
 loop-holds : tie.Need-loop-holds Inv-loop μ-loop
 loop-holds c =
+    let start = c .before in
+    let heads = start .pre .1 .1 in
+    subst (Walked (start .args .table .now) (start .args .input) 0) (sym heads)
+    (walked-start _ _ (omega (arith, start .fits .heads .fits)))
+
+first-requires : tie.Need-first-requires Inv-loop μ-loop
+first-requires c κs = search needs
+
+mul-k : tie.Need-mul-k Inv-loop μ-loop
+mul-k c =
     let start = c .before .before .before .before in
-    walked-start _ _ _ _ (start .pre .1 .0)
+    omega (arith, start .pre .1 .0, start .pre .0 .readable .ports)
 
 add-k : tie.Need-add-k Inv-loop μ-loop
 add-k c =
-    let start = c .before .before .before .before .before .before in
-    omega (arith, walked-small _ _ _ (c .before .loop .inv) (start .pre .0 .readable) (inside c))
+    let start = c .before .before .before .before in
+    omega (arith, start .pre .1 .0, start .pre .0 .readable .ports, c .first .ensures, position (c .before))
+
+rest-requires : tie.Need-rest-requires Inv-loop μ-loop
+rest-requires c κs = some (c .before)
 
 kind-of-requires : tie.Need-kind-of-requires Inv-loop μ-loop
 kind-of-requires c κs =
-    let start = c .before .before .before .before .before .before .before in
-    (start .pre .0, (c .before .before .loop .inv .reached, inside (c .before)))
+    let in-loop = c .before .before in
+    let start = in-loop .before .before .before in (
+      start .pre .0,
+      subst (λ j. HeadOf (start .args .table .now) (start .args .input) (64 * start .args .input + j))
+          (sym (c .before .first .ensures)) (head in-loop),
+    )
 
-enum-told : tie.Need-enum-told Inv-loop μ-loop
-enum-told c = search needs
-
-cast-t16 : tie.Need-cast-t16 Inv-loop μ-loop
-cast-t16 c =
-    let start = c .before .before .before .before .before .before .before .before .before .before in
-    let loop = c .before .before .before .before .before .loop in
-    let test = inside (c .before .before .before .before) in
-    omega (arith, walked-small _ _ _ (loop .inv) (start .pre .0 .readable) test)
-
-same-length : tie.Need-same-length Inv-loop μ-loop
-same-length c =
-    let start = c .before .before .before .before .before .before .before .before .before .before in
-    let loop = c .before .before .before .before .before .loop in
-    let test = inside (c .before .before .before .before) in
-    loop .inv .size
+cast-t14 : tie.Need-cast-t14 Inv-loop μ-loop
+cast-t14 c =
+    let first = c .before .before .before in
+    let start = first .before .before .before .before in
+    omega (arith, start .pre .1 .0, start .pre .0 .readable .ports, first .first .ensures, position (first .before))
 
 returns : tie.Need-returns Inv-loop μ-loop
 returns c =
-    let start = c .before .before .before .before .before .before .before .before .before .before in
-    let loop = c .before .before .before .before .before .loop in
-    let test = inside (c .before .before .before .before) in
-    let ready = subst (Means _ _) (c .enum-told .given .1) (c .before .before .kind-of .ensures .0) in
-    walked-stop _ _ _ (loop .inv) (start .pre .0 .readable) test ready
+    let first = c .before .before .before in
+    let start = first .before .before .before .before in
+    let l = first .before .before .loop in
+    subst (λ j. Scanned (start .args .table .now) (start .args .input) (64 * start .args .input + j) (l .urgent))
+    (sym (first .first .ensures))
+    (walked-stop _ _ (start .pre .0 .readable) (start .pre .1 .0) (l .inv) (some (first .before))
+    (kind (c .before) .ready-is ∙ c .if1 .taken))
 
-enum-told-2 : tie.Need-enum-told-2 Inv-loop μ-loop
-enum-told-2 c = search needs
-
-cast-numbers : tie.Need-cast-numbers Inv-loop μ-loop
-cast-numbers c =
-    let start = c .before .before .before .before .before .before .before .before .before .before in
-    let loop = c .before .before .before .before .before .loop in
-    let test = inside (c .before .before .before .before) in
-    omega (arith, walked-small _ _ _ (loop .inv) (start .pre .0 .readable) test)
-
-add-numbers : tie.Need-add-numbers Inv-loop μ-loop
-add-numbers c =
-    let start = c .before .before .before .before .before .before .before .before .before .before in
-    let loop = c .before .before .before .before .before .loop in
-    let test = inside (c .before .before .before .before) in
-    omega (
-      arith,
-      walked-room _ _ _ (loop .inv),
-      loop .inv .size,
-      start .pre .1 .1,
-      walked-small _ _ _ (loop .inv) (start .pre .0 .readable) test,
-    )
-
-mul-numbers : tie.Need-mul-numbers Inv-loop μ-loop
-mul-numbers c =
-    let start = c .before .before .before .before .before .before .before .before .before .before in
-    let loop = c .before .before .before .before .before .loop in
-    let test = inside (c .before .before .before .before) in
-    omega (
-      arith,
-      walked-room _ _ _ (loop .inv),
-      loop .inv .size,
-      start .pre .1 .1,
-      walked-small _ _ _ (loop .inv) (start .pre .0 .readable) test,
-    )
-
-slice-write-numbers : tie.Need-slice-write-numbers Inv-loop μ-loop
-slice-write-numbers c =
-    let start = c .before .before .before .before .before .before .before .before .before .before in
-    let loop = c .before .before .before .before .before .loop in
-    let test = inside (c .before .before .before .before) in
-    omega (
-      arith,
-      walked-room _ _ _ (loop .inv),
-      loop .inv .size,
-      start .pre .1 .1,
-      walked-small _ _ _ (loop .inv) (start .pre .0 .readable) test,
-    )
-
-add-urgent : tie.Need-add-urgent Inv-loop μ-loop
-add-urgent c =
-    let start = c .before .before .before .before .before .before .before .before .before .before in
-    let loop = c .before .before .before .before .before .loop in
-    let test = inside (c .before .before .before .before) in
-    omega (
-      arith,
-      walked-room _ _ _ (loop .inv),
-      loop .inv .size,
-      start .pre .1 .1,
-      walked-small _ _ _ (loop .inv) (start .pre .0 .readable) test,
-    )
+with-if-requires : tie.Need-with-if-requires Inv-loop μ-loop
+with-if-requires c κs =
+    let first = c .before .before .before in
+    omega (arith, first .first .ensures, position (first .before))
 
 loop-less : tie.Need-loop-less Inv-loop μ-loop
-loop-less c = search needs
+loop-less c =
+    let rest = c .before .before .before in
+    omega (arith, rest .rest .ensures, less (rest .before .before))
 
 loop-again : tie.Need-loop-again Inv-loop μ-loop
 loop-again c =
-    let start = c .before .before .before .before .before .before .before .before .before .before in
-    let loop = c .before .before .before .before .before .loop in
-    let test = inside (c .before .before .before .before) in
-    let pressing = subst (Means _ _) (c .enum-told2 .given .1) (c .before .before .kind-of .ensures .0) in
-    walked-write _ _ _ (loop .inv) (start .pre .0 .readable) (start .pre .1 .1) test
-    (c .before .before .kind-of .ensures .1)
-    (pressing .0) (pressing .1)
-
-enum-told-3 : tie.Need-enum-told-3 Inv-loop μ-loop
-enum-told-3 c = search needs
-
-loop-less-2 : tie.Need-loop-less-2 Inv-loop μ-loop
-loop-less-2 c = search needs
-
-loop-again-2 : tie.Need-loop-again-2 Inv-loop μ-loop
-loop-again-2 c =
-    let start = c .before .before .before .before .before .before .before .before .before .before in
-    let loop = c .before .before .before .before .before .loop in
-    let test = inside (c .before .before .before .before) in
-    let other = subst (Means _ _) (c .enum-told3 .given .1) (c .before .before .kind-of .ensures .0) in
-    walked-on _ _ _ (loop .inv) (c .before .before .kind-of .ensures .1) (other .0) (other .1)
-
-same-length-2 : tie.Need-same-length-2 Inv-loop μ-loop
-same-length-2 c =
-    c .before .loop .inv .size
+    let known = c .before .before in
+    let rest = known .before in
+    let first = rest .before in
+    let start = first .before .before .before .before in
+    let busy = c .before .if1 .left in
+    rw (c .with-if .ensures, first .first .ensures, rest .rest .ensures)
+    (walked-next _ _ (start .pre .0 .readable) (start .pre .1 .0) (first .before .before .loop .inv)
+    (some (first .before)) (kind known .ready-is ∙ busy) (known .kind-of .result .pressing) (kind known .pressing-is busy))
 
 returns-2 : tie.Need-returns-2 Inv-loop μ-loop
 returns-2 c =
-    let start = c .before .before .before .before .before .before in
-    walked-end _ _ _ (c .before .loop .inv) (start .pre .0 .readable)
-    (omega (arith, c .loop-test .left, c .before .before .end-of .ensures))
+    let start = c .before .before .before in
+    walked-end _ _ (start .pre .0 .readable) (start .pre .1 .0) (c .before .loop .inv) (c .loop-test .left)
 
 pub scan-spec : {M : Type 1} → statement M
 scan-spec =
@@ -176,25 +133,15 @@ scan-spec =
     (tie.spec
     Inv-loop
     μ-loop
-    mul-first
-    end-of-requires
     loop-holds
+    first-requires
+    mul-k
     add-k
+    rest-requires
     kind-of-requires
-    enum-told
-    cast-t16
-    same-length
+    cast-t14
     returns
-    enum-told-2
-    cast-numbers
-    add-numbers
-    mul-numbers
-    slice-write-numbers
-    add-urgent
+    with-if-requires
     loop-less
     loop-again
-    enum-told-3
-    loop-less-2
-    loop-again-2
-    same-length-2
     returns-2)

@@ -1,85 +1,77 @@
 -- Input by input, the scheduled and the urgent cells of those passed are written down.
 use borrow.Author.Needs.{needs}
-use Prim.Native.Nat.{_-_, _≤_}
+use Prim.Native.Nat.{_-_, _≤_, _<_}
 use native.Mathlib.Omega.{arith}
-use mathlib.Core.Path.{_≡_, sym, _∙_}
-use Rattle.choosing.proofs.Choice.{ScannedTo, scanned-none, scanned-beyond, scanned-more, scanned-to}
+use mathlib.Core.Path.{_≡_}
+use Rattle.layout.specs.Entry.{portsIn}
+use Rattle.choosing.proofs.Choice.{ScannedTo, scanned-none, scanned-more, scanned-all}
 use Rattle.choosing.proofs.scan_each.Statement.{statement}
 use Rattle.choosing.proofs.scan_each.Tie as tie
 
 abbrev Inv-loop : tie.InvT-loop
-Inv-loop table places cross best ports scheduled₀ counts₀ numbers₀ input₀ scheduled counts numbers input =
-    (input ≤ 16) × ScannedTo table places input scheduled counts numbers
+Inv-loop table heads cross best least scheduled₀ urgent₀ some₀ ports input₀ scheduled urgent some input =
+    (input ≤ ports) × ScannedTo table input scheduled urgent some
 
 abbrev μ-loop : tie.MeasureT-loop
-μ-loop table places cross best ports scheduled₀ counts₀ numbers₀ input₀ scheduled counts numbers input = 16 - input
+μ-loop table heads cross best least scheduled₀ urgent₀ some₀ ports input₀ scheduled urgent some input = ports - input
+
+ports-of-requires : tie.Need-ports-of-requires Inv-loop μ-loop
+ports-of-requires c κs = search needs
+
+-- an input of the switch
+inside : (c : tie.In-loop Inv-loop μ-loop)
+    → c .before .loop .input < portsIn (c .before .before .before .before .args .table .now)
+inside c = omega (arith, c .loop-test .taken, c .before .before .ports-of .ensures)
+
+below-ports : (c : tie.In-loop Inv-loop μ-loop) → c .before .loop .input < 16
+below-ports c = omega (arith, inside c, c .before .before .before .before .pre .0 .readable .ports)
 
 loop-holds : tie.Need-loop-holds Inv-loop μ-loop
 loop-holds c =
-    let start = c .before .before .before in
-    let sizes = start .pre .1 .1 in
-    (omega arith, scanned-none _ _ (start .pre .0 .readable) _ _ _ (sizes .0) (sizes .1) (sizes .2))
+    let start = c .before .before in
+    (omega arith, scanned-none _ (start .pre .1 .1 .0) (start .pre .1 .1 .1))
 
-add-input : tie.Need-add-input Inv-loop μ-loop
-add-input c = search needs
+mul-scan : tie.Need-mul-scan Inv-loop μ-loop
+mul-scan c = search needs
+
+element-copy-out-scan : tie.Need-element-copy-out-scan Inv-loop μ-loop
+element-copy-out-scan c = below-ports c
+
+scan-requires : tie.Need-scan-requires Inv-loop μ-loop
+scan-requires c κs =
+    let start = c .before .before .before .before .before in
+    (start .pre .0, (inside (c .before), start .pre .1 .0 _ (below-ports (c .before))))
 
 mul-scheduled : tie.Need-mul-scheduled Inv-loop μ-loop
 mul-scheduled c = search needs
 
 element-write-scheduled : tie.Need-element-write-scheduled Inv-loop μ-loop
-element-write-scheduled c = search needs
+element-write-scheduled c = below-ports (c .before .before)
 
-element-write-counts : tie.Need-element-write-counts Inv-loop μ-loop
-element-write-counts c = search needs
+mul-urgent : tie.Need-mul-urgent Inv-loop μ-loop
+mul-urgent c = search needs
+
+element-write-urgent : tie.Need-element-write-urgent Inv-loop μ-loop
+element-write-urgent c = below-ports (c .before .before)
+
+add-input : tie.Need-add-input Inv-loop μ-loop
+add-input c = omega (arith, below-ports (c .before .before .before))
 
 loop-less : tie.Need-loop-less Inv-loop μ-loop
 loop-less c = search needs
 
 loop-again : tie.Need-loop-again Inv-loop μ-loop
 loop-again c =
-    let loop = c .before .before .loop in
-    let start = c .before .before .before .before .before .before in
-    (omega arith, scanned-beyond _ _ (start .pre .0 .readable) _ (omega arith) (omega (arith, start .pre .1 .0)) (loop .inv .1))
-
-scan-requires : tie.Need-scan-requires Inv-loop μ-loop
-scan-requires c κs =
-    let loop = c .before .before .before .loop in
-    let start = c .before .before .before .before .before .before .before in
-    (start .pre .0, (omega (arith, start .pre .1 .0), loop .inv .1 .long))
-
-mul-scheduled-2 : tie.Need-mul-scheduled-2 Inv-loop μ-loop
-mul-scheduled-2 c = search needs
-
-element-write-scheduled-2 : tie.Need-element-write-scheduled-2 Inv-loop μ-loop
-element-write-scheduled-2 c = search needs
-
-cast-counts : tie.Need-cast-counts Inv-loop μ-loop
-cast-counts c = omega (arith, c .before .before .before .scan .ensures .small)
-
-element-write-counts-2 : tie.Need-element-write-counts-2 Inv-loop μ-loop
-element-write-counts-2 c = search needs
-
-loop-less-2 : tie.Need-loop-less-2 Inv-loop μ-loop
-loop-less-2 c = search needs
-
-loop-again-2 : tie.Need-loop-again-2 Inv-loop μ-loop
-loop-again-2 c =
-    let loop = c .before .before .before .before .before .before .before .loop in
-    let start = c .before .before .before .before .before .before .before .before .before .before .before in
-    let scan = c .before .before .before .scan in
-    (omega arith, scanned-more _ _ (start .pre .0 .readable) _ (omega arith) (scan .ensures) (scan .kept .1 .1 .1 .1 .0) (loop .inv .1))
-
-same-length : tie.Need-same-length Inv-loop μ-loop
-same-length c =
-    let start = c .before .before .before .before .before in
-    c .before .loop .inv .1 .long ∙ sym (start .pre .1 .1 .2)
+    let l = c .before .before .before .before .loop in
+    let found = c .before .scan in
+    (omega arith, scanned-more _ (l .input) _ _ (below-ports (c .before .before .before)) (found .ensures) (l .inv .1))
 
 returns : tie.Need-returns Inv-loop μ-loop
 returns c =
-    let loop = c .before .loop in
-    let end : loop .input ≡ 16 = omega arith in
-    let all = scanned-to _ _ end (loop .inv .1) in
-    (all .schedules, (all .urgents, (all .size, all .counted)))
+    let start = c .before .before .before .before in
+    let l = c .before .loop in
+    let end : l .input ≡ portsIn (start .args .table .now) = omega (arith, c .before .before .ports-of .ensures) in
+    scanned-all _ (start .pre .0 .readable) end (l .inv .1)
 
 pub scan-each-spec : {M : Type 1} → statement M
 scan-each-spec =
@@ -87,19 +79,16 @@ scan-each-spec =
     (tie.spec
     Inv-loop
     μ-loop
+    ports-of-requires
     loop-holds
-    add-input
+    mul-scan
+    element-copy-out-scan
+    scan-requires
     mul-scheduled
     element-write-scheduled
-    element-write-counts
+    mul-urgent
+    element-write-urgent
+    add-input
     loop-less
     loop-again
-    scan-requires
-    mul-scheduled-2
-    element-write-scheduled-2
-    cast-counts
-    element-write-counts-2
-    loop-less-2
-    loop-again-2
-    same-length
     returns)

@@ -1,20 +1,17 @@
--- The entry is its output's choice and leaves, or its record is copied to the free one and its place is set.
-use Prim.Native.Nat.{_≤_}
-use native.Mathlib.Omega.{arith}
+-- The entry is its output's choice and leaves, or its record is copied to the free one.
 use mathlib.Core.Path.{_≡_, sym, _∙_, ap}
 use borrow.Author.Needs.{needs}
-use lib.ListN.{length, getD}
+use lib.ListN.{getD}
 use Rattle.layout.specs.Entry.{entryAt}
-use Rattle.layout.specs.Records.{recordStart}
-use Rattle.departure.proofs.Staying.{free-leave, closed-leave, free-stay, closed-stay}
+use Rattle.departure.proofs.Staying.{free-leave, closed-leave, stays-i, free-stay, closed-stay}
 use Rattle.departure.proofs.close_one.Statement.{statement}
 use Rattle.departure.proofs.close_one.Tie as tie
 
 -- the number of the entry's output
-choice : (t : tie.After-output-of) → let start = t .before .before .before .before in
+choice : (t : tie.After-output-of) → let start = t .before .before .before in
     getD (start .args .best .now) (t .output-of .result) 0
     ≡ getD (start .args .best .now) (entryAt (start .args .table .now) (start .args .k) .cell .output) 0
-choice t = ap (λ o. getD (t .before .before .before .before .args .best .now) o 0) (t .output-of .ensures)
+choice t = ap (λ o. getD (t .before .before .before .args .best .now) o 0) (t .output-of .ensures)
 
 output-of-requires : tie.Need-output-of-requires
 output-of-requires c κs = search needs
@@ -36,27 +33,14 @@ same-length c = search needs
 
 returns : tie.Need-returns
 returns c =
-    let start = c .before .before .before .before .before .before in
-    let a = start .args in
+    let a = c .before .before .before .before .before .args in
     let own = sym (choice (c .before .before)) ∙ c .if1 .taken in (
-      free-leave (a .table .now) (a .places .now) (a .best .now) (a .k) (a .free) own,
-      closed-leave (a .table .now) (a .places .now) (a .best .now) (a .k) (a .free) own,
+      free-leave (a .table .now) (a .best .now) (a .k) (a .free) own,
+      closed-leave (a .table .now) (a .best .now) (a .k) (a .free) own,
     )
 
-copy-down-requires : tie.Need-copy-down-requires
-copy-down-requires c κs = search needs
-
-shared-slice-read-table : tie.Need-shared-slice-read-table
-shared-slice-read-table c = search needs
-
-start-of-requires : tie.Need-start-of-requires
-start-of-requires c κs = search needs
-
-add-table : tie.Need-add-table
-add-table c = search needs
-
-slice-write-table : tie.Need-slice-write-table
-slice-write-table c = search needs
+copy-record-requires : tie.Need-copy-record-requires
+copy-record-requires c κs = search needs
 
 add-result : tie.Need-add-result
 add-result c = search needs
@@ -66,19 +50,13 @@ same-length-2 c = search needs
 
 returns-2 : tie.Need-returns-2
 returns-2 c =
-    let copied = c .before .before .before .before in
+    let copied = c .before .before in
     let test = copied .before .before in
-    let start = test .before .before .before .before .before .before in
-    let a = start .args in
-    let place = start .pre .1 .1 .0 in
-    let room : recordStart (a .free) ≤ length (a .table .now) =
-    omega (arith, start .pre .0 .0, start .pre .0 .2, start .pre .0 .3) in
-    let other : getD (a .best .now) (entryAt (a .table .now) (a .k) .cell .output) 0 ≡ a .k → ⊥ =
-    λ h. test .if1 .left (choice (test .before .before) ∙ h) in (
-      free-stay (a .table .now) (a .places .now) (a .best .now) (a .k) (a .free) other,
-      closed-stay (a .table .now) (a .places .now) (a .best .now) (a .k) (a .free) other (c .start-of .result)
-          (copied .copy-down .last .0) (start .pre .1 .1 .1) room (place .0) (place .1) (c .start-of .ensures)
-          (copied .copy-down .ensures),
+    let a = test .before .before .before .before .before .args in
+    let stay = stays-i (a .table .now) (a .best .now) (a .k) (a .free)
+    (λ h. test .if1 .left (choice (test .before .before) ∙ h)) in (
+      free-stay (a .table .now) (a .best .now) (a .k) (a .free) stay,
+      copied .copy-record .ensures ∙ closed-stay (a .table .now) (a .best .now) (a .k) (a .free) stay,
     )
 
 pub close-one-spec : {M : Type 1} → statement M
@@ -92,11 +70,7 @@ close-one-spec =
     cast-if1-2
     same-length
     returns
-    copy-down-requires
-    shared-slice-read-table
-    start-of-requires
-    add-table
-    slice-write-table
+    copy-record-requires
     add-result
     same-length-2
     returns-2)

@@ -1,20 +1,17 @@
--- The choices, the answer, the table without the cells that leave.
+-- The answer, and the table without the cells that leave.
 use native.Mathlib.Omega.{arith}
 use mathlib.Core.Path.{_∙_, ap}
 use borrow.Author.Needs.{needs}
 use Rattle.layout.specs.Host.{filled}
-use Rattle.departure.proofs.Leaving.{ready-readable}
+use Rattle.places.proofs.Own.{table-readable}
 use Rattle.departure.proofs.Sending.{departures-chosen}
 use Rattle.departure.proofs.depart.Statement.{statement}
 use Rattle.departure.proofs.depart.Tie as tie
 
-choose-requires : tie.Need-choose-requires
-choose-requires c κs = search needs
-
 send-requires : tie.Need-send-requires
 send-requires c κs =
-    let start = c .before .before .before .before .before .before .before .before in
-    (ready-readable (start .pre .0) .size, c .before .before .before .choose .ensures .size, omega (arith, start .pre .1))
+    let start = c .before .before .before .before in
+    (table-readable _ (start .pre .0 .0) .size, start .pre .0 .1 .size, omega (arith, start .pre .1))
 
 remove-requires : tie.Need-remove-requires
 remove-requires c κs = search needs
@@ -28,15 +25,12 @@ same-length-2 c = search needs
 returns : tie.Need-returns
 returns c =
     let gone = c .before .before in
-    let sent = gone .before .before .before .before .before in
-    let chosen = sent .before .before .before .before in
-    let start = chosen .before .before .before .before .before in (
+    let sent = gone .before .before .before .before in
+    let start = sent .before .before .before .before .before in (
       gone .remove .ensures,
       sent .send .ensures
-          ∙ ap (λ bs. filled bs (start .args .answer .now)) (departures-chosen (start .pre .0) (chosen .choose .ensures)),
+          ∙ ap (λ bs. filled bs (start .args .answer .now)) (departures-chosen _ (start .pre .0 .0) (start .pre .0 .1)),
     )
 
 pub depart-spec : {M : Type 1} → statement M
-depart-spec =
-    tie.close
-    (tie.spec choose-requires send-requires remove-requires same-length same-length-2 returns)
+depart-spec = tie.close (tie.spec send-requires remove-requires same-length same-length-2 returns)

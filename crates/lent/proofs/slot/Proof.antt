@@ -1,13 +1,13 @@
--- `lent::slot` meets its contract: a walk of its MIR, by hand. The table is lent as a shared slice for the call of `before_records` and again for that of `check_records`, and comes back; then the table and the answer are given up to `run_checked`, and the tally to `count`.
+-- `lent::slot` meets its contract: a walk of its MIR, by hand. The table is lent for the call of `before_records` and again for that of `take_records`, and comes back; then the table and the answer are given up to `run_taken`, and the tally to `count`.
 -- All that the walk knows of the four is that they meet their contracts. It is cut at the three later calls, with the context written out there.
 --     exits        what is had at exit, and what the contract says of it
 --     counts       the fourth call, and the exit
 --     runs-on      the third call
---     checks       the second call
+--     takes        the second call
 --     opens        the first call
 --     walk         the MIR up to there
 -- Assumes nothing.
-use mathlib.Core.Path.{_≡_, refl, _∙_, ap, subst}
+use mathlib.Core.Path.{_≡_, refl, sym, _∙_, ap, subst}
 use Prim.Native.Nat.{ℕ, _<_, _^_}
 use mathlib.Core.List.{List, [], _∷_}
 use lib.ListN.{length}
@@ -23,7 +23,7 @@ use prog.Wp.{Heap, Env, Calls, Loops, WpFn, Tables}
 use ghost.Atoms.{Atoms, sem}
 use contract.Monad.{Fun, fact, factI}
 use contract.Running.{givenOf, tables, tablesOf}
-use types.Kit.{Given, Item, Sq, runs, atRet, ‵, raw, _⊛_, ⋆, some, later, _$_, _∵_, !, qed, by, move, keep, drop, group, use0, use1, use2, split, join, pick, rewrite, fsplit, fjoin, feqL, suffices, frame, await, done}
+use types.Kit.{Given, Item, Sq, runs, atRet, ‵, raw, _⊛_, ⋆, some, later, _$_, _∵_, !, qed, by, move, keep, drop, group, use0, use1, use2, use3, split, join, pick, rewrite, fsplit, fjoin, feqL, suffices, frame, await, done}
 use types.Run.{look, init, forget, stop, hop, fld, from, load, addr, of-opd, and-then, no-more, assigns, land, returns, enter, alloc1, alloc0, params1, pass1, pass0, free1, free0}
 use types.Part.{agg, whole, sub, look-in}
 use types.Tokens.{lft-new, lft-end}
@@ -62,11 +62,11 @@ use Rattle.fabric.specs.Slot.{refusalOf}
 use Rattle.lent.specs.declared.records.Checked.{Checked}
 use Rattle.lent.specs.declared.running.Ended.{Ended}
 use Rattle.tally.specs.Counted.{countedAs}
-use Rattle.lent.specs.Ended.{foundOutcome, endedOf}
-use Rattle.lent.specs.Looked.{recordsSlot, Looked, Found}
-use Rattle.lent.proofs.Ending.{found-runs, found-outcome, ended-fault, ended-tally}
-use Rattle.lent.proofs.Shared.{LentShared, lends-shared, shared-back}
-use Rattle.lent.proofs.Typed.{checked-size}
+use Rattle.lent.specs.Ended.{takenOutcome, endedOf}
+use Rattle.lent.specs.Looked.{recordsSlot, Looked}
+use Rattle.lent.specs.Taken.{Taken}
+use Rattle.lent.proofs.Ending.{ended-fault, ended-tally, taken-runs, taken-outcome, taken-table}
+use Rattle.lent.proofs.Shared.{LentShared, lends-shared, shared-back, LentOn, lends-on, comes-back}
 use Rattle.lent.proofs.records.Checked as K
 use Rattle.lent.proofs.records.Checked.Laws as K′
 use Rattle.lent.proofs.running.Ended as E
@@ -75,14 +75,14 @@ use Rattle.lent.proofs.records.before_records as before
 use Rattle.lent.proofs.records.before_records.Symbol as before-def
 use Rattle.lent.proofs.records.before_records.Symbol.{name as #lent·records·before-records}
 use Rattle.lent.proofs.records.before_records.Met as before-thm
-use Rattle.lent.proofs.records.check_records as check
-use Rattle.lent.proofs.records.check_records.Symbol as check-def
-use Rattle.lent.proofs.records.check_records.Symbol.{name as #lent·records·check-records}
-use Rattle.lent.proofs.records.check_records.Met as check-thm
-use Rattle.lent.proofs.running.run_checked as course
-use Rattle.lent.proofs.running.run_checked.Symbol as course-def
-use Rattle.lent.proofs.running.run_checked.Symbol.{name as #lent·running·run-checked}
-use Rattle.lent.proofs.running.run_checked.Met as course-thm
+use Rattle.lent.proofs.arriving.take_records as taking
+use Rattle.lent.proofs.arriving.take_records.Symbol as taking-def
+use Rattle.lent.proofs.arriving.take_records.Symbol.{name as #lent·arriving·take-records}
+use Rattle.lent.proofs.arriving.take_records.Met as taking-thm
+use Rattle.lent.proofs.running.run_taken as course
+use Rattle.lent.proofs.running.run_taken.Symbol as course-def
+use Rattle.lent.proofs.running.run_taken.Symbol.{name as #lent·running·run-taken}
+use Rattle.lent.proofs.running.run_taken.Met as course-thm
 use Rattle.tally.proofs.count as count
 use Rattle.tally.proofs.count.Symbol as count-def
 use Rattle.tally.proofs.count.Symbol.{name as #tally·count}
@@ -127,8 +127,8 @@ module _ {M : Type 1} (𝓤 : URA M) (H : Heap 𝓤) (A : Atoms 𝓤) (at-mem : 
   abbrev BeforeC : Contract 𝓤
   BeforeC = tripleOf 𝓤 H A before.signature (before.spec 𝓤 H A at-mem run)
 
-  abbrev CheckC : Contract 𝓤
-  CheckC = tripleOf 𝓤 H A check.signature (check.spec 𝓤 H A at-mem run)
+  abbrev TakeC : Contract 𝓤
+  TakeC = tripleOf 𝓤 H A taking.signature (taking.spec 𝓤 H A at-mem run)
 
   abbrev CourseC : Contract 𝓤
   CourseC = tripleOf 𝓤 H A course.signature (course.spec 𝓤 H A at-mem run)
@@ -145,9 +145,9 @@ module _ {M : Type 1} (𝓤 : URA M) (H : Heap 𝓤) (A : Atoms 𝓤) (W : Given
   abbrev many : ℕ
   many = length (y .now)
 
-  -- the references: the table under a name, the answer, and the tally
-  abbrev xt : GName → RefT (List ℕ)
-  xt δ = record { ptr = (bt, ot); name = δ; now = ts }
+  -- the references: the table under a name, as it is so far, the answer, and the tally
+  abbrev xt : GName → List ℕ → RefT (List ℕ)
+  xt δ us = record { ptr = (bt, ot); name = δ; now = us }
 
   abbrev xa : RefT (List ℕ)
   xa = record { ptr = (ba, oa); name = γa; now = bs }
@@ -175,13 +175,13 @@ module _ {M : Type 1} (𝓤 : URA M) (H : Heap 𝓤) (A : Atoms 𝓤) (W : Given
   Args = RefT (List ℕ) × (RefT (List Arrival) × (RefT (List ℕ) × (RefT Tally × Unit {0})))
 
   abbrev args : Args
-  args = (xt γt, (y, (xa, (xc, tt))))
+  args = (xt γt ts, (y, (xa, (xc, tt))))
 
   abbrev Post : Val → SProp 𝓤
   Post = walkOf 𝓤 H A f.ended stayed (f.clauses 𝓤 H A at-mem run) .post (((κ₀, (κ₁, (κ₂, (κ₃, tt)))), (q₀, (q₁, (q₂, (q₃, tt)))), tt, args, at), tt)
 
-  abbrev OwnT : Fml
-  OwnT = MutSlice (named 0) κ₀ u8 .own (xt γt) (vt ∷ [])
+  abbrev OwnT : List ℕ → Fml
+  OwnT us = MutSlice (named 0) κ₀ u8 .own (xt γt us) (vt ∷ [])
 
   abbrev OwnY : Fml
   OwnY = ShrSlice (named 1) κ₁ R.the-row .own y (vy ∷ [])
@@ -212,10 +212,10 @@ module _ {M : Type 1} (𝓤 : URA M) (H : Heap 𝓤) (A : Atoms 𝓤) (W : Given
 
   -- the calls: what each is passed, what it asks, and what is known of its result
   abbrev LentT : ℕ → GName → Fml
-  LentT ν δ = ShrSlice (named 0) (ν ∷ []) u8 .own (xt δ) (vt ∷ [])
+  LentT ν δ = ShrSlice (named 0) (ν ∷ []) u8 .own (xt δ ts) (vt ∷ [])
 
   abbrev to-before : ℕ → GName → BeforeC 𝓤 H A at-mem run .Ghost
-  to-before ν δ = (((ν ∷ [], tt), (fullShare, tt), tt, (xt δ, (length bs, tt)), (vt ∷ [], (vint w64 (length bs) ∷ [], tt))), tt)
+  to-before ν δ = (((ν ∷ [], tt), (fullShare, tt), tt, (xt δ ts, (length bs, tt)), (vt ∷ [], (vint w64 (length bs) ∷ [], tt))), tt)
 
   goes-before : (ν : ℕ) (δ : GName) → ent 𝓤 (sep 𝓤 (sem 𝓤 H A (LentT ν δ)) (A .lft (ν ∷ []) fullShare)) (BeforeC 𝓤 H A at-mem run .pre (to-before ν δ))
   goes-before ν δ =
@@ -225,47 +225,48 @@ module _ {M : Type 1} (𝓤 : URA M) (H : Heap 𝓤) (A : Atoms 𝓤) (W : Given
   abbrev Begins : Checked → Type 0
   Begins k = (rs : List Arrival) → Looked ts (length bs) rs 0 k
 
-  before-said : (ν : ℕ) (δ : GName) (k : Checked) → ent 𝓤 (ensured 𝓤 H A before.ended (before.clauses 𝓤 H A at-mem run) (ν ∷ [], tt) (xt δ, (length bs, tt)) tt k) (fact 𝓤 (Begins k))
-  before-said ν δ k = exE 𝓤 _ (λ ws. snd∗ 𝓤 (sem 𝓤 H A (lasts before.ended (ν ∷ [], tt) (xt δ, (length bs, tt)) ws)) (fact 𝓤 (Begins k)))
+  before-said : (ν : ℕ) (δ : GName) (k : Checked) → ent 𝓤 (ensured 𝓤 H A before.ended (before.clauses 𝓤 H A at-mem run) (ν ∷ [], tt) (xt δ ts, (length bs, tt)) tt k) (fact 𝓤 (Begins k))
+  before-said ν δ k = exE 𝓤 _ (λ ws. snd∗ 𝓤 (sem 𝓤 H A (lasts before.ended (ν ∷ [], tt) (xt δ ts, (length bs, tt)) ws)) (fact 𝓤 (Begins k)))
 
-  abbrev CheckArgs : Type 0
-  CheckArgs = RefT (List ℕ) × (Checked × (RefT (List Arrival) × Unit {0}))
+  abbrev MutT : ℕ → GName → Fml
+  MutT ν δ = MutSlice (named 0) (ν ∷ []) u8 .own (xt δ ts) (vt ∷ [])
 
-  abbrev check-args : GName → Checked → CheckArgs
-  check-args δ k = (xt δ, (k, (y, tt)))
+  abbrev TakeArgs : Type 0
+  TakeArgs = RefT (List ℕ) × (Checked × (RefT (List Arrival) × Unit {0}))
 
-  abbrev to-check : ℕ → GName → Checked → Val → CheckC 𝓤 H A at-mem run .Ghost
-  to-check ν δ k v = (((ν ∷ [], (κ₁, tt)), (fullShare, (q₁, tt)), tt, check-args δ k, (vt ∷ [], (v ∷ [], (vy ∷ [], tt)))), tt)
+  abbrev take-args : GName → Checked → TakeArgs
+  take-args δ k = (xt δ ts, (k, (y, tt)))
 
-  goes-check : (ν : ℕ) (δ : GName) (k : Checked) (v : Val) → Is K.the-row k (v ∷ []) → Begins k → ent 𝓤 (⋆ 𝓤 H A (‵ (LentT ν δ) ∷ ‵ OwnY ∷ ‵ (flft (ν ∷ []) fullShare) ∷ ‵ (flft κ₁ q₁) ∷ [])) (CheckC 𝓤 H A at-mem run .pre (to-check ν δ k v))
-  goes-check ν δ k v is e =
-      qed W (‵ (LentT ν δ) ∷ ‵ OwnY ∷ ‵ (flft (ν ∷ []) fullShare) ∷ ‵ (flft κ₁ q₁) ∷ []) ∵ says ! (length bs, e ys) $
+  abbrev to-take : ℕ → GName → Checked → Val → TakeC 𝓤 H A at-mem run .Ghost
+  to-take ν δ k v = (((ν ∷ [], (κ₁, tt)), (fullShare, (q₁, tt)), tt, take-args δ k, (vt ∷ [], (v ∷ [], (vy ∷ [], tt)))), tt)
+
+  goes-take : (ν : ℕ) (δ : GName) (k : Checked) (v : Val) → Is K.the-row k (v ∷ []) → Begins k → ent 𝓤 (⋆ 𝓤 H A (‵ (MutT ν δ) ∷ ‵ OwnY ∷ ‵ (flft (ν ∷ []) fullShare) ∷ ‵ (flft κ₁ q₁) ∷ [])) (TakeC 𝓤 H A at-mem run .pre (to-take ν δ k v))
+  goes-take ν δ k v is e =
+      qed W (‵ (MutT ν δ) ∷ ‵ OwnY ∷ ‵ (flft (ν ∷ []) fullShare) ∷ ‵ (flft κ₁ q₁) ∷ []) ∵ says ! (length bs, e ys) $
       nothing ! $ move ! (4 ∷ 0 ∷ []) $ join ! $ move ! (3 ∷ 0 ∷ []) $ join ! $ frame ! $
       nothing ! $ move ! (2 ∷ 0 ∷ []) $ fjoin ! $ owned ! K.the-row (Is K.the-row) ((LL.makes K.the-type K′.the-plain) 𝓤 H A) k _ is $ fjoin ! $ move ! (1 ∷ 0 ∷ []) $ fjoin ! $ done !
 
-  abbrev Finds : Checked → Checked → Type 0
-  Finds k k′ = (room : ℕ) → Looked ts room ys 0 k → Found ts room ys k′
+  abbrev Takes : Checked → Fault → List ℕ → Type 0
+  Takes k g us = (room : ℕ) → Looked ts room ys 0 k → Taken ts room ys g us
 
-  check-said : (ν : ℕ) (δ : GName) (k k′ : Checked) → ent 𝓤 (ensured 𝓤 H A check.ended (check.clauses 𝓤 H A at-mem run) (ν ∷ [], (κ₁, tt)) (check-args δ k) tt k′) (fact 𝓤 (Finds k k′))
-  check-said ν δ k k′ = exE 𝓤 _ (λ ws. snd∗ 𝓤 (sem 𝓤 H A (lasts check.ended (ν ∷ [], (κ₁, tt)) (check-args δ k) ws)) (fact 𝓤 (Finds k k′)))
-
-  abbrev found : Checked → Outcome Course
-  found k = foundOutcome ts many (k .fault) (k .bytes)
+  -- the table after the arrivals, and what the slot comes to from there
+  abbrev After : Fault → List ℕ → Type 0
+  After g us = Taken ts (length bs) ys g us
 
   abbrev CourseArgs : Type 0
-  CourseArgs = RefT (List ℕ) × (RefT (List ℕ) × (Checked × (ℕ × Unit {0})))
+  CourseArgs = RefT (List ℕ) × (RefT (List ℕ) × (Fault × Unit {0}))
 
-  abbrev course-args : Checked → CourseArgs
-  course-args k = (xt γt, (xa, (k, (many, tt))))
+  abbrev course-args : Fault → List ℕ → CourseArgs
+  course-args g us = (xt γt us, (xa, (g, tt)))
 
-  abbrev to-course : Checked → Val → CourseC 𝓤 H A at-mem run .Ghost
-  to-course k v = (((κ₀, (κ₂, tt)), (q₀, (q₂, tt)), tt, course-args k, (vt ∷ [], (va ∷ [], (v ∷ [], (vint w64 many ∷ [], tt))))), tt)
+  abbrev to-course : Fault → List ℕ → Val → CourseC 𝓤 H A at-mem run .Ghost
+  to-course g us v = (((κ₀, (κ₂, tt)), (q₀, (q₂, tt)), tt, course-args g us, (vt ∷ [], (va ∷ [], (v ∷ [], tt)))), tt)
 
-  goes-course : (k : Checked) (v : Val) → Is K.the-row k (v ∷ []) → Found ts (length bs) ys k → ent 𝓤 (⋆ 𝓤 H A (‵ (flft κ₀ q₀) ∷ ‵ (flft κ₂ q₂) ∷ ‵ OwnT ∷ ‵ OwnA ∷ [])) (CourseC 𝓤 H A at-mem run .pre (to-course k v))
-  goes-course k v is e =
-      qed W (‵ (flft κ₀ q₀) ∷ ‵ (flft κ₂ q₂) ∷ ‵ OwnT ∷ ‵ OwnA ∷ []) ∵ says ! (found-runs ts (length bs) ys k (checked-size k (v ∷ []) is) e) $
+  goes-course : (g : Fault) (us : List ℕ) (v : Val) → Is F.the-row g (v ∷ []) → After g us → ent 𝓤 (⋆ 𝓤 H A (‵ (flft κ₀ q₀) ∷ ‵ (flft κ₂ q₂) ∷ ‵ (OwnT us) ∷ ‵ OwnA ∷ [])) (CourseC 𝓤 H A at-mem run .pre (to-course g us v))
+  goes-course g us v is e =
+      qed W (‵ (flft κ₀ q₀) ∷ ‵ (flft κ₂ q₂) ∷ ‵ (OwnT us) ∷ ‵ OwnA ∷ []) ∵ says ! (taken-runs ts (length bs) ys g us e) $
       nothing ! $ move ! (2 ∷ 0 ∷ []) $ join ! $ move ! (1 ∷ 0 ∷ []) $ join ! $ frame ! $
-      nothing ! $ owned ! usize (Is usize) (uint-makes 𝓤 H A W w64) many _ (refl, gy .0) $ fjoin ! $ owned ! K.the-row (Is K.the-row) ((LL.makes K.the-type K′.the-plain) 𝓤 H A) k _ is $ fjoin ! $ move ! (2 ∷ 0 ∷ []) $ fjoin ! $ move ! (1 ∷ 0 ∷ []) $ fjoin ! $ done !
+      nothing ! $ owned ! F.the-row (Is F.the-row) ((EL.makes F.the-type F′.the-plain) 𝓤 H A) g _ is $ fjoin ! $ move ! (2 ∷ 0 ∷ []) $ fjoin ! $ move ! (1 ∷ 0 ∷ []) $ fjoin ! $ done !
 
   abbrev to-count : Ended → CountC 𝓤 H A at-mem run .Ghost
   to-count r = (((κ₃, tt), (q₃, tt), tt, (xc, (r .ran, (many, (r .departures, tt)))), (vptr bc oc ∷ [], (vbool (r .ran) ∷ [], (vint w64 many ∷ [], (vint w64 (r .departures) ∷ [], tt))))), tt)
@@ -279,10 +280,10 @@ module _ {M : Type 1} (𝓤 : URA M) (H : Heap 𝓤) (A : Atoms 𝓤) (W : Given
   abbrev endedVal : Ended → Val
   endedVal = LL.val E.the-type E′.the-laws
 
-  module _ (C : Calls 𝓤 H) (Λ : Loops 𝓤 H) (fm : FmC 𝓤 H (W .laws) C) (known-before : Triple 𝓤 (C #lent·records·before-records) (BeforeC 𝓤 H A at-mem run)) (known-check : Triple 𝓤 (C #lent·records·check-records) (CheckC 𝓤 H A at-mem run)) (known-course : Triple 𝓤 (C #lent·running·run-checked) (CourseC 𝓤 H A at-mem run))
+  module _ (C : Calls 𝓤 H) (Λ : Loops 𝓤 H) (fm : FmC 𝓤 H (W .laws) C) (known-before : Triple 𝓤 (C #lent·records·before-records) (BeforeC 𝓤 H A at-mem run)) (known-take : Triple 𝓤 (C #lent·arriving·take-records) (TakeC 𝓤 H A at-mem run)) (known-course : Triple 𝓤 (C #lent·running·run-taken) (CourseC 𝓤 H A at-mem run))
       (known-count : Triple 𝓤 (C #tally·count) (CountC 𝓤 H A at-mem run)) (l₀ l₁ l₂ l₃ l₄ l₅ l₆ l₇ l₈ l₉ l₁₀ l₁₁ l₁₂ l₁₃ l₁₄ l₁₅ l₁₆ l₁₇ l₁₈ l₁₉ l₂₀ : ℕ) where
     abbrev En : Env 𝓤 H
-    En = (F′.mir, l₀) ∷ (tableTy, l₁) ∷ (recordsTy, l₂) ∷ (answerTy, l₃) ∷ (tallyTy, l₄) ∷ (word, l₅) ∷ (word, l₆) ∷ (K′.mir, l₇) ∷ (K′.mir, l₈) ∷ (E′.mir, l₉) ∷ (sharedPtr, l₁₀) ∷ (sliceTy sharedPtr, l₁₁) ∷ (sharedPtr, l₁₂) ∷ (sliceTy sharedPtr, l₁₃) ∷ (mutPtr, l₁₄) ∷ (sliceTy mutPtr, l₁₅) ∷ (mutPtr, l₁₆) ∷ (sliceTy mutPtr, l₁₇) ∷ (tyUnit, l₁₈) ∷ (tallyPtr, l₁₉) ∷ (word, l₂₀) ∷ []
+    En = (F′.mir, l₀) ∷ (tableTy, l₁) ∷ (recordsTy, l₂) ∷ (answerTy, l₃) ∷ (tallyTy, l₄) ∷ (word, l₅) ∷ (word, l₆) ∷ (K′.mir, l₇) ∷ (F′.mir, l₈) ∷ (E′.mir, l₉) ∷ (sharedPtr, l₁₀) ∷ (sliceTy sharedPtr, l₁₁) ∷ (mutPtr, l₁₂) ∷ (sliceTy mutPtr, l₁₃) ∷ (mutPtr, l₁₄) ∷ (sliceTy mutPtr, l₁₅) ∷ (mutPtr, l₁₆) ∷ (sliceTy mutPtr, l₁₇) ∷ (tyUnit, l₁₈) ∷ (tallyPtr, l₁₉) ∷ (word, l₂₀) ∷ []
 
     -- a local that holds a value, and one that holds none
     abbrev full : Ty → ℕ → Val → List (Item 𝓤) → List (Item 𝓤)
@@ -308,20 +309,20 @@ module _ {M : Type 1} (𝓤 : URA M) (H : Heap 𝓤) (A : Atoms 𝓤) (W : Given
 
     -- before each call
     abbrev Entered : List (Item 𝓤)
-    Entered = Unused (bare (sliceTy sharedPtr) l₁₃ (bare sharedPtr l₁₂ (bare (sliceTy sharedPtr) l₁₁ (bare sharedPtr l₁₀ (bare E′.mir l₉ (bare K′.mir l₈ (bare K′.mir l₇ (bare word l₆ (bare word l₅ (Params (Alive
-        (‵ OwnT ∷ ‵ OwnY ∷ ‵ OwnA ∷ ‵ OwnC ∷ []))))))))))))
+    Entered = Unused (bare (sliceTy mutPtr) l₁₃ (bare mutPtr l₁₂ (bare (sliceTy sharedPtr) l₁₁ (bare sharedPtr l₁₀ (bare E′.mir l₉ (bare F′.mir l₈ (bare K′.mir l₇ (bare word l₆ (bare word l₅ (Params (Alive
+        (‵ (OwnT ts) ∷ ‵ OwnY ∷ ‵ OwnA ∷ ‵ OwnC ∷ []))))))))))))
 
-    abbrev AtCheck : Val → List (Item 𝓤)
-    AtCheck v = Unused (bare (sliceTy sharedPtr) l₁₃ (bare sharedPtr l₁₂ (full (sliceTy sharedPtr) l₁₁ vt (full sharedPtr l₁₀ (vptr bt ot) (bare E′.mir l₉ (bare K′.mir l₈ (full K′.mir l₇ v (Counted
-        (‵ OwnT ∷ ‵ OwnY ∷ ‵ OwnA ∷ ‵ OwnC ∷ [])))))))))
+    abbrev AtTake : Val → List (Item 𝓤)
+    AtTake v = Unused (bare (sliceTy mutPtr) l₁₃ (bare mutPtr l₁₂ (full (sliceTy sharedPtr) l₁₁ vt (full sharedPtr l₁₀ (vptr bt ot) (bare E′.mir l₉ (bare F′.mir l₈ (full K′.mir l₇ v (Counted
+        (‵ (OwnT ts) ∷ ‵ OwnY ∷ ‵ OwnA ∷ ‵ OwnC ∷ [])))))))))
 
-    abbrev AtCourse : Val → Val → List (Item 𝓤)
-    AtCourse v v′ = Unused (full (sliceTy sharedPtr) l₁₃ vt (full sharedPtr l₁₂ (vptr bt ot) (full (sliceTy sharedPtr) l₁₁ vt (full sharedPtr l₁₀ (vptr bt ot) (bare E′.mir l₉ (full K′.mir l₈ v′ (full K′.mir l₇ v (Counted
-        (‵ OwnT ∷ ‵ OwnA ∷ ‵ OwnC ∷ [])))))))))
+    abbrev AtCourse : Val → Val → List ℕ → List (Item 𝓤)
+    AtCourse v v′ us = Unused (full (sliceTy mutPtr) l₁₃ vt (full mutPtr l₁₂ (vptr bt ot) (full (sliceTy sharedPtr) l₁₁ vt (full sharedPtr l₁₀ (vptr bt ot) (bare E′.mir l₉ (full F′.mir l₈ v′ (full K′.mir l₇ v (Counted
+        (‵ (OwnT us) ∷ ‵ OwnA ∷ ‵ OwnC ∷ [])))))))))
 
     abbrev AtCount : Val → Val → Ended → List ℕ → List ℕ → List (Item 𝓤)
     AtCount v v′ r ts′ bs′ = bare word l₂₀ (bare tallyPtr l₁₉ (bare tyUnit l₁₈ (full (sliceTy mutPtr) l₁₇ va (full mutPtr l₁₆ (vptr ba oa) (full (sliceTy mutPtr) l₁₅ vt (full mutPtr l₁₄ (vptr bt ot)
-        (full (sliceTy sharedPtr) l₁₃ vt (full sharedPtr l₁₂ (vptr bt ot) (full (sliceTy sharedPtr) l₁₁ vt (full sharedPtr l₁₀ (vptr bt ot) (full E′.mir l₉ (endedVal r) (full K′.mir l₈ v′ (full K′.mir l₇ v (Counted
+        (full (sliceTy mutPtr) l₁₃ vt (full mutPtr l₁₂ (vptr bt ot) (full (sliceTy sharedPtr) l₁₁ vt (full sharedPtr l₁₀ (vptr bt ot) (full E′.mir l₉ (endedVal r) (full F′.mir l₈ v′ (full K′.mir l₇ v (Counted
         (‵ (finally u8 γt ts′) ∷ ‵ (finally u8 γa bs′) ∷ ‵ OwnC ∷ [])))))))))))))))
 
     -- the fourth call: the tally is counted in, and the slot's refusal is the result
@@ -356,20 +357,20 @@ module _ {M : Type 1} (𝓤 : URA M) (H : Heap 𝓤) (A : Atoms 𝓤) (W : Given
         sent = LL.owed E.the-type E′.the-laws r (endedVal r ∷ []) is .1 .1 .0
 
     -- the third call: the slot runs, or is turned back
-    runs-on : (v : Val) (k : Checked) (v′ : Val) → Is K.the-row k (v′ ∷ []) → Found ts (length bs) ys k → Sq W (AtCourse v v′) (runs C Λ En mir.t-9 (atRet En Post))
-    runs-on v k v′ ik e =
+    runs-on : (v : Val) (g : Fault) (v′ : Val) → Is F.the-row g (v′ ∷ []) → (us : List ℕ) → length us ≡ length ts → After g us → Sq W (AtCourse v v′ us) (runs C Λ En mir.t-9 (atRet En Post))
+    runs-on v g v′ ig us lu e =
         assigns ! (addr ! (from ! (fld ! refl (hop ! (look-in ! 38 (sub ! 0 refl (whole !))) (stop !))))) (from ! (stop !)) (init ! 12 refl (tt, tt)) $
         assigns ! (agg ! (and-then ! (load ! (from ! (stop !)) (look ! 12 refl)) (and-then ! (load ! (from ! (fld ! refl (stop !))) (look-in ! 38 (sub ! 1 refl (whole !)))) (no-more !)))) (from ! (stop !)) (init ! 10 refl (tt, (tt, (record { fits = gt .0 }, tt)))) $
         assigns ! (addr ! (from ! (fld ! refl (hop ! (look-in ! 34 (sub ! 0 refl (whole !))) (stop !))))) (from ! (stop !)) (init ! 8 refl (tt, tt)) $
         assigns ! (agg ! (and-then ! (load ! (from ! (stop !)) (look ! 8 refl)) (and-then ! (load ! (from ! (fld ! refl (stop !))) (look-in ! 34 (sub ! 1 refl (whole !)))) (no-more !)))) (from ! (stop !)) (init ! 6 refl (tt, (tt, (record { fits = ga .0 }, tt)))) $
-        move ! (42 ∷ 44 ∷ 46 ∷ 47 ∷ []) $ group ! 4 $ use1 W (raw (CourseC 𝓤 H A at-mem run .pre (to-course k v′))) (goes-course k v′ ik e) $
-        -- [what `run_checked` asks; _20; …; the tokens of records and tally; what tally owns]
-        calls-at ! fm (CourseC 𝓤 H A at-mem run) known-course (to-course k v′)
-        (and-then ! (load ! (from ! (stop !)) (look ! 11 refl)) (and-then ! (load ! (from ! (stop !)) (look ! 7 refl)) (and-then ! (load ! (from ! (stop !)) (look ! 25 refl)) (and-then ! (load ! (from ! (stop !)) (look ! 29 refl)) (no-more !))))) (λ w.
-        use1 W (later (some (λ (r : Ended). ((‵ (flft κ₀ q₀) ⊛ ‵ (flft κ₂ q₂) ⊛ ‵ ftrue) ⊛ ‵ (E.the-row .own r (w ∷ []))) ⊛ raw (ensured 𝓤 H A course.ended (course.clauses 𝓤 H A at-mem run) (κ₀, (κ₂, tt)) (course-args k) tt r)))) (id⊢ 𝓤 _) $ await ! tt $ pick ! (λ r.
+        move ! (42 ∷ 44 ∷ 46 ∷ 47 ∷ []) $ group ! 4 $ use1 W (raw (CourseC 𝓤 H A at-mem run .pre (to-course g us v′))) (goes-course g us v′ ig e) $
+        -- [what `run_taken` asks; _20; …; the tokens of records and tally; what tally owns]
+        calls-at ! fm (CourseC 𝓤 H A at-mem run) known-course (to-course g us v′)
+        (and-then ! (load ! (from ! (stop !)) (look ! 11 refl)) (and-then ! (load ! (from ! (stop !)) (look ! 7 refl)) (and-then ! (load ! (from ! (stop !)) (look ! 25 refl)) (no-more !)))) (λ w.
+        use1 W (later (some (λ (r : Ended). ((‵ (flft κ₀ q₀) ⊛ ‵ (flft κ₂ q₂) ⊛ ‵ ftrue) ⊛ ‵ (E.the-row .own r (w ∷ []))) ⊛ raw (ensured 𝓤 H A course.ended (course.clauses 𝓤 H A at-mem run) (κ₀, (κ₂, tt)) (course-args g us) tt r)))) (id⊢ 𝓤 _) $ await ! tt $ pick ! (λ r.
         split ! $ move ! (1 ∷ []) $
-        use1 W (some (λ (zs : List ℕ × (List ℕ × (Unit {0} × (Unit {0} × Unit {0})))). ‵ (lasts course.ended (κ₀, (κ₂, tt)) (course-args k) zs) ⊛ raw (fact 𝓤 (r ≡ endedOf (found k))) ⊛ raw (fact 𝓤 (zs .0 ≡ tableAfter ts (found k))) ⊛ raw (fact 𝓤 (zs .1 .0 ≡ answerAfter bs (found k))))) (id⊢ 𝓤 _) $ pick ! (λ zs.
-        split ! $ move ! (1 ∷ []) $ split ! $ heard ! (r ≡ endedOf (found k)) (λ e₁. split ! $ heard ! (zs .0 ≡ tableAfter ts (found k)) (λ e₂. heard ! (zs .1 .0 ≡ answerAfter bs (found k)) (λ e₃.
+        use1 W (some (λ (zs : List ℕ × (List ℕ × (Unit {0} × Unit {0}))). ‵ (lasts course.ended (κ₀, (κ₂, tt)) (course-args g us) zs) ⊛ raw (fact 𝓤 (r ≡ endedOf (takenOutcome us g))) ⊛ raw (fact 𝓤 (zs .0 ≡ tableAfter us (takenOutcome us g))) ⊛ raw (fact 𝓤 (zs .1 .0 ≡ answerAfter bs (takenOutcome us g))))) (id⊢ 𝓤 _) $ pick ! (λ zs.
+        split ! $ move ! (1 ∷ []) $ split ! $ heard ! (r ≡ endedOf (takenOutcome us g)) (λ e₁. split ! $ heard ! (zs .0 ≡ tableAfter us (takenOutcome us g)) (λ e₂. heard ! (zs .1 .0 ≡ answerAfter bs (takenOutcome us g)) (λ e₃.
         fsplit ! $ fsplit ! $ move ! (1 ∷ []) $ feqL ! (λ lt. move ! (1 ∷ []) $ fsplit ! $ fsplit ! $ move ! (1 ∷ []) $ feqL ! (λ la.
         -- [the last answer; …; the last table; the tokens and the result; _20; …]
         move ! (3 ∷ []) $ split ! $ move ! (1 ∷ []) $ peeks ! E.the-row (Is E.the-row) (shows 𝓤 H A E.the-row) r (w ∷ []) (λ ir.
@@ -378,30 +379,36 @@ module _ {M : Type 1} (𝓤 : URA M) (H : Heap 𝓤) (A : Atoms 𝓤) (W : Given
         drop ! $ split ! $ move ! (1 ∷ []) $ split ! $
         -- [the token of answer; true; the token of table; the last answer; …; the last table; _20; …; the tokens of records and tally; what tally owns]
         keep ! (6 ∷ 7 ∷ 8 ∷ 9 ∷ 10 ∷ 11 ∷ 12 ∷ 13 ∷ 14 ∷ 15 ∷ 16 ∷ 17 ∷ 18 ∷ 19 ∷ 20 ∷ 21 ∷ 22 ∷ 23 ∷ 24 ∷ 25 ∷ 26 ∷ 27 ∷ 28 ∷ 29 ∷ 30 ∷ 31 ∷ 32 ∷ 33 ∷ 34 ∷ 35 ∷ 36 ∷ 37 ∷ 38 ∷ 39 ∷ 40 ∷ 41 ∷ 42 ∷ 43 ∷ 44 ∷ 45 ∷ 46 ∷ 47 ∷ 2 ∷ 48 ∷ 0 ∷ 49 ∷ 5 ∷ 3 ∷ 50 ∷ []) $
-        counts v v′ r (zs .0) (zs .1 .0) (subst (λ (us : List Val). Is E.the-row r us) (LL.tells E.the-type E′.the-laws r (w ∷ []) ir) ir) lt la
-        (e₁ ∙ ap endedOf same) (e₂ ∙ ap (tableAfter ts) same) (e₃ ∙ ap (answerAfter bs) same))))))))))
+        counts v v′ r (zs .0) (zs .1 .0) (subst (λ (us : List Val). Is E.the-row r us) (LL.tells E.the-type E′.the-laws r (w ∷ []) ir) ir) (lt ∙ lu) la
+        (e₁ ∙ ap endedOf same) (e₂ ∙ ap (tableAfter us) same ∙ taken-table ts (length bs) ys g us e) (e₃ ∙ ap (answerAfter bs) same))))))))))
       where
-        same : found k ≡ outcome
-        same = found-outcome ts (length bs) ys k (checked-size k (v′ ∷ []) ik) e
+        same : takenOutcome us g ≡ outcome
+        same = taken-outcome ts (length bs) ys g us e
 
-    -- the second call: the table is lent for it, and the records are looked at
-    checks : (k : Checked) (v : Val) → Is K.the-row k (v ∷ []) → Begins k → Sq W (AtCheck v) (runs C Λ En mir.t-6 (atRet En Post))
-    checks k v ik e =
+    -- the second call: the table is lent for it, and the records are taken
+    takes : (k : Checked) (v : Val) → Is K.the-row k (v ∷ []) → Begins k → Sq W (AtTake v) (runs C Λ En mir.t-6 (atRet En Post))
+    takes k v ik e =
         assigns ! (addr ! (from ! (fld ! refl (hop ! (look-in ! 38 (sub ! 0 refl (whole !))) (stop !))))) (from ! (stop !)) (init ! 16 refl (tt, tt)) $
         assigns ! (agg ! (and-then ! (load ! (from ! (stop !)) (look ! 16 refl)) (and-then ! (load ! (from ! (fld ! refl (stop !))) (look-in ! 38 (sub ! 1 refl (whole !)))) (no-more !)))) (from ! (stop !)) (init ! 14 refl (tt, (tt, (record { fits = gt .0 }, tt)))) $
         lft-new ! tt (λ ν. move ! (47 ∷ 43 ∷ []) $
-        use2 W (later (some (λ (δ : GName). ‵ (LentT ν δ) ⊛ ‵ (LentShared u8 κ₀ (ν ∷ []) q₀ γt bt ot ts)))) (lends-shared u8 κ₀ (ν ∷ []) q₀ γt bt ot ts 𝓤 H A W (named 0) (named 0)) $ await ! tt $ pick ! (λ δ. split ! $
-        move ! (0 ∷ 48 ∷ 2 ∷ 45 ∷ []) $ group ! 4 $ use1 W (raw (CheckC 𝓤 H A at-mem run .pre (to-check ν δ k v))) (goes-check ν δ k v ik e) $
-        -- [what `check_records` asks; what is kept of table; _20; …; the tokens of answer and tally; what answer and tally own]
-        calls-at ! fm (CheckC 𝓤 H A at-mem run) known-check (to-check ν δ k v) (and-then ! (load ! (from ! (stop !)) (look ! 16 refl)) (and-then ! (load ! (from ! (stop !)) (look ! 28 refl)) (and-then ! (load ! (from ! (stop !)) (look ! 38 refl)) (no-more !)))) (λ w.
-        use1 W (later (some (λ (k′ : Checked). ((‵ (flft (ν ∷ []) fullShare) ⊛ ‵ (flft κ₁ q₁) ⊛ ‵ ftrue) ⊛ ‵ (K.the-row .own k′ (w ∷ []))) ⊛ raw (ensured 𝓤 H A check.ended (check.clauses 𝓤 H A at-mem run) (ν ∷ [], (κ₁, tt)) (check-args δ k) tt k′)))) (id⊢ 𝓤 _) $ await ! tt $ pick ! (λ k′.
-        split ! $ move ! (1 ∷ []) $ use1 W (raw (fact 𝓤 (Finds k k′))) (check-said ν δ k k′) $ heard ! (Finds k k′) (λ e′. split ! $ split ! $ move ! (2 ∷ []) $
-        peeks ! K.the-row (Is K.the-row) (shows 𝓤 H A K.the-row) k′ (w ∷ []) (λ ik′.
-        land ! (from ! (stop !)) (init ! 28 refl (LL.lawful K.the-type K′.the-laws 𝓤 H A W .typed k′ _ ik′ .0)) $ drop ! $
+        use2 W (later (some (λ (δ : GName). ‵ (MutT ν δ) ⊛ ‵ (LentOn u8 κ₀ (ν ∷ []) q₀ γt bt ot ts δ)))) (lends-on u8 κ₀ (ν ∷ []) q₀ γt bt ot ts 𝓤 H A W (named 0) (named 0) (vt ∷ [])) $ await ! tt $ pick ! (λ δ. split ! $
+        move ! (0 ∷ 48 ∷ 2 ∷ 45 ∷ []) $ group ! 4 $ use1 W (raw (TakeC 𝓤 H A at-mem run .pre (to-take ν δ k v))) (goes-take ν δ k v ik e) $
+        -- [what `take_records` asks; what is kept of table; _20; …; the tokens of answer and tally; what answer and tally own]
+        calls-at ! fm (TakeC 𝓤 H A at-mem run) known-take (to-take ν δ k v) (and-then ! (load ! (from ! (stop !)) (look ! 16 refl)) (and-then ! (load ! (from ! (stop !)) (look ! 28 refl)) (and-then ! (load ! (from ! (stop !)) (look ! 38 refl)) (no-more !)))) (λ w.
+        use1 W (later (some (λ (g : Fault). ((‵ (flft (ν ∷ []) fullShare) ⊛ ‵ (flft κ₁ q₁) ⊛ ‵ ftrue) ⊛ ‵ (F.the-row .own g (w ∷ []))) ⊛ raw (ensured 𝓤 H A taking.ended (taking.clauses 𝓤 H A at-mem run) (ν ∷ [], (κ₁, tt)) (take-args δ k) tt g)))) (id⊢ 𝓤 _) $ await ! tt $ pick ! (λ g.
+        split ! $ move ! (1 ∷ []) $
+        use1 W (some (λ (zs : List ℕ × (Unit {0} × (Unit {0} × Unit {0}))). ‵ (lasts taking.ended (ν ∷ [], (κ₁, tt)) (take-args δ k) zs) ⊛ raw (fact 𝓤 (Takes k g (zs .0))))) (id⊢ 𝓤 _) $ pick ! (λ zs.
+        split ! $ move ! (1 ∷ []) $ heard ! (Takes k g (zs .0)) (λ e′. fsplit ! $ fsplit ! $ move ! (1 ∷ []) $ feqL ! (λ lt.
+        -- [the last table; …; the tokens and the result; what is kept of table; _20; …]
+        move ! (2 ∷ []) $ split ! $ move ! (1 ∷ []) $ peeks ! F.the-row (Is F.the-row) (shows 𝓤 H A F.the-row) g (w ∷ []) (λ ig.
+        land ! (from ! (stop !)) (init ! 29 refl (EL.lawful F.the-type F′.the-laws 𝓤 H A W tt .typed g _ ig .0)) $ drop ! $ split ! $
         -- the lifetime is ended, and the table comes back
-        lft-end ! tt $ move ! (0 ∷ 2 ∷ []) $ use2 W (later (‵ OwnT ⊛ ‵ (flft κ₀ q₀))) (shared-back u8 κ₀ (ν ∷ []) q₀ γt bt ot ts 𝓤 H A W (named 0) (named 0) gt) $ await ! tt $ split ! $ move ! (2 ∷ []) $ split ! $
-        -- [the token of records; true; what table owns; its token; _20; …; the tokens of answer and tally; what answer and tally own]
-        keep ! (4 ∷ 5 ∷ 6 ∷ 7 ∷ 8 ∷ 9 ∷ 10 ∷ 11 ∷ 12 ∷ 13 ∷ 14 ∷ 15 ∷ 16 ∷ 17 ∷ 18 ∷ 19 ∷ 20 ∷ 21 ∷ 22 ∷ 23 ∷ 24 ∷ 25 ∷ 26 ∷ 27 ∷ 28 ∷ 29 ∷ 30 ∷ 31 ∷ 32 ∷ 33 ∷ 34 ∷ 35 ∷ 36 ∷ 37 ∷ 38 ∷ 39 ∷ 40 ∷ 41 ∷ 42 ∷ 43 ∷ 44 ∷ 45 ∷ 3 ∷ 0 ∷ 46 ∷ 47 ∷ 2 ∷ 48 ∷ 49 ∷ []) $ runs-on v k′ w ik′ (e′ (length bs) (e ys))))))))
+        lft-end ! tt $ move ! (0 ∷ 4 ∷ 2 ∷ []) $
+        use3 W (later (‵ (OwnT (zs .0)) ⊛ ‵ (flft κ₀ q₀))) (comes-back u8 κ₀ (ν ∷ []) q₀ γt bt ot ts 𝓤 H A W (named 0) (named 0) (vt ∷ []) δ (zs .0)
+        (ap (λ (n : ℕ). sliceVal (bt, ot) n ∷ []) (sym lt)) (subst (λ (n : ℕ). Room u8 n) (sym lt) gt)) $ await ! tt $ split ! $ move ! (2 ∷ []) $ split ! $
+        -- [the token of records; true; what table owns; its token; …; _20; …; the tokens of answer and tally; what answer and tally own]
+        keep ! (5 ∷ 6 ∷ 7 ∷ 8 ∷ 9 ∷ 10 ∷ 11 ∷ 12 ∷ 13 ∷ 14 ∷ 15 ∷ 16 ∷ 17 ∷ 18 ∷ 19 ∷ 20 ∷ 21 ∷ 22 ∷ 23 ∷ 24 ∷ 25 ∷ 26 ∷ 27 ∷ 28 ∷ 29 ∷ 30 ∷ 31 ∷ 32 ∷ 33 ∷ 34 ∷ 35 ∷ 36 ∷ 37 ∷ 38 ∷ 39 ∷ 40 ∷ 41 ∷ 42 ∷ 43 ∷ 44 ∷ 45 ∷ 46 ∷ 3 ∷ 0 ∷ 47 ∷ 48 ∷ 2 ∷ 49 ∷ 50 ∷ []) $
+        runs-on v g w ig (zs .0) lt (e′ (length bs) (e ys))))))))))
 
     -- the first call: the table is lent for it, and it, the room for the answer and the clock are looked at
     opens : Sq W Entered (runs C Λ En mir.t-1 (atRet En Post))
@@ -416,16 +423,16 @@ module _ {M : Type 1} (𝓤 : URA M) (H : Heap 𝓤) (A : Atoms 𝓤) (W : Given
         move ! (0 ∷ 2 ∷ []) $ use2 W (raw (BeforeC 𝓤 H A at-mem run .pre (to-before ν δ))) (goes-before ν δ) $
         -- [what `before_records` asks; what is kept of table; _20; …; the tokens of the others; what they own]
         calls-at ! fm (BeforeC 𝓤 H A at-mem run) known-before (to-before ν δ) (and-then ! (load ! (from ! (stop !)) (look ! 20 refl)) (and-then ! (load ! (from ! (stop !)) (look ! 32 refl)) (no-more !))) (λ w.
-        use1 W (later (some (λ (k : Checked). ((‵ (flft (ν ∷ []) fullShare) ⊛ ‵ ftrue) ⊛ ‵ (K.the-row .own k (w ∷ []))) ⊛ raw (ensured 𝓤 H A before.ended (before.clauses 𝓤 H A at-mem run) (ν ∷ [], tt) (xt δ, (length bs, tt)) tt k)))) (id⊢ 𝓤 _) $ await ! tt $ pick ! (λ k.
+        use1 W (later (some (λ (k : Checked). ((‵ (flft (ν ∷ []) fullShare) ⊛ ‵ ftrue) ⊛ ‵ (K.the-row .own k (w ∷ []))) ⊛ raw (ensured 𝓤 H A before.ended (before.clauses 𝓤 H A at-mem run) (ν ∷ [], tt) (xt δ ts, (length bs, tt)) tt k)))) (id⊢ 𝓤 _) $ await ! tt $ pick ! (λ k.
         split ! $ move ! (1 ∷ []) $ use1 W (raw (fact 𝓤 (Begins k))) (before-said ν δ k) $ heard ! (Begins k) (λ e. split ! $ split ! $ move ! (2 ∷ []) $
         peeks ! K.the-row (Is K.the-row) (shows 𝓤 H A K.the-row) k (w ∷ []) (λ ik.
         land ! (from ! (stop !)) (init ! 30 refl (LL.lawful K.the-type K′.the-laws 𝓤 H A W .typed k _ ik .0)) $ drop ! $
         -- the lifetime is ended, and the table comes back
-        lft-end ! tt $ move ! (0 ∷ 2 ∷ []) $ use2 W (later (‵ OwnT ⊛ ‵ (flft κ₀ q₀))) (shared-back u8 κ₀ (ν ∷ []) q₀ γt bt ot ts 𝓤 H A W (named 0) (named 0) gt) $ await ! tt $ split ! $
+        lft-end ! tt $ move ! (0 ∷ 2 ∷ []) $ use2 W (later (‵ (OwnT ts) ⊛ ‵ (flft κ₀ q₀))) (shared-back u8 κ₀ (ν ∷ []) q₀ γt bt ot ts 𝓤 H A W (named 0) (named 0) gt) $ await ! tt $ split ! $
         -- [what table owns; its token; true; _20; …; the tokens of the others; what they own]
-        keep ! (3 ∷ 4 ∷ 5 ∷ 6 ∷ 7 ∷ 8 ∷ 9 ∷ 10 ∷ 11 ∷ 12 ∷ 13 ∷ 14 ∷ 15 ∷ 16 ∷ 17 ∷ 18 ∷ 19 ∷ 20 ∷ 21 ∷ 22 ∷ 23 ∷ 24 ∷ 25 ∷ 26 ∷ 27 ∷ 28 ∷ 29 ∷ 30 ∷ 31 ∷ 32 ∷ 33 ∷ 34 ∷ 35 ∷ 36 ∷ 37 ∷ 38 ∷ 39 ∷ 40 ∷ 41 ∷ 42 ∷ 43 ∷ 44 ∷ 1 ∷ 45 ∷ 46 ∷ 47 ∷ 0 ∷ 48 ∷ 49 ∷ 50 ∷ []) $ checks k w ik e))))))
+        keep ! (3 ∷ 4 ∷ 5 ∷ 6 ∷ 7 ∷ 8 ∷ 9 ∷ 10 ∷ 11 ∷ 12 ∷ 13 ∷ 14 ∷ 15 ∷ 16 ∷ 17 ∷ 18 ∷ 19 ∷ 20 ∷ 21 ∷ 22 ∷ 23 ∷ 24 ∷ 25 ∷ 26 ∷ 27 ∷ 28 ∷ 29 ∷ 30 ∷ 31 ∷ 32 ∷ 33 ∷ 34 ∷ 35 ∷ 36 ∷ 37 ∷ 38 ∷ 39 ∷ 40 ∷ 41 ∷ 42 ∷ 43 ∷ 44 ∷ 1 ∷ 45 ∷ 46 ∷ 47 ∷ 0 ∷ 48 ∷ 49 ∷ 50 ∷ []) $ takes k w ik e))))))
 
-  module _ (C : Calls 𝓤 H) (Λ : Loops 𝓤 H) (fm : FmC 𝓤 H (W .laws) C) (known-before : Triple 𝓤 (C #lent·records·before-records) (BeforeC 𝓤 H A at-mem run)) (known-check : Triple 𝓤 (C #lent·records·check-records) (CheckC 𝓤 H A at-mem run)) (known-course : Triple 𝓤 (C #lent·running·run-checked) (CourseC 𝓤 H A at-mem run)) (known-count : Triple 𝓤 (C #tally·count) (CountC 𝓤 H A at-mem run)) where
+  module _ (C : Calls 𝓤 H) (Λ : Loops 𝓤 H) (fm : FmC 𝓤 H (W .laws) C) (known-before : Triple 𝓤 (C #lent·records·before-records) (BeforeC 𝓤 H A at-mem run)) (known-take : Triple 𝓤 (C #lent·arriving·take-records) (TakeC 𝓤 H A at-mem run)) (known-course : Triple 𝓤 (C #lent·running·run-taken) (CourseC 𝓤 H A at-mem run)) (known-count : Triple 𝓤 (C #tally·count) (CountC 𝓤 H A at-mem run)) where
     walk : ent 𝓤 (onEntry 𝓤 H A f.signature (κ₀, (κ₁, (κ₂, (κ₃, tt)))) (q₀, (q₁, (q₂, (q₃, tt)))) args at) (WpFn 𝓤 H C Λ code.function (vt ∷ vy ∷ va ∷ vptr bc oc ∷ []) Post)
     walk =
         qed W ((‵ (flft κ₀ q₀) ⊛ ‵ (flft κ₁ q₁) ⊛ ‵ (flft κ₂ q₂) ⊛ ‵ (flft κ₃ q₃) ⊛ ‵ ftrue) ∷ ‵ (owns (MutSlice (named 0) κ₀ u8 ∷ ShrSlice (named 1) κ₁ R.the-row ∷ MutSlice (named 2) κ₂ u8 ∷ MutRef (named 3) κ₃ Y.the-row ∷ []) args at) ∷ []) ∵
@@ -436,26 +443,26 @@ module _ {M : Type 1} (𝓤 : URA M) (H : Heap 𝓤) (A : Atoms 𝓤) (W : Given
         -- [what tally owns; true; answer; records; table; _20; …; the tokens]
         move ! (47 ∷ []) $ split ! $ move ! (1 ∷ []) $ split ! $ move ! (1 ∷ []) $ split ! $ move ! (1 ∷ []) $ split ! $
         -- [the token of tally; true; answer; records; table; what tally owns; true; answer; records; table; _20; …]
-        keep ! (10 ∷ 11 ∷ 12 ∷ 13 ∷ 14 ∷ 15 ∷ 16 ∷ 17 ∷ 18 ∷ 19 ∷ 20 ∷ 21 ∷ 22 ∷ 23 ∷ 24 ∷ 25 ∷ 26 ∷ 27 ∷ 28 ∷ 29 ∷ 30 ∷ 31 ∷ 32 ∷ 33 ∷ 34 ∷ 35 ∷ 36 ∷ 37 ∷ 38 ∷ 39 ∷ 40 ∷ 41 ∷ 42 ∷ 43 ∷ 44 ∷ 45 ∷ 46 ∷ 47 ∷ 48 ∷ 49 ∷ 50 ∷ 51 ∷ 4 ∷ 3 ∷ 2 ∷ 0 ∷ 9 ∷ 8 ∷ 7 ∷ 5 ∷ []) $ opens C Λ fm known-before known-check known-course known-count l₀ l₁ l₂ l₃ l₄ l₅ l₆ l₇ l₈ l₉ l₁₀ l₁₁ l₁₂ l₁₃ l₁₄ l₁₅ l₁₆ l₁₇ l₁₈ l₁₉ l₂₀)))))))))))))))))))))
+        keep ! (10 ∷ 11 ∷ 12 ∷ 13 ∷ 14 ∷ 15 ∷ 16 ∷ 17 ∷ 18 ∷ 19 ∷ 20 ∷ 21 ∷ 22 ∷ 23 ∷ 24 ∷ 25 ∷ 26 ∷ 27 ∷ 28 ∷ 29 ∷ 30 ∷ 31 ∷ 32 ∷ 33 ∷ 34 ∷ 35 ∷ 36 ∷ 37 ∷ 38 ∷ 39 ∷ 40 ∷ 41 ∷ 42 ∷ 43 ∷ 44 ∷ 45 ∷ 46 ∷ 47 ∷ 48 ∷ 49 ∷ 50 ∷ 51 ∷ 4 ∷ 3 ∷ 2 ∷ 0 ∷ 9 ∷ 8 ∷ 7 ∷ 5 ∷ []) $ opens C Λ fm known-before known-take known-course known-count l₀ l₁ l₂ l₃ l₄ l₅ l₆ l₇ l₈ l₉ l₁₀ l₁₁ l₁₂ l₁₃ l₁₄ l₁₅ l₁₆ l₁₇ l₁₈ l₁₉ l₂₀)))))))))))))))))))))
 
 module _ {M : Type 1} (𝓤 : URA M) (H : Heap 𝓤) (A : Atoms 𝓤) (W : Given 𝓤 H A) (at-mem : Memory → SProp 𝓤) (run : Routine → Fun 𝓤) where
-  slot-walks : (C : Calls 𝓤 H) (Λ : Loops 𝓤 H) → FmC 𝓤 H (W .laws) C → Triple 𝓤 (C #lent·records·before-records) (BeforeC 𝓤 H A at-mem run) → Triple 𝓤 (C #lent·records·check-records) (CheckC 𝓤 H A at-mem run) → Triple 𝓤 (C #lent·running·run-checked) (CourseC 𝓤 H A at-mem run) → Triple 𝓤 (C #tally·count) (CountC 𝓤 H A at-mem run)
+  slot-walks : (C : Calls 𝓤 H) (Λ : Loops 𝓤 H) → FmC 𝓤 H (W .laws) C → Triple 𝓤 (C #lent·records·before-records) (BeforeC 𝓤 H A at-mem run) → Triple 𝓤 (C #lent·arriving·take-records) (TakeC 𝓤 H A at-mem run) → Triple 𝓤 (C #lent·running·run-taken) (CourseC 𝓤 H A at-mem run) → Triple 𝓤 (C #tally·count) (CountC 𝓤 H A at-mem run)
       → Walks 𝓤 H A f.ended stayed (WpFn 𝓤 H C Λ code.function) (f.clauses 𝓤 H A at-mem run)
-  slot-walks C Λ fm known-before known-check known-course known-count = walked 𝓤 H A f.ended stayed (f.clauses 𝓤 H A at-mem run) (WpFn 𝓤 H C Λ code.function)
+  slot-walks C Λ fm known-before known-take known-course known-count = walked 𝓤 H A f.ended stayed (f.clauses 𝓤 H A at-mem run) (WpFn 𝓤 H C Λ code.function)
       (λ κs. (slice-vals, (slice-vals, (slice-vals, (ptr-vals, tt))))) (λ κs. (mut-slice-tells (named 0) (κs .0) u8, (shr-slice-tells (named 1) (κs .1 .0) R.the-row, (mut-slice-tells (named 2) (κs .1 .1 .0) u8, (mut-tells (named 3) (κs .1 .1 .1 .0) Y.the-row, tt)))))
       (λ κs qs bounds a g are. via 𝓤 _ (fst∗ 𝓤 _ (emp 𝓤)) (walk 𝓤 H A W at-mem run (κs .0) (κs .1 .0) (κs .1 .1 .0) (κs .1 .1 .1 .0) (qs .0) (qs .1 .0) (qs .1 .1 .0) (qs .1 .1 .1 .0)
       (a .0 .ptr .0) (a .0 .ptr .1) (a .0 .name) (a .0 .now) (are .0 .0 .1) (a .1 .0) (are .1 .0 .0 .1) (a .1 .1 .0 .ptr .0) (a .1 .1 .0 .ptr .1) (a .1 .1 .0 .name) (a .1 .1 .0 .now) (are .1 .1 .0 .0 .1)
-      (a .1 .1 .1 .0 .ptr .0) (a .1 .1 .1 .0 .ptr .1) (a .1 .1 .1 .0 .name) (a .1 .1 .1 .0 .now) C Λ fm known-before known-check known-course known-count))
+      (a .1 .1 .1 .0 .ptr .0) (a .1 .1 .1 .0 .ptr .1) (a .1 .1 .1 .0 .name) (a .1 .1 .1 .0 .now) C Λ fm known-before known-take known-course known-count))
 
   goes : AllGo 𝓤 H A W 4 (f.signature .params) (f.ended .kept) stayed
   goes = (goes-gave-slice 𝓤 H A W 4 0 tt (plain (λ _. u8)), (goes-dropped 𝓤 H A W 4 (shrSliceOf (1 ∷ []) tt (plain (λ _. R.the-row))) yes (λ κs x f. refl), (goes-gave-slice 𝓤 H A W 4 2 tt (plain (λ _. u8)), (goes-gave-ref 𝓤 H A W 4 3 tt (plain (λ _. Y.the-row)), tt))))
 
 slot-meets : {M : Type 1} (𝓤 : URA M) (H : Heap 𝓤) (A : Atoms 𝓤) → Given 𝓤 H A → (at-mem : Memory → SProp 𝓤) (run : Routine → Fun 𝓤) (𝓣 : Tables 𝓤 H)
-    → Triple 𝓤 (𝓣 .C #lent·records·before-records) (BeforeC 𝓤 H A at-mem run) → Triple 𝓤 (𝓣 .C #lent·records·check-records) (CheckC 𝓤 H A at-mem run) → Triple 𝓤 (𝓣 .C #lent·running·run-checked) (CourseC 𝓤 H A at-mem run) → Triple 𝓤 (𝓣 .C #tally·count) (CountC 𝓤 H A at-mem run)
+    → Triple 𝓤 (𝓣 .C #lent·records·before-records) (BeforeC 𝓤 H A at-mem run) → Triple 𝓤 (𝓣 .C #lent·arriving·take-records) (TakeC 𝓤 H A at-mem run) → Triple 𝓤 (𝓣 .C #lent·running·run-taken) (CourseC 𝓤 H A at-mem run) → Triple 𝓤 (𝓣 .C #tally·count) (CountC 𝓤 H A at-mem run)
     → Meets 𝓤 H A f.signature (WpFn 𝓤 H (𝓣 .C) (𝓣 .Λ) code.function) (f.spec 𝓤 H A at-mem run)
-slot-meets 𝓤 H A W at-mem run 𝓣 known-before known-check known-course known-count =
+slot-meets 𝓤 H A W at-mem run 𝓣 known-before known-take known-course known-count =
     walk-meets 𝓤 H A f.ended stayed W (goes 𝓤 H A W at-mem run) (f.clauses 𝓤 H A at-mem run) (WpFn 𝓤 H (𝓣 .C) (𝓣 .Λ) code.function) (WpFn-mono 𝓤 H (W .laws) 𝓣 code.function)
-    (slot-walks 𝓤 H A W at-mem run (𝓣 .C) (𝓣 .Λ) (fmOf 𝓤 H (W .laws) 𝓣) known-before known-check known-course known-count)
+    (slot-walks 𝓤 H A W at-mem run (𝓣 .C) (𝓣 .Λ) (fmOf 𝓤 H (W .laws) 𝓣) known-before known-take known-course known-count)
 
 pub slot-spec : {M : Type 1} → stated.statement M
 unfolding code.routine tablesOf
@@ -464,6 +471,6 @@ slot-spec 𝓤 H 𝓜 𝓖 𝓡 =
     (tables 𝓤 H 𝓜 𝓡 code.env .C) (tables 𝓤 H 𝓜 𝓡 code.env .Λ) #lent·slot code.function (code.unfolded 𝓤 H 𝓜 𝓡)
     (slot-meets 𝓤 H (𝓖 .A) (givenOf 𝓤 H 𝓜 𝓖) (𝓜 .mem) (𝓡 .run) (tablesOf 𝓤 H 𝓜 (tables 𝓤 H 𝓜 𝓡 code.env))
     (cited 𝓤 H (BeforeC 𝓤 H (𝓖 .A) (𝓜 .mem) (𝓡 .run)) 𝓜 𝓡 code.env #lent·records·before-records before-def.routine code.calls-lent·records·before-records (before-thm.met 𝓤 H 𝓜 𝓖 𝓡))
-    (cited 𝓤 H (CheckC 𝓤 H (𝓖 .A) (𝓜 .mem) (𝓡 .run)) 𝓜 𝓡 code.env #lent·records·check-records check-def.routine code.calls-lent·records·check-records (check-thm.met 𝓤 H 𝓜 𝓖 𝓡))
-    (cited 𝓤 H (CourseC 𝓤 H (𝓖 .A) (𝓜 .mem) (𝓡 .run)) 𝓜 𝓡 code.env #lent·running·run-checked course-def.routine code.calls-lent·running·run-checked (course-thm.met 𝓤 H 𝓜 𝓖 𝓡))
+    (cited 𝓤 H (TakeC 𝓤 H (𝓖 .A) (𝓜 .mem) (𝓡 .run)) 𝓜 𝓡 code.env #lent·arriving·take-records taking-def.routine code.calls-lent·arriving·take-records (taking-thm.met 𝓤 H 𝓜 𝓖 𝓡))
+    (cited 𝓤 H (CourseC 𝓤 H (𝓖 .A) (𝓜 .mem) (𝓡 .run)) 𝓜 𝓡 code.env #lent·running·run-taken course-def.routine code.calls-lent·running·run-taken (course-thm.met 𝓤 H 𝓜 𝓖 𝓡))
     (cited 𝓤 H (CountC 𝓤 H (𝓖 .A) (𝓜 .mem) (𝓡 .run)) 𝓜 𝓡 code.env #tally·count count-def.routine code.calls-tally·count (count-thm.met 𝓤 H 𝓜 𝓖 𝓡)))

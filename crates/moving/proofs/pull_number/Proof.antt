@@ -11,7 +11,7 @@ element-copy-out-if1 c = search needs
 returns : tie.Need-returns
 returns c =
     let a = c .before .before .args in
-    sym (take-none (a .straight .now) (a .best .now) (a .output) (c .if1 .taken))
+    sym (take-none (a .straight .now) (a .crossed .now) (a .output) (c .if1 .taken))
 
 mul-result : tie.Need-mul-result
 mul-result c = search needs
@@ -22,7 +22,7 @@ element-copy-out-result c = search needs
 returns-2 : tie.Need-returns-2
 returns-2 c =
     let a = c .before .before .before .args in
-    sym (take-best (a .straight .now) (a .best .now) (a .output) (c .before .if1 .left))
+    sym (take-best (a .straight .now) (a .crossed .now) (a .output) (c .before .if1 .left))
 
 pub pull-number-spec : {M : Type 1} → statement M
 pull-number-spec =

@@ -1,86 +1,56 @@
 -- What the choices hand to the matching, and the matching to the moves.
-use mathlib.Core.Path.{_≡_, refl, _∙_}
-use lib.ListN.{length}
-use Rattle.fabric.proofs.Turn.{lent, unmatched, chosen-settled, chosen-proposals}
+use mathlib.Core.Path.{_∙_, ap}
 use borrow.Author.Needs.{needs}
+use Rattle.model.specs.Phase.{phase}
+use Rattle.places.proofs.Own.{table-readable, waitingIn-orderly, waitingIn-state}
+use Rattle.fabric.proofs.Settling.{settled, proposals-are}
+use Rattle.fabric.proofs.Unmatched.{unmatched, to-outputs}
 use Rattle.fabric.proofs.phase.phase.Statement.{statement}
 use Rattle.fabric.proofs.phase.phase.Tie as tie
 
-ports-of-requires : tie.Need-ports-of-requires
-ports-of-requires c κs = search needs
-
 choose-requires : tie.Need-choose-requires
 choose-requires c κs =
-    let s = c .before .before .before .before .before .before .before .before .before .before .before .before .before .before .before .before in (
-      s .pre .0 .readable,
-      (
-        (s .pre .0 .column, s .pre .0 .agrees),
-        (
-          c .before .before .before .before .before .before .before .before .before .ports-of .ensures,
-          ((refl, refl, s .pre .1 .0), ((s .pre .1 .1, s .pre .1 .2, s .pre .1 .3), refl)),
-        ),
-      ),
-    )
+    let start = c .before .before .before .before .before .before in
+    let view = start .pre .1 in
+    (table-readable _ (start .pre .0), (view .lists, (view .square, view .agrees, view .keyed)))
 
 matching-of-requires : tie.Need-matching-of-requires
 matching-of-requires c κs =
-    let s = c .before .before .before .before .before .before .before .before .before .before .before .before .before .before .before .before .before .before .before .before .before .before .before .before .before .before .before .before .before in
-    let r = s .pre .0 .readable in
-    let h = c .before .before .before .before .before .before .before .before .before .before .before .before .choose in (
-      lent r (h .ensures .0) (h .ensures .1 .0 .1) (h .kept .1 .1 .1 .1 .1 .1 .1 .1 .0 ∙ s .pre .1 .1)
-          (h .kept .1 .1 .1 .1 .1 .1 .1 .1 .1 .0 ∙ s .pre .1 .2) (h .kept .1 .1 .1 .1 .1 .1 .1 .1 .1 .1 .0 ∙ s .pre .1 .3),
-      unmatched r (h .ensures .0),
-    )
+    let chosen = c .before .before in
+    let start = chosen .before .before .before .before .before .before .before in
+    let r = table-readable _ (start .pre .0) in
+    ((r .size, to-outputs r (chosen .choose .ensures)), unmatched r (chosen .choose .ensures))
 
 move-cells-requires : tie.Need-move-cells-requires
 move-cells-requires c κs =
-    let s = c .before .before .before .before .before .before .before .before .before .before .before .before .before .before .before .before .before .before .before .before .before .before .before .before .before .before .before .before .before .before .before .before .before .before .before .before .before .before .before in
-    let h = c .before .before .before .before .before .before .before .before .before .before .before .before .before .before .before .before .before .before .before .before .before .before .choose in
-    let m = c .before .before .before .before .before .before .before .before .before .matching-of in
-    let ok = m .ok in
-    let size : length (m .result .held) ≡ 16 = search needs in (
-      (s .pre .0, c .before .before .before .before .before .before .before .before .before .before .before .before .before .before .before .before .before .before .before .before .before .before .before .before .before .before .before .before .before .before .before .before .ports-of .ensures),
-      (
-        chosen-settled (s .pre .0 .readable) (h .ensures .0) (s .pre .0 .orderly) (m .ensures) size (h .kept .1 .1 .1 .1 .1 .1 .1 .0 ∙ s .pre .1 .0),
-        h .ensures .1 .1,
-      ),
+    let found = c .before .before .before .before .before .before .before in
+    let chosen = found .before .before .before in
+    let start = chosen .before .before .before .before .before .before .before in
+    let good = start .pre .0 in
+    let choice = chosen .choose .ensures in (
+      start .pre,
+      (settled (table-readable _ good) (waitingIn-orderly _ good) choice (found .matching-of .ensures), choice .bests),
     )
 
 same-length : tie.Need-same-length
 same-length c = search needs
 
-same-length-2 : tie.Need-same-length-2
-same-length-2 c = search needs
-
-same-length-3 : tie.Need-same-length-3
-same-length-3 c = search needs
-
-same-length-4 : tie.Need-same-length-4
-same-length-4 c = search needs
-
-same-length-5 : tie.Need-same-length-5
-same-length-5 c = search needs
-
 returns : tie.Need-returns
 returns c =
-    let s = c .before .before .before .before .before .before .before .before .before .before .before .before .before .before .before .before .before .before .before .before .before .before .before .before .before .before .before .before .before .before .before .before .before .before .before .before .before .before .before .before .before .before in
-    let h = c .before .before .before .before .before .before .before .before .before .before .before .before .before .before .before .before .before .before .before .before .before .before .before .before .before .choose in
-    let m = c .before .before .before .before .before .before .before .before .before .before .before .before .matching-of in (
-      c .before .before .move-cells .ensures,
-      chosen-proposals (s .pre .0 .readable) (h .ensures .0) (s .pre .0 .orderly) (m .ensures),
+    let moved = c .before .before in
+    let found = moved .before .before .before .before .before .before .before .before in
+    let chosen = found .before .before .before in
+    let start = chosen .before .before .before .before .before .before .before in
+    let good = start .pre .0 in (
+      moved .move-cells .ensures .0,
+      (
+        moved .move-cells .ensures .1 .0,
+        proposals-are (table-readable _ good) (waitingIn-orderly _ good) (chosen .choose .ensures) (found .matching-of .ensures)
+            ∙ ap (λ l. phase l .proposals) (waitingIn-state _ good),
+      ),
     )
 
 pub phase-spec : {M : Type 1} → statement M
 phase-spec =
     tie.close
-    (tie.spec
-    ports-of-requires
-    choose-requires
-    matching-of-requires
-    move-cells-requires
-    same-length
-    same-length-2
-    same-length-3
-    same-length-4
-    same-length-5
-    returns)
+    (tie.spec choose-requires matching-of-requires move-cells-requires same-length returns)

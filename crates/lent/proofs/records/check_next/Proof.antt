@@ -1,11 +1,10 @@
--- Behind a fault nothing changes; a record with a fault refuses the slot; a record without is copied.
+-- Behind a fault nothing changes; a record with a fault refuses the slot; behind one without it is the turn of the next inputs.
 use mathlib.Core.Path.{ap, _∙_}
 use native.Mathlib.Omega.{arith}
 use borrow.Author.Needs.{needs}
 use Rattle.cell.specs.Cell.{accepted}
 use Rattle.arrival.proofs.Stored.{table-length}
 use Rattle.lent.proofs.Looking.{standing-clear, next-input, looked-behind, looked-fault, looked-next}
-use Rattle.lent.proofs.Typed.{arrival-fits, checked-size}
 use Rattle.lent.proofs.records.check_next.Statement.{statement}
 use Rattle.lent.proofs.records.check_next.Tie as tie
 
@@ -18,14 +17,13 @@ enum-told-2 c = search needs
 returns : tie.Need-returns
 returns c =
     let a = c .before .before .before .args in
-    λ room records here l. looked-behind (a .table .now) room records (a .n) (a .checked .fault) (a .checked .turn)
-    (a .checked .bytes) l (c .enum-told2 .given .1)
+    λ room records here l. looked-behind (a .table .now) room records (a .n) (a .checked .fault) (a .checked .turn) l
+    (c .enum-told2 .given .1)
 
 clock-of-requires : tie.Need-clock-of-requires
 clock-of-requires c κs =
-    let told = c .before in
-    let start = told .before .before .before in
-    let stands = standing-clear (start .args .table .now) (start .args .n) _ _ (told .enum-told .given .1) (start .pre) in
+    let start = c .before .before .before in
+    let stands = standing-clear (start .args .table .now) (start .args .n) _ _ (c .enum-told .given .1) (start .pre) in
     table-length _ (stands .0)
 
 cell-of-requires : tie.Need-cell-of-requires
@@ -33,21 +31,21 @@ cell-of-requires c κs = search needs
 
 add-check-record : tie.Need-add-check-record
 add-check-record c =
-    let told = c .before .before .before in
+    let told = c .before .before in
     let start = told .before .before .before in
     let stands = standing-clear (start .args .table .now) (start .args .n) _ _ (told .enum-told .given .1) (start .pre) in
     omega (arith, stands .1 .0, stands .1 .1)
 
 cast-check-record : tie.Need-cast-check-record
 cast-check-record c =
-    let told = c .before .before .before in
+    let told = c .before .before in
     let start = told .before .before .before in
     let stands = standing-clear (start .args .table .now) (start .args .n) _ _ (told .enum-told .given .1) (start .pre) in
     omega (arith, stands .1 .0, stands .1 .1)
 
 check-record-requires : tie.Need-check-record-requires
 check-record-requires c κs =
-    let told = c .before .before .before in
+    let told = c .before .before in
     let start = told .before .before .before in
     standing-clear (start .args .table .now) (start .args .n) _ _ (told .enum-told .given .1) (start .pre) .0
 
@@ -62,40 +60,19 @@ returns-2 c =
     let check = c .before .before in
     let cell = check .before in
     let read = cell .before in
-    let told = read .before .before in
+    let told = read .before in
     let a = told .before .before .before .args in
-    λ room records here l. looked-fault (a .table .now) room records (a .n) (a .checked .fault) (a .checked .turn)
-    (a .checked .bytes) l (told .enum-told .given .1) (a .a) here (cell .cell-of .result)
+    λ room records here l. looked-fault (a .table .now) room records (a .n) (a .checked .fault) (a .checked .turn) l
+    (told .enum-told .given .1) (a .a) here (cell .cell-of .result)
     (cell .cell-of .ensures ∙ ap (λ k. accepted k (a .a)) (read .clock-of .ensures)) (check .check-record .result)
-    (check .check-record .ensures) (c .enum-told4 .given .1) _ _
+    (check .check-record .ensures) (c .enum-told4 .given .1) _
 
-slice-aggregate-put-record : tie.Need-slice-aggregate-put-record
-slice-aggregate-put-record c = search needs
-
-mul-put-record : tie.Need-mul-put-record
-mul-put-record c =
-    let told = c .before .before .before .before .before .before .before in
-    let start = told .before .before .before in
-    let stands = standing-clear (start .args .table .now) (start .args .n) _ _ (told .enum-told .given .1) (start .pre) in
-    omega (arith, stands .1 .0, stands .1 .1)
-
-put-record-requires : tie.Need-put-record-requires
-put-record-requires c κs =
-    let check = c .before .before .before in
-    let cell = check .before in
-    let told = cell .before .before .before in
-    let start = told .before .before .before in
-    let stands = standing-clear (start .args .table .now) (start .args .n) _ _ (told .enum-told .given .1) (start .pre) in
-    let turns =
-    next-input _ _ _ _ _ _ _ (stands .0) (cell .cell-of .ensures) (check .check-record .ensures) (c .before .enum-told3 .given .1) in
-    omega (arith, stands .1 .0, turns .0, turns .1, checked-size (start .args .checked) _ (start .good .1 .0))
-
-add-t9 : tie.Need-add-t9
-add-t9 c =
-    let good = c .before .before .before .before in
+add-t8 : tie.Need-add-t8
+add-t8 c =
+    let good = c .before in
     let check = good .before .before in
     let cell = check .before in
-    let told = cell .before .before .before in
+    let told = cell .before .before in
     let start = told .before .before .before in
     let stands = standing-clear (start .args .table .now) (start .args .n) _ _ (told .enum-told .given .1) (start .pre) in
     let turns =
@@ -104,20 +81,16 @@ add-t9 c =
 
 returns-3 : tie.Need-returns-3
 returns-3 c =
-    let put = c .before .before in
-    let good = put .before .before in
+    let good = c .before in
     let check = good .before .before in
     let cell = check .before in
     let read = cell .before in
-    let told = read .before .before in
-    let start = told .before .before .before in
-    let a = start .args in
-    λ room records here l. looked-next (a .table .now) room records (a .n) (a .checked .fault) (a .checked .turn)
-    (a .checked .bytes) l (told .enum-told .given .1) (a .a) here (cell .cell-of .result)
+    let told = read .before in
+    let a = told .before .before .before .args in
+    λ room records here l. looked-next (a .table .now) room records (a .n) (a .checked .fault) (a .checked .turn) l
+    (told .enum-told .given .1) (a .a) here (cell .cell-of .result)
     (cell .cell-of .ensures ∙ ap (λ k. accepted k (a .a)) (read .clock-of .ensures)) (check .check-record .result)
     (check .check-record .ensures) (good .enum-told3 .given .1)
-    (arrival-fits (a .a) _ (start .good .1 .1 .1 .0)) (checked-size (a .checked) _ (start .good .1 .0)) _
-    (put .put-record .ensures)
 
 pub check-next-spec : {M : Type 1} → statement M
 check-next-spec =
@@ -134,8 +107,5 @@ check-next-spec =
     enum-told-3
     enum-told-4
     returns-2
-    slice-aggregate-put-record
-    mul-put-record
-    put-record-requires
-    add-t9
+    add-t8
     returns-3)

@@ -190,7 +190,7 @@ module _ {M : Type 1} (𝓤 : URA M) (H : Heap 𝓤) (A : Atoms 𝓤) (W : Given
 
   goes-next : (t : Far) → Is R.the-row (a t) (aval t ∷ []) → ent 𝓤 (sep 𝓤 (sem 𝓤 H A OwnX) (A .lft κ q)) (NextC 𝓤 H A at-mem run .pre (to-next t))
   goes-next t ga =
-      qed W (‵ OwnX ∷ ‵ (flft κ q) ∷ []) ∵ says ! (looked-standing table (begun .0) ys (t .n) (t .found .fault) (t .found .turn) (t .found .bytes) (t .looked (begun .0) (begun .1))) $ nothing ! $ move ! (2 ∷ 0 ∷ []) $ join ! $ frame ! $
+      qed W (‵ OwnX ∷ ‵ (flft κ q) ∷ []) ∵ says ! (looked-standing table (begun .0) ys (t .n) (t .found .fault) (t .found .turn) (t .looked (begun .0) (begun .1))) $ nothing ! $ move ! (2 ∷ 0 ∷ []) $ join ! $ frame ! $
       nothing ! $ owned ! R.the-row (Is R.the-row) ((LL.makes R.the-type R′.the-plain) 𝓤 H A) (a t) _ ga $ fjoin ! $ owned ! usize (Is usize) (uint-makes 𝓤 H A W w64) (t .n) _ (refl, small t) $ fjoin ! $
       owned ! K.the-row (Is K.the-row) ((LL.makes K.the-type K′.the-plain) 𝓤 H A) (t .found) _ (t .is) $ fjoin ! $ move ! (1 ∷ 0 ∷ []) $ fjoin ! $ done !
 

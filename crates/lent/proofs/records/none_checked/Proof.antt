@@ -4,7 +4,7 @@ use Rattle.lent.proofs.records.none_checked.Statement.{statement}
 use Rattle.lent.proofs.records.none_checked.Tie as tie
 
 returns : tie.Need-returns
-returns c = λ table room records h. looked-before table room records (c .args .fault) _ h
+returns c = λ table room records h. looked-before table room records (c .args .fault) h
 
 pub none-checked-spec : {M : Type 1} → statement M
 none-checked-spec = tie.close (tie.spec returns)

@@ -1,0 +1,65 @@
+// The records that a slot is lent, taken: they are looked at, and if none has a fault their cells arrive.
+use crate::records::Checked;
+use crate::records::check_records;
+use arrival::Fault;
+use arrival::arrive;
+use arrival::raise_clock;
+use cell::Arrival;
+ghost use mathlib.Core.Path.{_≡_};
+ghost use Prim.Native.Nat.{ℕ, _≤_, _<_};
+ghost use lib.ListN.{take};
+ghost use Rattle.cell.specs.Limits.{clockEnd};
+ghost use Rattle.layout.specs.Entry.{clockIn};
+ghost use Rattle.layout.specs.Table.{IsTable};
+ghost use Rattle.arrival.specs.declared.Fault.the-variants.{Clear};
+ghost use Rattle.arrival.specs.Arrival.{Arriving};
+ghost use Rattle.lent.specs.Looked.{Looked};
+ghost use Rattle.lent.specs.Taken.{Begun, Entered, Taken};
+
+// Looks at the lent records, after what was found before them, and lets their cells arrive. Behind a fault the table is
+// as it was.
+pub fn take_records(table: &mut [u8], before: Checked, records: &[Arrival]) -> Fault
+    requires { ⌜ ((room : ℕ) × Looked (now table) room (now records) 0 before) ⌝ }
+    ensures { λ r. ⌜ ((room : ℕ) → Looked (now (table .entry)) room (now (records .entry)) 0 before
+        → Taken (now (table .entry)) room (now (records .entry)) r (now (table .exit))) ⌝ }
+{
+    let checked: Checked = check_records(table, before, records);
+    arrive_records(table, checked.fault, records);
+    checked.fault
+}
+
+// The same for a caller that holds the first records by value.
+pub fn take_held(table: &mut [u8], before: Checked, records: [Arrival; 17], many: usize) -> Fault
+    requires { ⌜ (many ≤ 17) × ((room : ℕ) × Looked (now table) room (take many records) 0 before) ⌝ }
+    ensures { λ r. ⌜ ((room : ℕ) → Looked (now (table .entry)) room (take many records) 0 before
+        → Taken (now (table .entry)) room (take many records) r (now (table .exit))) ⌝ }
+{
+    take_records(table, before, &records[..many])
+}
+
+// Lets the cells of the lent records arrive, each record copied out of the slice.
+fn arrive_records(table: &mut [u8], fault: Fault, records: &[Arrival])
+    requires { ⌜ (fault ≡ Clear → Arriving (now table) (now records)) ⌝ }
+    ensures { λ _. ⌜ Entered (now (table .entry)) (now (records .entry)) fault (now (table .exit)) ⌝ }
+{
+    let many: usize = records.len();
+    let end: usize = begin(table, fault, many);
+    let mut n: usize = 0;
+    while n < end {
+        let a: Arrival = records[n];
+        arrive(table, a);
+        n += 1;
+    }
+}
+
+// How many of the records arrive: all, and the clock is raised for them, or none behind a fault.
+fn begin(table: &mut [u8], fault: Fault, many: usize) -> usize
+    requires { ⌜ (fault ≡ Clear → IsTable (now table) × (clockIn (now table) < clockEnd)) ⌝ }
+    ensures { λ r. ⌜ Begun (now (table .entry)) fault many (now (table .exit)) r ⌝ }
+{
+    let Fault::Clear = fault else {
+        return 0;
+    };
+    raise_clock(table);
+    many
+}

@@ -1,0 +1,6 @@
+pub mod Buffers
+pub mod Crossing
+pub mod Heading
+pub mod Loaded
+pub mod Sorting
+pub mod Walk
