@@ -25,7 +25,7 @@ use Rattle.layout.proofs.Records.{between-nil, between-cons, between-each, entr
 use Rattle.table.proofs.Marks.{Marked, marked-none, marked-one}
 
 -- an entry whose slot has this low byte
-pub slotIs : ℕ → Entry → Bool
+unfoldable pub slotIs : ℕ → Entry → Bool
 slotIs n e = eqb n (e .cell .slot % 256)
 
 -- other low bytes, another slot

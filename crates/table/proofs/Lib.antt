@@ -8,5 +8,6 @@ pub mod Marks
 pub mod Parts
 pub mod Put
 pub mod Sections
+pub mod Slots
 pub mod Spare
 pub mod Walks

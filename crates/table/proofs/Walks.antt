@@ -19,7 +19,7 @@ use Rattle.model.specs.State.{Entry, isListed, isCrossed, isBuffered}
 use Rattle.model.specs.Sound.{otherSlot}
 use Rattle.layout.specs.Entry.{entryAt}
 use Rattle.layout.specs.Records.{placeByteAt, between, entriesBetween}
-use Rattle.table.specs.Check.{inRange, sharesSlot, lowPlace, highPlace, entriesIn}
+use Rattle.table.specs.Check.{inRange, lowPlace, highPlace, entriesIn}
 use Rattle.layout.proofs.Records.{between-nil, between-cons, entryAt-place, all?-entriesBetween, entriesBetween-nil}
 use Rattle.layout.proofs.Records.{entriesBetween-cons}
 use Rattle.table.proofs.Fields.{placeOf-listed, placeOf-crossed, placeOf-buffered}
@@ -116,39 +116,6 @@ unfolding inRange
 inRange-e e h =
     let output = ltb (e .cell .output) portLimit in
     (ltb-true _ _ (and-l output _ h), ltb-true _ _ (and-r output (ltb (e .cell .flow) flowLimit) h))
-
-------------------------------------------------------------------------
--- whether an entry behind has its slot
-
-pub otherSlot-same : (e f : Entry) → e .cell .slot ≡ f .cell .slot → otherSlot e f ≡ false
-unfolding otherSlot
-otherSlot-same e f h = ap not (eq-eqb (e .cell .slot) (f .cell .slot) h)
-
-pub otherSlot-other : (e f : Entry) → (e .cell .slot ≡ f .cell .slot → ⊥) → otherSlot e f ≡ true
-unfolding otherSlot
-otherSlot-other e f h = ap not (ne-eqb (e .cell .slot) (f .cell .slot) h)
-
--- a test of each two entries from one up to another: b is the answer, k the entry to come
-module _ (bs : List ℕ) (k to : ℕ) (b : Bool) (left : b ≡ pairwise otherSlot (entriesBetween bs k to)) where
-  slots-cons : k < to
-      → b ≡ (not (sharesSlot bs k to) && pairwise otherSlot (entriesBetween bs (k + 1) to))
-  unfolding pairwise sharesSlot
-  slots-cons h =
-      left
-      ∙ ap (pairwise otherSlot) (entriesBetween-cons bs k to h)
-      ∙ ap (λ t. t && pairwise otherSlot (entriesBetween bs (k + 1) to))
-      (all?-entriesBetween (otherSlot (entryAt bs k)) bs (k + 1) to ∙ sym (Bool·not-not _))
-
-  pub slots-stop : k < to → sharesSlot bs k to ≡ true → false ≡ b
-  slots-stop h shares =
-      sym (slots-cons h ∙ ap (λ t. not t && pairwise otherSlot (entriesBetween bs (k + 1) to)) shares)
-
-  pub slots-next : k < to → sharesSlot bs k to ≡ false → b ≡ pairwise otherSlot (entriesBetween bs (k + 1) to)
-  slots-next h apart = slots-cons h ∙ ap (λ t. not t && pairwise otherSlot (entriesBetween bs (k + 1) to)) apart
-
-  pub slots-end : to ≤ k → true ≡ b
-  unfolding pairwise
-  slots-end h = sym (left ∙ ap (pairwise otherSlot) (entriesBetween-nil bs k to h))
 
 ------------------------------------------------------------------------
 -- sets of entries

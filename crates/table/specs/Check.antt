@@ -74,9 +74,9 @@ pub record MarksBelow (mark : ℕ) (marks : List ℕ) : Type 0 where
 ------------------------------------------------------------------------
 -- what is asked of the entries together
 
--- an entry has the slot of one behind it, of those that end before `to`
-unfoldable pub sharesSlot : List ℕ → ℕ → ℕ → Bool
-sharesSlot bs k to = not (all? (λ j. otherSlot (entryAt bs k) (entryAt bs j)) (between (k + 1) to))
+-- an entry has the slot of another
+unfoldable pub sameSlot : Entry → Entry → Bool
+sameSlot e f = eqb (f .cell .slot) (e .cell .slot)
 
 -- the entries at a set of positions of a section
 unfoldable pub entriesIn : List ℕ → ℕ → ℕ → List Entry

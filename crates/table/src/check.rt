@@ -9,12 +9,13 @@ ghost use mathlib.Core.Path.{_≡_};
 ghost use Prim.Native.Nat.{_+_, _*_, _%_, _<_, _≤_};
 ghost use lib.Dec.{eqb};
 ghost use lib.ListN.{length};
-ghost use Rattle.laws.specs.Lists.{all?, pairwise};
+ghost use Rattle.laws.specs.Lists.{some?, all?, pairwise};
 ghost use Rattle.cell.specs.Limits.{portLimit, cellLimit};
 ghost use Rattle.model.specs.Sound.{together, otherSlot};
+ghost use Rattle.layout.specs.Entry.{entryAt};
 ghost use Rattle.layout.specs.Table.{tableSize, isTable};
 ghost use Rattle.layout.specs.Records.{between, entriesBetween};
-ghost use Rattle.table.specs.Check.{isSection, isEntry, isUnused, roomOf, areSound, inRange, sharesSlot};
+ghost use Rattle.table.specs.Check.{isSection, isEntry, isUnused, roomOf, areSound, inRange, sameSlot};
 ghost use Rattle.table.specs.Check.{entriesIn, otherOutput, breaksFlow, Collected, MarksBelow};
 ghost use Rattle.table.specs.Entries.{recordLimit};
 
@@ -245,36 +246,42 @@ fn is_entry(bytes: &[u8], ports: u32, clock: u32, k: usize) -> bool
     entry::slot_of(bytes, k) < clock
 }
 
-// Whether no two entries have one slot; asked pair by pair only if two may.
-fn slots_differ(bytes: &[u8], may: bool, from: usize, to: usize) -> bool
-    requires { ⌜ (length (now bytes) ≡ tableSize) × (to ≤ recordLimit) ⌝ }
-    ensures { λ r. ⌜ r ≡ (not may || pairwise otherSlot (entriesBetween (now (bytes .entry)) from to)) ⌝ }
+// Whether no two entries have one slot; asked only if two may. Entries are compared whose slots have one low byte, and no
+// others: `met` has the positions of those passed, byte by byte.
+fn slots_differ(bytes: &[u8], may: bool, first: usize, end: usize) -> bool
+    requires { ⌜ (length (now bytes) ≡ tableSize) × (first + cellLimit ≤ recordLimit) ⌝ }
+    requires { ⌜ (first ≤ end) × (end ≤ first + cellLimit) ⌝ }
+    ensures { λ r. ⌜ r ≡ (not may || pairwise otherSlot (entriesBetween (now (bytes .entry)) first end)) ⌝ }
 {
     if !may {
         return true;
     }
-    let mut k = from;
-    while k < to {
-        if shares_slot(bytes, k, to) {
+    let mut met = [0u64; 256];
+    let mut k = first;
+    while k < end {
+        let byte = entry::slot_byte_of(bytes, k) as usize;
+        let others = met[byte];
+        if shares_slot(bytes, k, first, others) {
             return false;
         }
+        met[byte] = sets::with(others, k - first);
         k += 1;
     }
     true
 }
 
-// Whether an entry has the slot of one behind it.
-fn shares_slot(bytes: &[u8], k: usize, to: usize) -> bool
-    requires { ⌜ (length (now bytes) ≡ tableSize) × (k < recordLimit) × (to ≤ recordLimit) ⌝ }
-    ensures { λ r. ⌜ r ≡ sharesSlot (now (bytes .entry)) k to ⌝ }
+// Whether an entry has the slot of one at these positions.
+fn shares_slot(bytes: &[u8], k: usize, first: usize, others: u64) -> bool
+    requires { ⌜ (length (now bytes) ≡ tableSize) × (k < recordLimit) × (first + cellLimit ≤ recordLimit) ⌝ }
+    ensures { λ r. ⌜ r ≡ some? (sameSlot (entryAt (now (bytes .entry)) k)) (entriesIn (now (bytes .entry)) first others) ⌝ }
 {
     let slot = entry::slot_of(bytes, k);
-    let mut j = k + 1;
-    while j < to {
-        if entry::slot_of(bytes, j) == slot {
+    let mut left = others;
+    while left != 0 {
+        if entry::slot_of(bytes, first + sets::first(left)) == slot {
             return true;
         }
-        j += 1;
+        left = sets::rest(left);
     }
     false
 }
