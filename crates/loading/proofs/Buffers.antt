@@ -2,7 +2,7 @@
 --     key-below, key-held                the keys of cells, and that of none
 --     better-order, better-key           which of two is the better, by their order or by their keys
 --     best-none, best-wider              the choices of all outputs: of no cells, and up to a later end
---     best-take, best-leave              with one cell more, which is the better or not
+--     best-choose, picked-came           with one cell more, chosen by a test
 --     Choosing                           with those of an input, by a loop over their set
 use Prim.Native.Nat.{ℕ, _+_, _*_, _^_, _≤_, _<_}
 use native.Mathlib.Omega.{arith}
@@ -186,69 +186,63 @@ module _ (table : List ℕ) (good : IsTable table) (k output : ℕ) (b : Buffere
           let same : j ≡ k = omega arith in
           d (sym (b′ .goes) ∙ ap (λ n. entryAt table n .cell .output) same ∙ b .goes)
 
-  -- the cell is the better
-  pub best-take : betterOf table (getD numbers output 0) k ≡ k → (number : ℕ) → number ≡ key (entryAt table k .cell)
-      → BestBelow table (placesIn table) (k + 1) (set numbers output k) (set rivals output number)
+  -- the better of the cell and the one so far, with its key
+  pub best-choose : (first : Bool) (number own rival : ℕ) → betterOf table (getD numbers output 0) k ≡ cond first k (getD numbers output 0)
+      → number ≡ cond first k (getD numbers output 0) → own ≡ key (entryAt table k .cell)
+      → rival ≡ cond first own (getD rivals output 0)
+      → BestBelow table (placesIn table) (k + 1) (set numbers output number) (set rivals output rival)
   unfolding held
-  best-take wins number named =
+  best-choose first number own rival better picked named keyed =
       record {
-        size = length-set numbers output k ∙ c .size;
-        keys-size = length-set rivals output number ∙ c .keys-size;
+        size = length-set numbers output number ∙ c .size;
+        keys-size = length-set rivals output rival ∙ c .keys-size;
         each = λ o h. each o h (compare o output);
         keys = λ o h. keys o h (compare o output);
       }
     where
-      here : getD (set numbers output k) output 0 ≡ k
-      here = getD-set-same numbers output k 0 (omega (arith, c .size, buffered-port))
+      here : getD (set numbers output number) output 0 ≡ number
+      here = getD-set-same numbers output number 0 (omega (arith, c .size, buffered-port))
 
-      kept : (o : ℕ) → o ≢ output → getD (set numbers output k) o 0 ≡ getD numbers o 0
-      kept o d = getD-set-other numbers output o k 0 d
+      of : (b : Bool) → cond b own (getD rivals output 0) ≡ keyAt table (cond b k (getD numbers output 0))
+      of true = named ∙ sym (keyAt-cell table k (inTable-below (table-readable table good) (b .entry)))
+      of false = c .keys output buffered-port
+
+      kept : (o : ℕ) → o ≢ output → getD (set numbers output number) o 0 ≡ getD numbers o 0
+      kept o d = getD-set-other numbers output o number 0 d
 
       old : (o : ℕ) → o < 16 → o ≢ output
-          → BestAmong table (BufferedBelow table (placesIn table) o (k + 1)) (getD (set numbers output k) o 0)
+          → BestAmong table (BufferedBelow table (placesIn table) o (k + 1)) (getD (set numbers output number) o 0)
       old o h d = subst (BestAmong table (BufferedBelow table (placesIn table) o (k + 1))) (sym (kept o d)) (other o d h)
 
       each : (o : ℕ) → o < 16 → Compared o output
-          → BestAmong table (BufferedBelow table (placesIn table) o (k + 1)) (getD (set numbers output k) o 0)
+          → BestAmong table (BufferedBelow table (placesIn table) o (k + 1)) (getD (set numbers output number) o 0)
       each o h (below d) = old o h (omega arith)
       each o h (equal d) =
-          subst (λ o. BestAmong table (BufferedBelow table (placesIn table) o (k + 1)) (getD (set numbers output k) o 0))
-          (sym d) (subst (BestAmong table (BufferedBelow table (placesIn table) output (k + 1))) (wins ∙ sym here) chosen)
+          subst (λ o. BestAmong table (BufferedBelow table (placesIn table) o (k + 1)) (getD (set numbers output number) o 0))
+          (sym d)
+          (subst (BestAmong table (BufferedBelow table (placesIn table) output (k + 1))) (better ∙ sym picked ∙ sym here) chosen)
       each o h (above d) = old o h (omega arith)
 
-      old-key : (o : ℕ) → o < 16 → o ≢ output → getD (set rivals output number) o 0 ≡ keyAt table (getD (set numbers output k) o 0)
-      old-key o h d =
-          getD-set-other rivals output o number 0 d ∙ c .keys o h ∙ ap (keyAt table) (sym (kept o d))
+      old-key : (o : ℕ) → o < 16 → o ≢ output
+          → getD (set rivals output rival) o 0 ≡ keyAt table (getD (set numbers output number) o 0)
+      old-key o h d = getD-set-other rivals output o rival 0 d ∙ c .keys o h ∙ ap (keyAt table) (sym (kept o d))
 
-      keys : (o : ℕ) → o < 16 → Compared o output → getD (set rivals output number) o 0 ≡ keyAt table (getD (set numbers output k) o 0)
+      keys : (o : ℕ) → o < 16 → Compared o output
+          → getD (set rivals output rival) o 0 ≡ keyAt table (getD (set numbers output number) o 0)
       keys o h (below d) = old-key o h (omega arith)
       keys o h (equal d) =
-          subst (λ o. getD (set rivals output number) o 0 ≡ keyAt table (getD (set numbers output k) o 0)) (sym d)
-          (getD-set-same rivals output number 0 (omega (arith, c .keys-size, buffered-port))
-          ∙ named
-          ∙ sym (keyAt-cell table k (inTable-below (table-readable table good) (b .entry)))
-          ∙ ap (keyAt table) (sym here))
+          subst (λ o. getD (set rivals output rival) o 0 ≡ keyAt table (getD (set numbers output number) o 0)) (sym d)
+          (getD-set-same rivals output rival 0 (omega (arith, c .keys-size, buffered-port))
+          ∙ keyed
+          ∙ of first
+          ∙ ap (keyAt table) (sym (here ∙ picked)))
       keys o h (above d) = old-key o h (omega arith)
 
-  -- the one so far is
-  pub best-leave : betterOf table (getD numbers output 0) k ≡ getD numbers output 0
-      → BestBelow table (placesIn table) (k + 1) numbers rivals
-  unfolding held
-  best-leave stays =
-      record {
-        size = c .size;
-        keys-size = c .keys-size;
-        each = λ o h. each o h (compare o output);
-        keys = c .keys;
-      }
-    where
-      each : (o : ℕ) → o < 16 → Compared o output
-          → BestAmong table (BufferedBelow table (placesIn table) o (k + 1)) (getD numbers o 0)
-      each o h (below d) = other o (omega arith) h
-      each o h (equal d) =
-          subst (λ o. BestAmong table (BufferedBelow table (placesIn table) o (k + 1)) (getD numbers o 0)) (sym d)
-          (subst (BestAmong table (BufferedBelow table (placesIn table) output (k + 1))) stays chosen)
-      each o h (above d) = other o (omega arith) h
+-- one of two numbers, by a test
+pub picked-came : {A B : Type 0} {first : Bool} {n x y : ℕ} → (A → first ≡ true) → (B → first ≡ false)
+    → (A × (n ≡ x)) ⊎ (B × (n ≡ y)) → n ≡ cond first x y
+picked-came {A} {B} {first} {n} {x} {y} holds fails (inl (a, e)) = e ∙ sym (ap (λ b. cond b x y) (holds a))
+picked-came {A} {B} {first} {n} {x} {y} holds fails (inr (a, e)) = e ∙ sym (ap (λ b. cond b x y) (fails a))
 
 ------------------------------------------------------------------------
 -- the loop over the buffered cells of an input

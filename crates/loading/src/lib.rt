@@ -171,7 +171,8 @@ fn load_buffered(
     }
 }
 
-// One of them: it is the best of its output, unless the one so far is better.
+// One of them: it is the best of its output, unless the one so far is better. Nothing branches on that, as it would be
+// guessed badly.
 fn choose_cell(table: &[u8], k: usize, best: &mut [u16; 16], rivals: &mut [u64; 16])
     requires { ⌜ IsTable (now table) ⌝ }
     requires { ⌜ Buffered (now table) (placesIn (now table)) (entryAt (now table) k .cell .output) k ⌝ }
@@ -180,10 +181,11 @@ fn choose_cell(table: &[u8], k: usize, best: &mut [u16; 16], rivals: &mut [u64; 
 {
     let output = table::entry::output_of(table, k) as usize;
     let key = table::entry::key_of(table, k);
-    if is_better(table, k, key, best[output], rivals[output]) {
-        best[output] = k as u16;
-        rivals[output] = key;
-    }
+    let held = best[output];
+    let rival = rivals[output];
+    let first = is_better(table, k, key, held, rival);
+    best[output] = if first { k as u16 } else { held };
+    rivals[output] = if first { key } else { rival };
 }
 
 // Whether an output sends a cell before the one that it would send so far, by their keys. That one may be none: no

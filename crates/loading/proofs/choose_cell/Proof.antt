@@ -1,16 +1,14 @@
 -- One cell more for its output to choose (proofs/Buffers).
 use Prim.Native.Nat.{_<_}
 use native.Mathlib.Omega.{arith}
-use mathlib.Core.Bool.{cond}
-use mathlib.Core.Path.{sym, _∙_, ap}
+use mathlib.Core.Path.{sym}
 use borrow.Author.Needs.{needs}
-use lib.ListN.{getD}
 use Rattle.places.specs.View.{placesIn}
 use Rattle.places.specs.Viewed.{Buffered}
 use Rattle.places.specs.Scan.{Readable}
 use Rattle.places.proofs.Own.{table-readable}
 use Rattle.places.proofs.Window.{inTable-below}
-use Rattle.loading.proofs.Buffers.{best-take, best-leave}
+use Rattle.loading.proofs.Buffers.{best-choose, picked-came}
 use Rattle.loading.proofs.choose_cell.Statement.{statement}
 use Rattle.loading.proofs.choose_cell.Tie as tie
 
@@ -42,17 +40,17 @@ cast-output c = search needs
 key-of-requires : tie.Need-key-of-requires
 key-of-requires c κs = (readable (c .before .before) .size, small (c .before .before))
 
-mul-is-better : tie.Need-mul-is-better
-mul-is-better c = search needs
+mul-held : tie.Need-mul-held
+mul-held c = search needs
 
-element-copy-out-is-better : tie.Need-element-copy-out-is-better
-element-copy-out-is-better c = column (c .before)
+element-copy-out-held : tie.Need-element-copy-out-held
+element-copy-out-held c = column (c .before)
 
-mul-is-better-2 : tie.Need-mul-is-better-2
-mul-is-better-2 c = search needs
+mul-rival : tie.Need-mul-rival
+mul-rival c = search needs
 
-element-copy-out-is-better-2 : tie.Need-element-copy-out-is-better-2
-element-copy-out-is-better-2 c = column (c .before .before)
+element-copy-out-rival : tie.Need-element-copy-out-rival
+element-copy-out-rival c = column (c .before .before)
 
 is-better-requires : tie.Need-is-better-requires
 is-better-requires c κs =
@@ -78,27 +76,19 @@ mul-rivals : tie.Need-mul-rivals
 mul-rivals c = search needs
 
 element-write-rivals : tie.Need-element-write-rivals
-element-write-rivals c = column (c .before .before .before .before .before)
+element-write-rivals c = column (c .before .before .before .before .before .before)
 
 returns : tie.Need-returns
 returns c =
-    let keyed = c .before .before .before .before in
+    let asked = c .before .before in
+    let keyed = asked .before .before .before in
     let output = keyed .before in
     let start = output .before .before in
     let a = start .args in
-    best-take (a .table .now) (start .pre .0) (a .k) (output .output-of .result) (cell output) (a .best .now)
-    (a .rivals .now) (start .pre .1 .1)
-    (c .before .is-better .ensures ∙ ap (λ b. cond b (a .k) (getD (a .best .now) (output .output-of .result) 0)) (c .if1 .taken)) (keyed .key-of .result)
-    (keyed .key-of .ensures)
-
-returns-2 : tie.Need-returns-2
-returns-2 c =
-    let output = c .before .before .before .before .before in
-    let start = output .before .before in
-    let a = start .args in
-    best-leave (a .table .now) (start .pre .0) (a .k) (output .output-of .result) (cell output) (a .best .now)
-    (a .rivals .now) (start .pre .1 .1)
-    (c .before .is-better .ensures ∙ ap (λ b. cond b (a .k) (getD (a .best .now) (output .output-of .result) 0)) (c .if1 .left))
+    best-choose (a .table .now) (start .pre .0) (a .k) (output .output-of .result) (cell output) (a .best .now)
+    (a .rivals .now) (start .pre .1 .1) (asked .is-better .result) (c .before .if1 .best) (keyed .key-of .result)
+    (c .if2 .rivals) (asked .is-better .ensures) (picked-came (λ t. t .taken) (λ t. t .left) (c .before .if1 .came))
+    (keyed .key-of .ensures) (picked-came (λ t. t .taken) (λ t. t .left) (c .if2 .came))
 
 pub choose-cell-spec : {M : Type 1} → statement M
 choose-cell-spec =
@@ -107,15 +97,14 @@ choose-cell-spec =
     output-of-requires
     cast-output
     key-of-requires
-    mul-is-better
-    element-copy-out-is-better
-    mul-is-better-2
-    element-copy-out-is-better-2
+    mul-held
+    element-copy-out-held
+    mul-rival
+    element-copy-out-rival
     is-better-requires
     cast-best
     mul-best
     element-write-best
     mul-rivals
     element-write-rivals
-    returns
-    returns-2)
+    returns)
