@@ -4,23 +4,25 @@
 --     flow-below                       what 5 says of a record that passes
 --     turn-after                       6 by the lowest input whose turn it is
 --     own-flow                         the flow of an entry of the record's input, by the numbers of the flows
---     outranks-same, outranks-other    7 of one entry
---     rank-falls, rank-holds           7 by the section of the record's input
+--     outranks-by                      7 of one entry
+--     Fallen                           7 by a pass over the section of the record's input
 --     full-section                     8 by the count of the record's input
 --     fault-none                       all five
 --     clear-not                        a fault is not `Clear`
 use Prim.Native.Nat.{ℕ, suc, _+_, _*_, _-_, _/_, _≤_, _<_}
-use mathlib.Core.Bool.{Bool, true, false, not, _&&_}
+use mathlib.Core.Bool.{Bool, true, false, not, _&&_, _||_}
 use mathlib.Core.Path.{_≡_, refl, sym, _∙_, ap, ap₂, subst}
-use mathlib.Core.Logic.{_≢_}
+use mathlib.Core.Logic.{_⊎_, inl, inr, _≢_}
 use mathlib.Core.List.{List, [], _∷_, flatten, List·Memᴰ}
 use mathlib.Core.Option.{Option, none, some}
+use native.Mathlib.Nat.{le-refl}
 use native.Mathlib.Omega.{arith}
+use borrow.Author.Count.{below-more}
 use borrow.Author.Tests.{ltb-true, leb-true, leb-false, lt-ltb, le-ltb, le-leb, lt-leb, eq-eqb, ne-eqb}
 use lib.Dec.{ltb, leb, eqb}
 use lib.ListN.{length, getD}
 use Rattle.laws.specs.Lists.{some?, none?}
-use Rattle.laws.proofs.Tests.{same, and-i, and-l, or-l, not-false-e}
+use Rattle.laws.proofs.Tests.{clash, same, and-i, and-l, or-l, or-cases, or-false-l, or-false-r, not-false-e}
 use Rattle.laws.proofs.Lists.{Passing, some?-e, some?-i, some?-false, some?-map, none?-i, all?-i, getD-mem}
 use Rattle.laws.proofs.Count.{count-all, count-map}
 use Rattle.cell.specs.declared.Cell.{Cell}
@@ -108,15 +110,17 @@ pub own-flow : (bs : List ℕ) (k : ℕ) (c : Cell) (word flow : ℕ) → k / 64
 own-flow bs k c word flow input hc hd here there =
     ap₂ eqb here there ∙ flow-word (entryAt bs k .cell) c (entryAt-input bs k ∙ input) hd hc
 
--- by the flow, and then by the rank
-pub outranks-same : (c d : Cell) (rank : ℕ) → rank ≡ d .rank → sameFlow d c ≡ true
-    → ltb (c .rank) rank ≡ outranks c d
+-- by the flow and the rank
+pub outranks-by : (c d : Cell) (same : Bool) (rank : ℕ) → same ≡ sameFlow d c → rank ≡ d .rank
+    → (same && ltb (c .rank) rank) ≡ outranks c d
 unfolding outranks
-outranks-same c d rank q h = ap (ltb (c .rank)) q ∙ ap (λ b. b && ltb (c .rank) (d .rank)) (sym h)
+outranks-by c d same rank flow q = ap₂ _&&_ flow (ap (ltb (c .rank)) q)
 
-pub outranks-other : (c d : Cell) → sameFlow d c ≡ false → false ≡ outranks c d
-unfolding outranks
-outranks-other c d h = ap (λ b. b && ltb (c .rank) (d .rank)) (sym h)
+-- the entries of the record's section before k are looked at: one outranks the record, or none does
+pub record Fallen (bs : List ℕ) (c : Cell) (k : ℕ) (falling : Bool) : Type 0 where
+  pub start : cellLimit * c .input ≤ k
+  pub found : falling ≡ true → fallingRank (cells (stateOf bs)) c ≡ true
+  pub missed : falling ≡ false → (j : ℕ) → j < k → cellLimit * c .input ≤ j → outranks c (entryAt bs j .cell) ≡ false
 
 module _ (bs : List ℕ) (t : IsTable bs) (c : Cell) where
   -- the cells of a flow have one input, and a cell stands in the section of its input
@@ -139,7 +143,7 @@ module _ (bs : List ℕ) (t : IsTable bs) (c : Cell) where
         section-entry bs t (c .input) within (k - cellLimit * c .input) d (omega arith) ∙ ap (entryAt bs) back
 
     -- 7: some entry of the section is of the flow and has a higher rank, or none is
-    pub rank-falls : (k : ℕ) → cellLimit * c .input ≤ k → k < cellLimit * c .input + countIn bs (c .input)
+    rank-falls : (k : ℕ) → cellLimit * c .input ≤ k → k < cellLimit * c .input + countIn bs (c .input)
         → outranks c (entryAt bs k .cell) ≡ true → fallingRank (cells (stateOf bs)) c ≡ true
     rank-falls k a b h =
         fallingRank-section
@@ -147,7 +151,7 @@ module _ (bs : List ℕ) (t : IsTable bs) (c : Cell) where
         (omega (arith, section-length bs t (c .input) within))
         (ap (λ e. outranks c (e .cell)) (entry-of k a b (entryAt bs k)) ∙ h)
 
-    pub rank-holds : ((k : ℕ) → cellLimit * c .input ≤ k → k < cellLimit * c .input + countIn bs (c .input)
+    rank-holds : ((k : ℕ) → cellLimit * c .input ≤ k → k < cellLimit * c .input + countIn bs (c .input)
         → outranks c (entryAt bs k .cell) ≡ false) → fallingRank (cells (stateOf bs)) c ≡ false
     rank-holds h =
         fallingRank-section
@@ -157,6 +161,35 @@ module _ (bs : List ℕ) (t : IsTable bs) (c : Cell) where
         let few : j < countIn bs (c .input) = omega (arith, section-length bs t (c .input) within) in
         ap (λ e. outranks c (e .cell)) (section-entry bs t (c .input) within j (entryAt bs 0) few)
         ∙ h (cellLimit * c .input + j) (omega arith) (omega arith)))
+
+    pub fallen-start : Fallen bs c (cellLimit * c .input) false
+    fallen-start =
+        record {
+          start = le-refl (cellLimit * c .input);
+          found = λ e. absurd (clash e refl);
+          missed = λ _ j a b. absurd (omega arith);
+        }
+
+    pub fallen-next : (k : ℕ) (falling more : Bool) → k < cellLimit * c .input + countIn bs (c .input)
+        → more ≡ outranks c (entryAt bs k .cell) → Fallen bs c k falling → Fallen bs c (k + 1) (falling || more)
+    fallen-next k falling more inside named f =
+        record {
+          start = omega (arith, f .start);
+          found = λ e. go (or-cases falling more e);
+          missed =
+              λ e.
+              below-more _ k (f .missed (or-false-l falling more e))
+              (λ a. sym named ∙ or-false-r falling more e);
+        }
+      where
+        go : (falling ≡ true) ⊎ (more ≡ true) → fallingRank (cells (stateOf bs)) c ≡ true
+        go (inl e) = f .found e
+        go (inr e) = rank-falls k (f .start) inside (sym named ∙ e)
+
+    pub fallen-end : (k : ℕ) (falling : Bool) → cellLimit * c .input + countIn bs (c .input) ≤ k → Fallen bs c k falling
+        → falling ≡ fallingRank (cells (stateOf bs)) c
+    fallen-end k true past f = sym (f .found refl)
+    fallen-end k false past f = sym (rank-holds (λ j a b. f .missed refl j (omega arith) a))
 
     -- 8: the cells of an input are the entries of its section
     pub full-count : full (cells (stateOf bs)) c ≡ inputFull (countIn bs (c .input))

@@ -96,7 +96,8 @@ fn out_of_turn(turn: u32, c: Cell) -> bool
     c.input < turn
 }
 
-// 7: a cell of the same flow is in the switch with a higher rank. Its input is the record's.
+// 7: a cell of the same flow is in the switch with a higher rank. Its input is the record's. All its cells are looked
+// at: an end that depends on them would be guessed badly.
 fn falling_rank(table: &[u8], c: Cell) -> bool
     requires { ⌜ IsTable (now table) ⌝ }
     requires { ⌜ c .input < portsIn (now table) ⌝ }
@@ -106,14 +107,13 @@ fn falling_rank(table: &[u8], c: Cell) -> bool
     let input = c.input as usize;
     let end = places::end_of(table, input);
     let flow = table::entry::flow_word(c);
+    let mut falling = false;
     let mut k = 64 * input;
     while k < end {
-        if outranked(table, k, c, flow) {
-            return true;
-        }
+        falling = falling | outranked(table, k, c, flow);
         k += 1;
     }
-    false
+    falling
 }
 
 // Whether an entry of the record's input is of the record's flow and has a higher rank.
@@ -122,10 +122,7 @@ fn outranked(table: &[u8], k: usize, c: Cell, flow: u16) -> bool
     requires { ⌜ (k / 64 ≡ c .input) × (flow ≡ flowWord c) × (c .output < 256) ⌝ }
     ensures { λ r. ⌜ r ≡ outranks c (entryAt (now (table .entry)) k .cell) ⌝ }
 {
-    if table::entry::flow_word_of(table, k) != flow {
-        return false;
-    }
-    c.rank < table::entry::rank_of(table, k)
+    (table::entry::flow_word_of(table, k) == flow) & (c.rank < table::entry::rank_of(table, k))
 }
 
 // 8: 64 cells from this input are in the switch. They are the entries of its section.

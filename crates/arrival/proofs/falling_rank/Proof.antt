@@ -1,22 +1,16 @@
--- The entries of the section that were passed do not outrank the record.
-use Prim.Native.Nat.{ℕ, _*_, _-_, _≤_, _<_}
-use mathlib.Core.Bool.{false}
-use mathlib.Core.Path.{_≡_, sym, _∙_}
+-- Of the entries of the section that were passed one outranks the record, or none does (proofs/Faults).
+use Prim.Native.Nat.{_-_}
 use native.Mathlib.Omega.{arith}
-use borrow.Author.Count.{below-more}
-use Rattle.layout.specs.Entry.{entryAt}
-use Rattle.arrival.specs.Fault.{outranks}
 use Rattle.arrival.proofs.Stored.{table-length, ports-below, count-below}
-use Rattle.arrival.proofs.Faults.{rank-falls, rank-holds}
+use Rattle.arrival.proofs.Faults.{Fallen, fallen-start, fallen-next, fallen-end}
 use Rattle.arrival.proofs.falling_rank.Statement.{statement}
 use Rattle.arrival.proofs.falling_rank.Tie as tie
 
 abbrev Inv-loop : tie.InvT-loop
-Inv-loop table c input end flow k₀ k =
-    (64 * c .input ≤ k) × ((j : ℕ) → j < k → 64 * c .input ≤ j → outranks c (entryAt table j .cell) ≡ false)
+Inv-loop table c input end flow falling₀ k₀ falling k = Fallen table c k falling
 
 abbrev μ-loop : tie.MeasureT-loop
-μ-loop table c input end flow k₀ k = end - k
+μ-loop table c input end flow falling₀ k₀ falling k = end - k
 
 cast-input : tie.Need-cast-input Inv-loop μ-loop
 cast-input c = omega (arith, ports-below _ (c .before .before .pre .0))
@@ -34,29 +28,24 @@ mul-k c =
     omega (arith, start .pre .1 .0, ports-below _ (start .pre .0))
 
 loop-holds : tie.Need-loop-holds Inv-loop μ-loop
-loop-holds c = (omega arith, λ j a b. absurd (omega arith))
+loop-holds c = let start = c .before .before .before .before in fallen-start _ (start .pre .0) _ (start .pre .1 .0)
 
 outranked-requires : tie.Need-outranked-requires Inv-loop μ-loop
 outranked-requires c κs =
-    let flow = c .before .before in
+    let at = c .before in
+    let flow = at .before in
     let start = flow .before .before .before .before in
     let ports = ports-below _ (start .pre .0) in
     let few = count-below _ (start .pre .0) _ (start .pre .1 .0) in
-    let end = flow .before .end-of .ensures in (
+    let end = flow .before .end-of .ensures in
+    let low = at .loop .inv .start in (
       (table-length _ (start .pre .0), omega (arith, start .pre .1 .0, end)),
       (omega (arith, start .pre .1 .0, end), flow .flow-word .ensures, start .pre .1 .1 .0),
     )
 
-returns : tie.Need-returns Inv-loop μ-loop
-returns c =
-    let at = c .before .before .before in
-    let start = at .before .before .before .before .before in
-    sym (rank-falls _ (start .pre .0) _ (start .pre .1 .0) (at .loop .k) (at .loop .inv .0)
-    (omega (arith, at .before .before .end-of .ensures)) (sym (c .before .outranked .ensures) ∙ c .if1 .taken))
-
 add-k : tie.Need-add-k Inv-loop μ-loop
 add-k c =
-    let at = c .before .before .before in
+    let at = c .before .before in
     let start = at .before .before .before .before .before in
     let ports = ports-below _ (start .pre .0) in
     let few = count-below _ (start .pre .0) _ (start .pre .1 .0) in
@@ -67,15 +56,17 @@ loop-less c = omega arith
 
 loop-again : tie.Need-loop-again Inv-loop μ-loop
 loop-again c =
-    let at = c .before .before .before .loop in
-    (omega arith, below-more _ (at .k) (at .inv .1) (λ a. sym (c .before .outranked .ensures) ∙ c .if1 .left))
+    let at = c .before .before in
+    let start = at .before .before .before .before .before in
+    fallen-next _ (start .pre .0) _ (start .pre .1 .0) (at .loop .k) (at .loop .falling) (c .outranked .result)
+    (omega (arith, at .before .before .end-of .ensures)) (c .outranked .ensures) (at .loop .inv)
 
-returns-2 : tie.Need-returns-2 Inv-loop μ-loop
-returns-2 c =
+returns : tie.Need-returns Inv-loop μ-loop
+returns c =
     let at = c .before in
     let start = at .before .before .before .before .before in
-    sym (rank-holds _ (start .pre .0) _ (start .pre .1 .0)
-    (λ j a b. at .loop .inv .1 j (omega (arith, at .before .before .end-of .ensures)) a))
+    fallen-end _ (start .pre .0) _ (start .pre .1 .0) (at .loop .k) (at .loop .falling)
+    (omega (arith, at .before .before .end-of .ensures)) (at .loop .inv)
 
 pub falling-rank-spec : {M : Type 1} → statement M
 falling-rank-spec =
@@ -89,8 +80,7 @@ falling-rank-spec =
     mul-k
     loop-holds
     outranked-requires
-    returns
     add-k
     loop-less
     loop-again
-    returns-2)
+    returns)
