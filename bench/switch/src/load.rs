@@ -4,6 +4,9 @@
 //! wait in lists and crosspoints only where more than two inputs have cells for an output. A rank is a deadline, the
 //! clock and the delay of the flow number, so that cells overtake others that came before: that makes heads blocked
 //! and urgent.
+//!
+//! Or they starve: a cell goes to any output, and its rank is its flow number, so that cells of the last flows wait for
+//! hundreds of slots while others come.
 
 use crate::table::{clock, count, Table, CELLS, PORTS};
 
@@ -13,6 +16,7 @@ const DELAY: u32 = 16;
 pub struct Load {
     most: usize,
     burst: u32,
+    starving: bool,
     random: Random,
 }
 
@@ -20,19 +24,26 @@ impl Load {
     /// A load of about so many cells an input.
     pub fn new(cells: usize) -> Load {
         let burst = (cells as u32 / 5).max(2);
-        Load { most: (cells + cells / 16 + 1).min(CELLS), burst, random: Random(88172645463325252) }
+        let most = (cells + cells / 16 + 1).min(CELLS);
+        Load { most, burst, starving: false, random: Random(88172645463325252) }
     }
 
-    /// The arrivals of the next slot: a cell of every input that has room, one in ten to any output.
+    pub fn starving(cells: usize) -> Load {
+        Load { starving: true, ..Load::new(cells) }
+    }
+
+    /// The arrivals of the next slot: a cell of every input that has room, one in ten (or each) to any output.
     pub fn arrivals(&mut self, table: &Table) -> Vec<u8> {
         let clock = clock(table);
         let mut records = Vec::new();
         for input in (0..PORTS).filter(|&i| count(table, i) < self.most) {
             let hot = clock / self.burst % PORTS as u32;
-            let output = if self.random.below(10) == 0 { self.random.below(PORTS as u32) } else { hot };
+            let any = self.starving || self.random.below(10) == 0;
+            let output = if any { self.random.below(PORTS as u32) } else { hot };
             let flow = self.random.below(8);
+            let rank = if self.starving { flow } else { clock + DELAY * flow };
             let tag = self.random.below(u32::MAX);
-            for field in [input as u32, output, flow, clock + DELAY * flow, tag] {
+            for field in [input as u32, output, flow, rank, tag] {
                 records.extend(field.to_le_bytes());
             }
         }

@@ -57,8 +57,7 @@ struct List {
 }
 
 impl List {
-    fn new(cells: usize) -> List {
-        let mut load = Load::new(cells);
+    fn new(mut load: Load) -> List {
         let mut lent = Lent::new([0; TABLE_BYTES]);
         plain_switch::start(PORTS as u32, 0, &mut lent.table);
         let mut next = |lent: &mut Lent| {
@@ -189,8 +188,8 @@ struct Measured {
 }
 
 impl Measured {
-    fn new(cells: usize) -> Measured {
-        let list = List::new(cells);
+    fn new(load: Load) -> Measured {
+        let list = List::new(load);
         let means = compare(&list);
         compare_damaged(&list);
         Measured { list, means, slot: Times::none(), check: Times::none() }
@@ -201,16 +200,16 @@ impl Measured {
         self.list.time_check(&mut self.check, round);
     }
 
-    fn print_slot(&self) {
+    fn print_slot(&self, name: &str) {
         let Means { cells_an_input, arrivals, with_proposals, proposals } = self.means;
         let [proved, plain] = self.slot.of_a_call();
-        print!("slot\t{cells_an_input:.1}\t{proved:.0}\t{plain:.0}\t{:.2}", proved / plain);
+        print!("{name}\t{cells_an_input:.1}\t{proved:.0}\t{plain:.0}\t{:.2}", proved / plain);
         println!("\t{arrivals:.1}\t{:.0}\t{proposals:.1}", 100.0 * with_proposals);
     }
 
-    fn print_check(&self) {
+    fn print_check(&self, name: &str) {
         let [proved, plain] = self.check.of_a_call();
-        println!("check\t{:.1}\t{proved:.0}\t{plain:.0}\t{:.2}", self.means.cells_an_input, proved / plain);
+        println!("{name}\t{:.1}\t{proved:.0}\t{plain:.0}\t{:.2}", self.means.cells_an_input, proved / plain);
     }
 }
 
@@ -224,18 +223,23 @@ fn print_growth(name: &str, measured: &[Measured], times: impl Fn(&Measured) -> 
 }
 
 fn main() {
-    let mut measured = LOADS.map(Measured::new);
+    let mut measured = LOADS.map(|cells| Measured::new(Load::new(cells)));
+    let mut starving = Measured::new(Load::starving(LOADS[LOADS.len() - 1]));
     // Round by round, so that a slow spell of the machine spoils no line.
     for round in 0..ROUNDS {
         measured.iter_mut().for_each(|m| m.measure(round));
+        starving.measure(round);
     }
     println!("# A slot through the C interface at N = {PORTS}, every byte compared first; nanoseconds, best of {ROUNDS}.");
     println!("# A load is the cells waiting an input; \"each\" is a cell more, from the first line to the last.");
     println!("#\tload\tproved\tplain\tratio\tarrived\tmatch %\tproposals");
-    measured.iter().for_each(Measured::print_slot);
+    measured.iter().for_each(|m| m.print_slot("slot"));
     print_growth("slot", &measured, |m| &m.slot);
     println!("# The check of a table alone, likewise.");
     println!("#\tload\tproved\tplain\tratio");
-    measured.iter().for_each(Measured::print_check);
+    measured.iter().for_each(|m| m.print_check("check"));
     print_growth("check", &measured, |m| &m.check);
+    println!("# Both where cells starve: they wait so long that the low bytes of their slots meet.");
+    starving.print_slot("starving slot");
+    starving.print_check("starving check");
 }
