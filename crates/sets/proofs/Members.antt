@@ -1,17 +1,17 @@
 -- The laws of sets by their members.
 --     has-setFrom, has-setOf, setOf-is      the members of the set at which a test holds, and when a set is that one
 --     setFrom-lt, setFrom-ext               its size as a number, and by what it is known
---     minus-setFrom, both-setFrom           the difference of two such sets, and what they share
+--     minus-setFrom, both-, either-setFrom  the difference of two such sets, what they share, and what either has
 --     has-withOne, .., has-from             the members of the sets that the code makes
 --     first-is, first-before, first-member  what the first member is
 --     members-none, members-cons            the members of the empty set; of another, the first and those of the rest
 --     members-in, in-members                which numbers are listed
 --     members-rising                        in which order
---     members-setFrom                       the numbers of a run that pass a test
+--     members-setFrom, setFrom-full         the numbers of a run that pass a test, and whether all do
 --     members-with                          with a position behind them all
 --     Visited, visited-..                   a loop over a set: the members passed, rising, and those left
 use mathlib.Core.Path.{_≡_, refl, sym, ap, ap₂, _∙_, subst}
-use mathlib.Core.Bool.{Bool, true, false, not, cond, _&&_, _||_, and-true, or-false}
+use mathlib.Core.Bool.{Bool, true, false, not, cond, _&&_, _||_, and-true, or-false, and-or-distrib-left}
 use mathlib.Core.Logic.{_⊎_, inl, inr}
 use mathlib.Core.List.{List, [], _∷_, _++_, map, append-assoc, append-nil}
 use mathlib.Core.List.{List·Memᴰ, List·Memᴰ·head, Memᴰ·append-right}
@@ -19,20 +19,21 @@ use Prim.Native.Nat.{ℕ, zero, suc, _+_, _-_, _*_, _/_, _%_, _^_, _≤_, _<_}
 use native.Mathlib.Nat.{pow-suc, add-zero, zero-add}
 use native.Mathlib.Numerals.{add-one}
 use native.Mathlib.Omega.{arith}
-use borrow.Author.Tests.{lt-ltb, le-ltb, ltb-true, ltb-false, eq-eqb, ne-eqb}
+use borrow.Author.Tests.{lt-ltb, le-ltb, ltb-true, ltb-false, eq-eqb, ne-eqb, eqb-true}
 use lib.Bits.{bitAnd, and-le-l, and-le-r}
 use lib.Count.{trailingZeros, trailing-le, ones, ones-step}
 use lib.Dec.{eqb, ltb, leb·suc-suc, leb·zero, leb·suc-zero}
+use lib.ListN.{length, length-map}
 use lib.Pow.{pow-mono}
 use Rattle.laws.specs.Lists.{keep, all?, count, pairwise, numbersFrom, upTo}
-use Rattle.laws.proofs.Tests.{either, by-fail, and-i, and-false-l, and-false-r, or-r}
-use Rattle.laws.proofs.Lists.{keep-append, keep-pass, keep-fail, keep-none, keep-ext, keep-map, keep-mem, mem-keep}
-use Rattle.laws.proofs.Lists.{none?-i, all?-i}
+use Rattle.laws.proofs.Tests.{either as passes, same, by-pass, by-fail, and-i, and-false-l, and-false-r, or-r}
+use Rattle.laws.proofs.Lists.{keep-append, keep-pass, keep-fail, keep-all, keep-none, keep-ext, keep-map, keep-mem}
+use Rattle.laws.proofs.Lists.{mem-keep, none?-i, all?-i}
 use Rattle.laws.proofs.Pairwise.{pairwise-keep}
-use Rattle.laws.proofs.Count.{count-cons, count-ext, count-map}
-use Rattle.laws.proofs.Numbers.{numbersFrom-add, numbersFrom-mem, mem-numbersFrom}
-use Rattle.sets.specs.Sets.{positions, has, pushed, setFrom, setOf, withOne, withoutOne, minus, both, below, from}
-use Rattle.sets.specs.Sets.{members, headOr, firstOf, restOf}
+use Rattle.laws.proofs.Count.{count-cons, count-ext, count-map, length-keep-lt}
+use Rattle.laws.proofs.Numbers.{length-numbersFrom, numbersFrom-add, numbersFrom-mem, mem-numbersFrom}
+use Rattle.sets.specs.Sets.{positions, has, pushed, setFrom, setOf, withOne, withoutOne, minus, both, either}
+use Rattle.sets.specs.Sets.{below, from, members, headOr, firstOf, restOf, sizeOf}
 use Rattle.sets.proofs.Digits.{has-zero, has-suc, has-past, same-members, has-and, has-pred, digit, half-lt}
 use Rattle.sets.proofs.Digits.{trailing-none, trailing-member}
 
@@ -119,6 +120,15 @@ both-setFrom p q k n h =
     go true x y = refl
     go false x y = refl
 
+pub either-setFrom : (p q : ℕ → Bool) (k n : ℕ) → n ≤ positions
+    → either (setFrom p k n) (setFrom q k n) ≡ setFrom (λ i. p i || q i) k n
+unfolding either
+either-setFrom p q k n h =
+    sym (setOf-is _ (setFrom (λ i. p i || q i) k n) (setFrom-fits (λ i. p i || q i) k n h)
+    (λ j l. has-setFrom (λ i. p i || q i) k n j
+    ∙ and-or-distrib-left (ltb j n) (p (k + j)) (q (k + j))
+    ∙ ap₂ _||_ (sym (has-setFrom p k n j)) (sym (has-setFrom q k n j))))
+
 -- each position by the sets and the position that a set is made of
 module _ (set k j : ℕ) (position : j < positions) where
   pub has-withOne : has (withOne set k) j ≡ (has set j || eqb j k)
@@ -181,7 +191,7 @@ module _ (set f : ℕ) (position : f ≤ positions) (before : (j : ℕ) → j < 
     (member : f < positions → has set f ≡ true) where
   pub first-is : firstOf set ≡ f
   unfolding firstOf members upTo
-  first-is = go (either (ltb f positions))
+  first-is = go (passes (ltb f positions))
     where
       go : (ltb f positions ≡ true) ⊎ (ltb f positions ≡ false) → firstOf set ≡ f
       go (inl t) =
@@ -206,7 +216,7 @@ first-before set j h = trailing-none positions set j (omega (arith, first-traili
 -- a set that is not empty
 module _ (set : ℕ) (some : 0 < set) (fits : set < 2 ^ positions) where
   pub first-position : firstOf set < positions
-  first-position = go (either (ltb (firstOf set) positions))
+  first-position = go (passes (ltb (firstOf set) positions))
     where
       go : (ltb (firstOf set) positions ≡ true) ⊎ (ltb (firstOf set) positions ≡ false) → firstOf set < positions
       go (inl t) = ltb-true (firstOf set) positions t
@@ -318,6 +328,22 @@ members-setFrom p k n h =
     ap (map (λ j. k + j)) all
     ∙ sym (keep-map p (λ j. k + j) (numbersFrom 0 n))
     ∙ ap (keep p) (numbersFrom-shift k 0 n ∙ ap (λ b. numbersFrom b n) (add-zero k))
+
+-- it is full, as many as there are numbers in the run, exactly if each passes
+pub setFrom-full : (p : ℕ → Bool) (k n : ℕ) → n ≤ positions
+    → eqb (sizeOf (setFrom p k n)) n ≡ all? p (numbersFrom k n)
+unfolding sizeOf
+setFrom-full p k n h =
+    let run = numbersFrom k n in
+    let set = setFrom p k n in
+    let many : length run ≡ n = length-numbersFrom k n in
+    let kept : length (members set) ≡ length (keep p run) =
+    sym (length-map (members set) (λ j. k + j)) ∙ ap length (members-setFrom p k n h) in
+    same (eqb (length (members set)) n) (all? p run)
+    (λ t.
+    all?-i p run
+    (λ j m. by-pass (p j) (λ f. omega (arith, eqb-true (length (members set)) n t, length-keep-lt p m f))))
+    (λ t. eq-eqb (length (members set)) n (kept ∙ ap length (keep-all p run t) ∙ many))
 
 -- with a position behind them all
 pub members-with : (set f : ℕ) → f < positions → ((j : ℕ) → List·Memᴰ j (members set) → j < f)

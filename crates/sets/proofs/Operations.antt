@@ -1,6 +1,6 @@
 -- The sets that the code makes, as operations on digits.
 use mathlib.Core.Path.{_≡_, sym, ap, ap₂, _∙_}
-use mathlib.Core.Bool.{not, _&&_, _||_}
+use mathlib.Core.Bool.{not, _&&_, _||_, and-or-distrib-right}
 use Prim.Native.Nat.{ℕ, suc, _+_, _-_, _*_, _/_, _%_, _^_, _≤_, _<_}
 use native.Mathlib.Nat.{one-mul, mod-eq-of-lt, pow-suc}
 use native.Mathlib.Omega.{arith}
@@ -13,8 +13,9 @@ use lib.Pow.{pow-lt, ones-lt}
 use Rattle.laws.specs.Lists.{upTo}
 use Rattle.laws.proofs.Tests.{same, and-i, and-l, and-r}
 use Rattle.laws.proofs.Count.{length-keep}
-use Rattle.sets.specs.Sets.{positions, has, withOne, withoutOne, minus, both, below, from, members, sizeOf, Last}
-use Rattle.sets.proofs.Digits.{has-past, has-and, has-or, has-not, has-one, has-ones}
+use Rattle.sets.specs.Sets.{positions, has, withOne, withoutOne, minus, both, either, below, from, members}
+use Rattle.sets.specs.Sets.{sizeOf, Last}
+use Rattle.sets.proofs.Digits.{has-past, same-members, has-and, has-or, has-not, has-one, has-ones}
 use Rattle.sets.proofs.Members.{setOf-is, ones-count}
 
 -- one position as a set
@@ -69,6 +70,11 @@ module _ (set : ℕ) (fits : set < 2 ^ positions) where
   unfolding both
   both-and b = setOf-is (λ j. has set j && has b j) (bitAnd set b) (and-fits b) (λ j h. has-and set b j)
 
+  pub either-or : (b : ℕ) → b < 2 ^ positions → bitOr set b ≡ either set b
+  unfolding either
+  either-or b small =
+      setOf-is (λ j. has set j || has b j) (bitOr set b) (or-lt positions set b fits small) (λ j h. has-or set b j)
+
   pub size-ones : ones set ≡ sizeOf set
   unfolding sizeOf members upTo
   size-ones = ones-count positions set fits ∙ sym (length-keep (has set) _)
@@ -99,3 +105,19 @@ or-none a b =
     (λ h.
     eq-eqb (bitOr a b) 0
     (ap₂ bitOr (eqb-true a 0 (and-l (eqb a 0) (eqb b 0) h)) (eqb-true b 0 (and-r (eqb a 0) (eqb b 0) h)) ∙ or-zero-l 0))
+
+-- of the members of a third set, likewise
+pub or-none-of : (d a b m : ℕ) → m < 2 ^ d → eqb (bitAnd (bitOr a b) m) 0 ≡ (eqb (bitAnd a m) 0 && eqb (bitAnd b m) 0)
+or-none-of d a b m h =
+    ap (λ n. eqb n 0)
+    (same-members d (bitAnd (bitOr a b) m) (bitOr (bitAnd a m) (bitAnd b m)) (few (bitOr a b))
+    (or-lt d (bitAnd a m) (bitAnd b m) (few a) (few b))
+    (λ j l. has-and (bitOr a b) m j
+    ∙ ap (λ t. t && has m j) (has-or a b j)
+    ∙ and-or-distrib-right (has a j) (has b j) (has m j)
+    ∙ ap₂ _||_ (sym (has-and a m j)) (sym (has-and b m j))
+    ∙ sym (has-or (bitAnd a m) (bitAnd b m) j)))
+    ∙ or-none (bitAnd a m) (bitAnd b m)
+  where
+    few : (n : ℕ) → bitAnd n m < 2 ^ d
+    few n = omega (arith, and-le-r n m)

@@ -45,6 +45,10 @@ minus a b = setOf (λ j. has a j && not (has b j))
 unfoldable pub both : ℕ → ℕ → ℕ
 both a b = setOf (λ j. has a j && has b j)
 
+-- the members that either set has
+unfoldable pub either : ℕ → ℕ → ℕ
+either a b = setOf (λ j. has a j || has b j)
+
 -- the members before a position, and those from it on
 unfoldable pub below : ℕ → ℕ → ℕ
 below set k = setOf (λ j. has set j && ltb j k)

@@ -3,7 +3,7 @@
 ghost use mathlib.Core.Bool.{cond};
 ghost use mathlib.Core.Path.{_≡_};
 ghost use Prim.Native.Nat.{_<_, _^_};
-ghost use Rattle.sets.specs.Sets.{has, pushed, withOne, withoutOne, minus, both, below, from};
+ghost use Rattle.sets.specs.Sets.{has, pushed, withOne, withoutOne, minus, both, either, below, from};
 ghost use Rattle.sets.specs.Sets.{firstOf, restOf, sizeOf, Last};
 
 // Whether a position is a member.
@@ -59,6 +59,13 @@ pub fn both(a: u64, b: u64) -> u64
     ensures { λ r. ⌜ r ≡ both a b ⌝ }
 {
     a & b
+}
+
+// The members that `a` or `b` has.
+pub fn either(a: u64, b: u64) -> u64
+    ensures { λ r. ⌜ r ≡ either a b ⌝ }
+{
+    a | b
 }
 
 // The members before a position.

@@ -12,6 +12,9 @@ use Rattle.layout.specs.Records.{recordStart, placeByteAt}
 use Rattle.layout.proofs.Halves.{numberAt-halves, numberAt-byte}
 use Rattle.layout.proofs.Records.{entryAt-output, entryAt-flow, entryAt-slot, placeByteAt-byte}
 
+abbrev pub spareBits : ℕ
+spareBits = 0xfffc_f8f0
+
 -- a word byte by byte
 word-bytes : (bs : List ℕ) (at : ℕ) → at + 4 ≤ length bs
     → word bs at
@@ -40,7 +43,7 @@ high-bits n j k h = and-high n j k ∙ ap (λ m. m * 2 ^ k) (shr-mod j k h)
 
 -- the spare bits of a record's first word, byte by byte
 module _ (a b c d : ℕ) (fits-a : a < 256) (fits-b : b < 256) (fits-c : c < 256) (fits-d : d < 256) where
-  pub spare-bits : bitAnd (((d * 2 ^ 8 + c) * 2 ^ 8 + b) * 2 ^ 8 + a) 0xfffc_f8f0
+  pub spare-bits : bitAnd (((d * 2 ^ 8 + c) * 2 ^ 8 + b) * 2 ^ 8 + a) spareBits
       ≡ ((bitAnd d 0xff * 2 ^ 8 + bitAnd c 0xfc) * 2 ^ 8 + bitAnd b 0xf8) * 2 ^ 8 + bitAnd a 0xf0
   spare-bits =
       and-block 8 ((d * 2 ^ 8 + c) * 2 ^ 8 + b) 0xfffcf8 a 0xf0 fits-a (omega arith)
@@ -49,7 +52,7 @@ module _ (a b c d : ℕ) (fits-a : a < 256) (fits-b : b < 256) (fits-c : c < 256
       ∙ ap (λ n. n * 2 ^ 8 + bitAnd b 0xf8) (and-block 8 d 0xff c 0xfc fits-c (omega arith)))
 
   -- none is set exactly if each byte is in range
-  pub spare-e : bitAnd (((d * 2 ^ 8 + c) * 2 ^ 8 + b) * 2 ^ 8 + a) 0xfffc_f8f0 ≡ 0
+  pub spare-e : bitAnd (((d * 2 ^ 8 + c) * 2 ^ 8 + b) * 2 ^ 8 + a) spareBits ≡ 0
       → (a < 16) × (b < 8) × (c ≤ 3) × (d ≡ 0)
   spare-e h =
       let e = sym spare-bits ∙ h in
@@ -60,7 +63,7 @@ module _ (a b c d : ℕ) (fits-a : a < 256) (fits-b : b < 256) (fits-c : c < 256
       omega arith
 
   pub spare-i : (a < 16) × (b < 8) × (c ≤ 3) × (d ≡ 0)
-      → bitAnd (((d * 2 ^ 8 + c) * 2 ^ 8 + b) * 2 ^ 8 + a) 0xfffc_f8f0 ≡ 0
+      → bitAnd (((d * 2 ^ 8 + c) * 2 ^ 8 + b) * 2 ^ 8 + a) spareBits ≡ 0
   spare-i h =
       let ea : bitAnd a 0xf0 ≡ 0 = high-bits a 4 4 fits-a ∙ omega arith in
       let eb : bitAnd b 0xf8 ≡ 0 = high-bits b 5 3 fits-b ∙ omega arith in
@@ -82,15 +85,15 @@ module _ (bs : List ℕ) (byte : (i : ℕ) → getD bs i 0 < 256) (k : ℕ) (roo
       word-bytes bs (recordStart k) (omega arith)
       ∙ omega (arith, entryAt-output bs k, entryAt-flow bs k, placeByteAt-byte bs k)
 
-  pub ranges-e : bitAnd (word bs (recordStart k)) 0xfffc_f8f0 ≡ 0 → Ranges
+  pub ranges-e : bitAnd (word bs (recordStart k)) spareBits ≡ 0 → Ranges
   ranges-e h =
       spare-e (entryAt bs k .cell .output) (entryAt bs k .cell .flow) (placeByteAt bs k) (getD bs (recordStart k + 3) 0)
       (rw entryAt-output (byte _)) (rw entryAt-flow (byte _)) (rw placeByteAt-byte (byte _)) (byte _)
-      (ap (λ n. bitAnd n 0xfffc_f8f0) (sym first-word) ∙ h)
+      (ap (λ n. bitAnd n spareBits) (sym first-word) ∙ h)
 
-  pub ranges-i : Ranges → bitAnd (word bs (recordStart k)) 0xfffc_f8f0 ≡ 0
+  pub ranges-i : Ranges → bitAnd (word bs (recordStart k)) spareBits ≡ 0
   ranges-i h =
-      ap (λ n. bitAnd n 0xfffc_f8f0) first-word
+      ap (λ n. bitAnd n spareBits) first-word
       ∙ spare-i (entryAt bs k .cell .output) (entryAt bs k .cell .flow) (placeByteAt bs k)
       (getD bs (recordStart k + 3) 0) (rw entryAt-output (byte _)) (rw entryAt-flow (byte _))
       (rw placeByteAt-byte (byte _)) (byte _) h

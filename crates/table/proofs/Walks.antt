@@ -1,13 +1,13 @@
 -- What the check's walks over the records and entries of a section find.
 use Prim.Native.Nat.{ℕ, zero, suc, _+_, _-_, _/_, _%_, _≤_, _<_}
-use mathlib.Core.Bool.{Bool, true, false, not, _&&_, and-true, and-assoc, Bool·not-not}
+use mathlib.Core.Bool.{Bool, true, false, not, _&&_, and-true, and-assoc}
 use mathlib.Core.Path.{_≡_, refl, sym, _∙_, ap, ap₂}
 use mathlib.Core.List.{List, [], _∷_, _++_, map, map-map, map-append, List·Memᴰ}
 use native.Mathlib.Omega.{arith}
-use borrow.Author.Tests.{ltb-true, eq-eqb, ne-eqb, eqb-true}
+use borrow.Author.Tests.{ltb-true}
 use lib.Bits.{bitOr}
 use lib.Dec.{ltb, eqb}
-use Rattle.laws.specs.Lists.{keep, all?, pairwise, numbersFrom}
+use Rattle.laws.specs.Lists.{keep, all?, numbersFrom}
 use Rattle.laws.proofs.Tests.{same, and-i, and-l, and-r, and-false-l}
 use Rattle.laws.proofs.Lists.{all?-append, all?-e, all?-map, keep-map}
 use Rattle.laws.proofs.Numbers.{numbersFrom-add}
@@ -16,12 +16,10 @@ use Rattle.sets.proofs.Operations.{or-none}
 use Rattle.sets.proofs.Members.{minus-setFrom, both-setFrom, setFrom-ext, members-setFrom}
 use Rattle.cell.specs.Limits.{portLimit, flowLimit, cellLimit}
 use Rattle.model.specs.State.{Entry, isListed, isCrossed, isBuffered}
-use Rattle.model.specs.Sound.{otherSlot}
 use Rattle.layout.specs.Entry.{entryAt}
 use Rattle.layout.specs.Records.{placeByteAt, between, entriesBetween}
 use Rattle.table.specs.Check.{inRange, lowPlace, highPlace, entriesIn}
-use Rattle.layout.proofs.Records.{between-nil, between-cons, entryAt-place, all?-entriesBetween, entriesBetween-nil}
-use Rattle.layout.proofs.Records.{entriesBetween-cons}
+use Rattle.layout.proofs.Records.{between-nil, between-cons, entryAt-place}
 use Rattle.table.proofs.Fields.{placeOf-listed, placeOf-crossed, placeOf-buffered}
 
 ------------------------------------------------------------------------
@@ -148,7 +146,7 @@ entriesIn-each p bs first set all m =
     all?-e (λ j. p (entryAt bs (first + j))) (sym (all?-map p (λ j. entryAt bs (first + j)) (members set)) ∙ all) m
 
 -- one of the three places
-by-place : (P : ℕ → Type 0) → P 1 → P 2 → P 3 → (b : ℕ) → 1 ≤ b → b ≤ 3 → P b
+pub by-place : (P : ℕ → Type 0) → P 1 → P 2 → P 3 → (b : ℕ) → 1 ≤ b → b ≤ 3 → P b
 by-place P one two three zero low high = absurd (omega arith)
 by-place P one two three (suc zero) low high = one
 by-place P one two three (suc (suc zero)) low high = two

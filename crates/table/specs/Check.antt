@@ -28,6 +28,10 @@ isUnused bs k = sameBytes (replicate entrySize 0) (recordAt bs k)
 unfoldable pub inRange : Entry → Bool
 inRange e = ltb (e .cell .output) portLimit && flowInRange (e .cell .flow)
 
+-- an entry goes to an output of the switch and came before the clock
+unfoldable pub inReach : ℕ → ℕ → Entry → Bool
+inReach ports clock e = ltb (e .cell .output) ports && ltb (e .cell .slot) clock
+
 -- how many entries an input may have: none where the switch does not have it
 unfoldable pub roomOf : ℕ → ℕ → ℕ
 roomOf ports input = cond (ltb input ports) cellLimit 0

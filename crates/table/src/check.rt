@@ -15,7 +15,7 @@ ghost use Rattle.model.specs.Sound.{together, otherSlot};
 ghost use Rattle.layout.specs.Entry.{entryAt};
 ghost use Rattle.layout.specs.Table.{tableSize, isTable};
 ghost use Rattle.layout.specs.Records.{between, entriesBetween};
-ghost use Rattle.table.specs.Check.{isSection, isEntry, isUnused, roomOf, areSound, inRange, sameSlot};
+ghost use Rattle.table.specs.Check.{isSection, isUnused, roomOf, areSound, inRange, inReach, sameSlot};
 ghost use Rattle.table.specs.Check.{entriesIn, otherOutput, breaksFlow, Collected, MarksBelow};
 ghost use Rattle.table.specs.Entries.{recordLimit};
 
@@ -185,7 +185,9 @@ fn are_sound(
 }
 
 // One pass over the entries of a section, from the last to the first, so that the digits of their places can be pushed
-// into sets. The low bytes of their slots are marked: where one is met again, two entries may have one slot.
+// into sets. The low bytes of their slots are marked: where one is met again, two entries may have one slot. The first
+// words are gathered, and asked for spare bits once, as the places are: a test that no sound table fails need not cost
+// instructions at each cell. Without spare bits a place is at most 3, and in one of the sets it is not 0.
 fn collect(
     bytes: &[u8],
     ports: u32,
@@ -201,12 +203,13 @@ fn collect(
     ensures { λ _. ⌜ MarksBelow (mark + 1) (now (marks .exit)) ⌝ }
 {
     let mut again = false;
+    let mut bits = 0;
     let mut low = 0;
     let mut high = 0;
     let mut k = to;
     while from < k {
         k -= 1;
-        if !is_entry(bytes, ports, clock, k) {
+        if !in_reach(bytes, ports, clock, k) {
             return Places {
                 good: false,
                 again,
@@ -214,6 +217,7 @@ fn collect(
                 high,
             };
         }
+        bits = bits | word::read_u32(bytes, entry::start_of(k));
         let byte = entry::slot_byte_of(bytes, k) as usize;
         again = again | (marks[byte] == mark);
         marks[byte] = mark;
@@ -221,25 +225,21 @@ fn collect(
         low = sets::push(low, place % 2 == 1);
         high = sets::push(high, place / 2 % 2 == 1);
     }
+    let plain = bits & SPARE_BITS == 0;
+    let placed = sets::size(sets::either(low, high)) == to - from;
     Places {
-        good: true,
+        good: plain & placed,
         again,
         low,
         high,
     }
 }
 
-// Whether a record is an entry: its fields are in range, its place is one, its zero byte is zero.
-fn is_entry(bytes: &[u8], ports: u32, clock: u32, k: usize) -> bool
-    requires { ⌜ (length (now bytes) ≡ tableSize) × (ports ≤ portLimit) × (k < recordLimit) ⌝ }
-    ensures { λ r. ⌜ r ≡ isEntry ports clock (now (bytes .entry)) k ⌝ }
+// Whether the output of a record is one of the switch's, and its slot before the clock.
+fn in_reach(bytes: &[u8], ports: u32, clock: u32, k: usize) -> bool
+    requires { ⌜ (length (now bytes) ≡ tableSize) × (k < recordLimit) ⌝ }
+    ensures { λ r. ⌜ r ≡ inReach ports clock (entryAt (now (bytes .entry)) k) ⌝ }
 {
-    if word::read_u32(bytes, entry::start_of(k)) & SPARE_BITS != 0 {
-        return false;
-    }
-    if entry::place_of(bytes, k) < entry::LISTED {
-        return false;
-    }
     if ports <= entry::output_of(bytes, k) as u32 {
         return false;
     }
