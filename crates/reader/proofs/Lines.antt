@@ -1,16 +1,16 @@
 -- The reader of a line:
---     lineOf-none, -some           its answer, by what was read
---     readMarked-missing, -before  a line, by its mark
---     lineOf-key                   a line, by its key
---     rest                         the slice from a place
---     number-bad, -got, taken      a line as a cursor has it
+--     lineOf-none, -some                   its answer, by what was read
+--     readMarked-missing, -before, -short  a line, by its mark
+--     lineOf-key                           a line, by its key
+--     rest                                 the slice from a place
+--     number-bad, -got, taken              a line as a cursor has it
 use Prim.Native.Nat.{ℕ, _+_, _-_, _≤_}
 use native.Mathlib.Omega.{arith}
-use mathlib.Core.Bool.{true, false}
+use mathlib.Core.Bool.{Bool, true, false}
 use mathlib.Core.List.{List, _++_}
 use mathlib.Core.Option.{Option, none, some, bind}
 use mathlib.Core.Path.{_≡_, refl, sym, ap, _∙_}
-use lib.ListN.{length, take, drop, length-append, length-drop}
+use lib.ListN.{length, take, drop, length-append, length-drop, drop-of-length-le}
 use lib.Seq.{take-all, drop-at}
 use Rattle.trace.specs.declared.Key.{Key}
 use Rattle.reader.specs.declared.Line.{Line}
@@ -21,6 +21,7 @@ use Rattle.reader.specs.Reading.{from, beginsWith, readBody, readMarked,
 use Rattle.trace.proofs.Line.{readLine-exact}
 use Rattle.trace.proofs.Blocks.{number-some, number-none}
 use Rattle.reader.proofs.Marks.{beginsWith-false, beginsWith-true}
+use Rattle.reader.proofs.Numbers.{readBody-nil}
 
 -- the rest of a text, by how much was read
 pub drop-rest : (x rest t : List ℕ) → t ≡ x ++ rest
@@ -67,6 +68,14 @@ module _ (p t : List ℕ) where
   pub readMarked-before : beginsWith p t ≡ true → readMarked p t ≡ readBody (drop (length p) t)
   unfolding readMarked bind
   readMarked-before h = rw (beginsWith-true p t h)
+
+  -- a text that ends with its mark, or before it
+  pub readMarked-short : length t ≤ length p → readMarked p t ≡ none
+  readMarked-short h = go (beginsWith p t) refl
+    where
+      go : (b : Bool) → beginsWith p t ≡ b → readMarked p t ≡ none
+      go true e = readMarked-before e ∙ rw (drop-of-length-le t h) readBody-nil
+      go false e = readMarked-missing e
 
 -- the mark of a line is its key and `=`
 pub lineOf-key : (t : List ℕ) {k j : Key} {r : Line} → k ≡ j → r ≡ lineOf t (readMarked (keyText j) t)

@@ -8,33 +8,31 @@
 --     next-unfinished          enough text does not end there
 --     header-append            the header, with more text behind it
 --     cut-anywhere, cut-header the answer for a piece is the answer for the whole text
-use Prim.Native.Nat.{ℕ, zero, suc, _+_, _*_, _≤_, _<_}
+use Prim.Native.Nat.{ℕ, zero, suc, _+_, _*_, _-_, _≤_, _<_}
 use native.Mathlib.Omega.{arith}
 use mathlib.Core.Bool.{Bool, true, false}
 use mathlib.Core.List.{List, [], _∷_, _++_, append-nil}
 use mathlib.Core.Logic.{_⊎_, inl, inr, ⊎-elim, _≢_}
 use mathlib.Core.Option.{Option, none, some, bind, Option·map}
 use mathlib.Core.Path.{_≡_, refl, sym, ap, _∙_}
-use borrow.Author.Tests.{leb-true, eqb-true, eqb-false, le-leb}
+use borrow.Author.Tests.{leb-true, leb-false, eqb-true, eqb-false, le-leb}
 use lib.Dec.{leb, eqb}
 use lib.ListN.{length, length-append}
 use Rattle.cell.specs.declared.Arrival.{Arrival}
-use Rattle.laws.proofs.Tests.{or-r}
+use Rattle.laws.proofs.Tests.{either, or-r}
 use Rattle.cell.specs.declared.Refusal.{Refusal}
 use Rattle.cell.specs.declared.Refusal.the-variants.{BadLine}
 use Rattle.cell.specs.Limits.{fits32, clockEnd, portsInRange}
 use Rattle.trace.specs.declared.Key.{Key}
 use Rattle.trace.specs.declared.Key.the-variants.{Ports, First, Slot, In, Out, Flow, Rank, Tag, End}
-use Rattle.reader.specs.declared.Digits.the-variants.{Worth, Bad}
-use Rattle.reader.specs.declared.Digits.{Digits}
 use Rattle.trace.specs.Ascii.{ascii}
-use Rattle.trace.specs.Line.{keyName, keyText, line, after, readLine}
+use Rattle.trace.specs.Line.{keyName, keyText, line, after, isDigit, readLine}
 use Rattle.trace.specs.Reader.{Cursor, Read, got, badAt, Reader, give, _>>=_, number, exactly, begins}
 use Rattle.trace.specs.Reader.{arrival, arrivals, block, Next, slotAhead, finished, faulty, afterEnd, next}
 use Rattle.trace.specs.Reader.{Header, opened, refusedAt, header}
 use Rattle.trace.specs.Contents.{blockLimit}
 use Rattle.trace.specs.Piece.{known, enough, decided, nextIn, headerIn}
-use Rattle.reader.specs.Reading.{from, withDigit, readBody}
+use Rattle.reader.specs.Reading.{from, readBody}
 use Rattle.trace.proofs.Lengths.{length-line-le}
 use Rattle.trace.proofs.Line.{after-exact}
 use Rattle.trace.proofs.Blocks.{bind-got, bind-bad, bind-exact, number-some, number-none, number-exact}
@@ -44,8 +42,8 @@ use Rattle.trace.proofs.Blocks.{next-block, next-no-block, next-last, next-no-l
 use Rattle.trace.proofs.RoundTrip.{header-bad-ports, header-bad-size, header-bad-first, header-opened}
 use Rattle.reader.proofs.Answers.{headerIn-more, headerIn-known, nextIn-more, nextIn-known}
 use Rattle.reader.proofs.Arrivals.{exactly-line-next, arrival-line}
-use Rattle.reader.proofs.Numbers.{scan, scan-line-feed, scan-zero, scan-digit, scan-bad}
-use Rattle.reader.proofs.Numbers.{readBody-first, readBody-bad, withDigit-above}
+use Rattle.reader.proofs.Numbers.{continued, continued-line-feed, continued-stray, continued-zero}
+use Rattle.reader.proofs.Numbers.{continued-digit, continued-over, readBody-stray, readBody-first}
 
 -- a line
 
@@ -74,65 +72,60 @@ unfolding reach
 reach-mono zero m n h = h
 reach-mono (suc d) m n h = reach-mono d (10 * m) (10 * n) (omega arith)
 
-scan-more : (d n : ℕ) (t u : List ℕ) → clockEnd < reach n d → n ≤ clockEnd → d ≤ length t
-    → scan n (t ++ u) ≡ Option·map (more u) (scan n t)
-unfolding reach
-scan-more zero n t u h k l = absurd (omega arith)
-scan-more (suc d) n [] u h k l = absurd (omega arith)
-scan-more (suc d) n (b ∷ t) u h k l = go (eqb b 10) refl (eqb n 0) refl (withDigit n b) refl (λ m. scan-more d m t u)
-  where
-    go : (x : Bool) → eqb b 10 ≡ x → (y : Bool) → eqb n 0 ≡ y → (z : Digits) → withDigit n b ≡ z
-        → ((m : ℕ) → clockEnd < reach m d → m ≤ clockEnd → d ≤ length t
-        → scan m (t ++ u) ≡ Option·map (more u) (scan m t))
-        → scan n (b ∷ (t ++ u)) ≡ Option·map (more u) (scan n (b ∷ t))
-    go true e y f z g later =
-        let i : b ≡ 10 = eqb-true b 10 e in
-        scan-line-feed n b (t ++ u) i ∙ sym (rw (scan-line-feed n b t i))
-    go false e true f z g later =
-        let i : b ≢ 10 = eqb-false b 10 e in
-        let j : n ≡ 0 = eqb-true n 0 f in
-        scan-zero n b (t ++ u) i j ∙ sym (rw (scan-zero n b t i j))
-    go false e false f (Worth m) g later =
-        let i : b ≢ 10 = eqb-false b 10 e in
-        let j : n ≢ 0 = eqb-false n 0 f in
-        let (a, c) = withDigit-above n b g in
-        let r : clockEnd < reach m d = omega (arith, reach-mono d (10 * n) m a) in
-        scan-digit n b (t ++ u) i j g ∙ later m r c (omega arith) ∙ sym (rw (scan-digit n b t i j g))
-    go false e false f Bad g later =
-        let i : b ≢ 10 = eqb-false b 10 e in
-        let j : n ≢ 0 = eqb-false n 0 f in
-        scan-bad n b (t ++ u) i j g ∙ sym (rw (scan-bad n b t i j g))
+module _ (n : ℕ) where
+  -- a number that is too large already
+  over-more : (t u : List ℕ) → clockEnd < n → continued n (t ++ u) ≡ Option·map (more u) (continued n t)
+  over-more t u h = continued-over n (t ++ u) h ∙ sym (rw (continued-over n t h))
 
-scan-more-zero : (t u : List ℕ) → 0 < length t → scan 0 (t ++ u) ≡ Option·map (more u) (scan 0 t)
-scan-more-zero [] u h = absurd (omega arith)
-scan-more-zero (b ∷ t) u h = go (eqb b 10) refl
-  where
-    go : (x : Bool) → eqb b 10 ≡ x → scan 0 (b ∷ (t ++ u)) ≡ Option·map (more u) (scan 0 (b ∷ t))
-    go true e =
-        let i : b ≡ 10 = eqb-true b 10 e in
-        scan-line-feed 0 b (t ++ u) i ∙ sym (rw (scan-line-feed 0 b t i))
-    go false e =
-        let i : b ≢ 10 = eqb-false b 10 e in
-        scan-zero 0 b (t ++ u) i refl ∙ sym (rw (scan-zero 0 b t i refl))
+  -- one byte
+  byte-more : (b : ℕ) (t u : List ℕ) → n ≤ clockEnd
+      → (n ≢ 0 → continued (10 * n + (b - 48)) (t ++ u) ≡ Option·map (more u) (continued (10 * n + (b - 48)) t))
+      → continued n (b ∷ (t ++ u)) ≡ Option·map (more u) (continued n (b ∷ t))
+  byte-more b t u h later = go (isDigit b) refl (eqb b 10) refl (eqb n 0) refl
+    where
+      go : (x : Bool) → isDigit b ≡ x → (y : Bool) → eqb b 10 ≡ y → (z : Bool) → eqb n 0 ≡ z
+          → continued n (b ∷ (t ++ u)) ≡ Option·map (more u) (continued n (b ∷ t))
+      go false d true e z f =
+          let i : b ≡ 10 = eqb-true b 10 e in
+          continued-line-feed n b (t ++ u) h i ∙ sym (rw (continued-line-feed n b t h i))
+      go false d false e z f =
+          let i : b ≢ 10 = eqb-false b 10 e in
+          continued-stray n b (t ++ u) i d ∙ sym (rw (continued-stray n b t i d))
+      go true d y e true f =
+          let j : n ≡ 0 = eqb-true n 0 f in
+          continued-zero n b (t ++ u) j d ∙ sym (rw (continued-zero n b t j d))
+      go true d y e false f =
+          let j : n ≢ 0 = eqb-false n 0 f in
+          continued-digit n b (t ++ u) j d ∙ later j ∙ sym (rw (continued-digit n b t j d))
 
-scan-more-ten : (n : ℕ) (t u : List ℕ) → n ≤ clockEnd → 10 ≤ length t
-    → scan n (t ++ u) ≡ Option·map (more u) (scan n t)
+continued-more : (d n : ℕ) (t u : List ℕ) → clockEnd < reach n d → d ≤ length t
+    → continued n (t ++ u) ≡ Option·map (more u) (continued n t)
 unfolding reach
-scan-more-ten zero t u h l = scan-more-zero t u (omega arith)
-scan-more-ten (suc n) t u h l =
+continued-more zero n t u h l = over-more n t u h
+continued-more (suc d) n [] u h l = absurd (omega arith)
+continued-more (suc d) n (b ∷ t) u h l =
+    let m : ℕ = 10 * n + (b - 48) in
+    let r : clockEnd < reach m d = omega (arith, reach-mono d (10 * n) m (omega arith)) in
+    let later : continued m (t ++ u) ≡ Option·map (more u) (continued m t) = continued-more d m t u r (omega arith) in
+    ⊎-elim (λ k. byte-more n b t u (leb-true n clockEnd k) λ _. later) (λ k. over-more n (b ∷ t) u (leb-false n clockEnd k))
+    (either (leb n clockEnd))
+
+continued-more-ten : (n : ℕ) (t u : List ℕ) → 10 ≤ length t → continued n (t ++ u) ≡ Option·map (more u) (continued n t)
+unfolding reach
+continued-more-ten n [] u l = absurd (omega arith)
+continued-more-ten zero (b ∷ t) u l = byte-more 0 b t u (omega arith) λ z. absurd (z refl)
+continued-more-ten (suc n) (b ∷ t) u l =
     let p : 1 ≤ suc n = omega arith in
-    let r : clockEnd < reach (suc n) 10 = omega (arith, reach-mono 10 1 (suc n) p) in
-    scan-more 10 (suc n) t u r h l
+    continued-more 10 (suc n) (b ∷ t) u (omega (arith, reach-mono 10 1 (suc n) p)) l
 
 readBody-more : (t u : List ℕ) → 11 ≤ length t → readBody (t ++ u) ≡ Option·map (more u) (readBody t)
 readBody-more [] u h = absurd (omega arith)
-readBody-more (b ∷ t) u h = go (withDigit 0 b) refl
+readBody-more (b ∷ t) u h = go (isDigit b) refl
   where
-    go : (z : Digits) → withDigit 0 b ≡ z → readBody (b ∷ (t ++ u)) ≡ Option·map (more u) (readBody (b ∷ t))
-    go (Worth n) g =
-        let (a, c) = withDigit-above 0 b g in
-        readBody-first b (t ++ u) g ∙ scan-more-ten n t u c (omega arith) ∙ sym (rw (readBody-first b t g))
-    go Bad g = readBody-bad b (t ++ u) g ∙ sym (rw (readBody-bad b t g))
+    go : (x : Bool) → isDigit b ≡ x → readBody (b ∷ (t ++ u)) ≡ Option·map (more u) (readBody (b ∷ t))
+    go true d =
+        readBody-first b (t ++ u) d ∙ continued-more-ten (b - 48) t u (omega arith) ∙ sym (rw (readBody-first b t d))
+    go false d = readBody-stray b (t ++ u) d ∙ sym (rw (readBody-stray b t d))
 
 readLine-none : (k : Key) (t : List ℕ) → after (keyText k) t ≡ none → readLine k t ≡ none
 unfolding readLine bind

@@ -1,10 +1,10 @@
 -- A whole text, block by block, as the code reads it:
---     next-nil, next-shorter            no text is a fault, and a block takes some bytes
---     blocks-fuel                       how many blocks may be read does not matter, if there are as many as bytes
---     Verified                          what is read of a text, and what is left
---     verified-start, -more             where the reading begins, and one block further
---     verified-end, -bad, -clock-end    where it ends
---     verdict-blocks, -refused          the whole text, by its header
+--     next-nil, next-shorter                    no text is a fault, and a block takes some bytes
+--     blocks-fuel                               how many blocks may be read does not matter, if there are as many as bytes
+--     Verified                                  what is read of a text, and what is left
+--     verified-start, -more                     where the reading begins, and one block further
+--     verified-end, -bad, -missing, -clock-end  where it ends
+--     verdict-blocks, -refused                  the whole text, by its header
 use Prim.Native.Nat.{ℕ, zero, suc, _+_, _*_, _-_, _≤_, _<_}
 use native.Mathlib.Omega.{arith}
 use mathlib.Core.Bool.{Bool, true, false}
@@ -188,6 +188,15 @@ verified-start t first h = record {
       ap (λ n. ended n (blocks (length t) first (from 3 t))) z;
 }
 
+module _ {t : List ℕ} {first : ℕ} {left : List ℕ} {clock line : ℕ} (v : Verified t first left clock line) where
+  verified-fault : {l : ℕ} → next clock (from line left) ≡ faulty l → Refused BadLine l ≡ endedOf first t
+  unfolding ended
+  verified-fault p = sym (v .same ∙ ap (ended (clock - first)) (blocksOf-fault clock (from line left) p))
+
+  -- no line is left
+  pub verified-missing : length left ≤ 0 → Refused BadLine line ≡ endedOf first t
+  verified-missing h = verified-fault (next-nil clock (from line left) (nil-text left h))
+
 module _ {t : List ℕ} {first : ℕ} {left : List ℕ} {clock line : ℕ} (v : Verified t first left clock line)
     {b : Answer} (e : b ≡ answerOf left (nextIn true clock left)) where
   module _ {n i l : ℕ} (h : b ≡ Slot n i l) where
@@ -244,10 +253,7 @@ module _ {t : List ℕ} {first : ℕ} {left : List ℕ} {clock line : ℕ} (v : 
       sym (v .same ∙ ap (ended (clock - first)) (blocksOf-end clock (from line left) p) ∙ ap Accepted z)
 
   pub verified-bad : {k : ℕ} → b ≡ Bad k → Refused BadLine (line + k) ≡ endedOf first t
-  unfolding ended
-  verified-bad h =
-      let p = next-faulty-later clock line left (answer-bad-e true clock left e h) in
-      sym (v .same ∙ ap (ended (clock - first)) (blocksOf-fault clock (from line left) p))
+  verified-bad h = verified-fault v (next-faulty-later clock line left (answer-bad-e true clock left e h))
 
 -- the whole text, by its header
 

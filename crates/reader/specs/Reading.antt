@@ -2,26 +2,23 @@
 --     lineOf t o      a line at the start of t
 --     verdictOf o     a whole text
 --     numbersAfter    the numbers lent to the block reader
---     withDigit, beginsWith, readBody, readMarked, cameOf, ahead, endedOf    the same of parts, for the private functions
+--     wordAt, beginsWith, readBody, readMarked, cameOf, ahead, endedOf    the same of parts, for the private functions
 use Prim.Native.Nat.{ℕ, zero, suc, _+_, _*_, _-_}
-use mathlib.Core.Bool.{Bool, true, false, _&&_}
+use mathlib.Core.Bool.{Bool, true, false}
 use mathlib.Core.List.{List, [], _∷_}
 use mathlib.Core.Option.{Option, none, some, bind, Option·map}
-use lib.ListN.{length}
+use lib.ListN.{length, getD}
 use lib.Seq.{sets}
 use Rattle.cell.specs.declared.Arrival.{Arrival}
 use Rattle.cell.specs.declared.Refusal.the-variants.{BadLine}
-use Rattle.cell.specs.Limits.{fits32}
 use Rattle.trace.specs.declared.Key.the-variants.{Slot, In, End}
 use Rattle.reader.specs.declared.Line.{Line}
 use Rattle.reader.specs.declared.Line.the-variants.{Number, Bad}
-use Rattle.reader.specs.declared.Digits.{Digits}
-use Rattle.reader.specs.declared.Digits.the-variants.{Worth, Bad as NoDigits}
 use Rattle.reader.specs.declared.Came.{Came}
 use Rattle.reader.specs.declared.Came.the-variants.{Whole, Bad as BadCame}
 use Rattle.reader.specs.declared.Verdict.{Verdict}
 use Rattle.reader.specs.declared.Verdict.the-variants.{Accepted, Refused}
-use Rattle.trace.specs.Line.{after, upToLineFeed, isDigit, readNumber}
+use Rattle.trace.specs.Line.{after, upToLineFeed, readNumber}
 use Rattle.trace.specs.Contents.{blockLimit}
 use Rattle.trace.specs.Piece.{Piece, known, more, numbersOf}
 use Rattle.trace.specs.Reader.{Cursor, Read, got, badAt, exactly, begins, arrival, Next, slotAhead, finished, faulty, blocks}
@@ -40,10 +37,9 @@ unfoldable pub verdictOf : Outcome → Verdict
 verdictOf (accepted c) = Accepted (length (c .slots))
 verdictOf (refused r l) = Refused r l
 
--- the digits of a number and one more
-unfoldable pub withDigit : ℕ → ℕ → Digits
-withDigit n b =
-    elim (isDigit b && fits32 (10 * n + (b - 48))) [ true ↦ Worth (10 * n + (b - 48)) | false ↦ NoDigits ]
+-- four bytes as one number, the first of them its lowest
+abbrev pub wordAt : List ℕ → ℕ → ℕ
+wordAt t i = getD t i 0 + 256 * getD t (i + 1) 0 + 65536 * getD t (i + 2) 0 + 16777216 * getD t (i + 3) 0
 
 -- whether a text begins with p
 unfoldable pub beginsWith : List ℕ → List ℕ → Bool

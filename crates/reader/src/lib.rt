@@ -10,15 +10,15 @@ use trace::Opening;
 ghost use mathlib.Core.Bool.{true, false};
 ghost use mathlib.Core.List.{[], _∷_};
 ghost use mathlib.Core.Path.{_≡_};
-ghost use Prim.Native.Nat.{_*_, _≤_, _<_};
+ghost use Prim.Native.Nat.{_+_, _*_, _≤_, _<_};
 ghost use lib.ListN.{length, drop};
 ghost use lib.Seq.{sets};
 ghost use Rattle.trace.specs.declared.Key.the-variants.{End};
-ghost use Rattle.trace.specs.Line.{readLine};
+ghost use Rattle.trace.specs.Line.{isDigit, readLine};
 ghost use Rattle.trace.specs.Contents.{blockLimit};
 ghost use Rattle.trace.specs.Reader.{arrival, arrivals, begins, next, read};
 ghost use Rattle.trace.specs.Piece.{known, decided, nextIn, headerIn, numbersOf, answerOf, openingOf};
-ghost use Rattle.reader.specs.Reading.{from, withDigit, beginsWith, readBody, readMarked, lineOf, cameOf, ahead};
+ghost use Rattle.reader.specs.Reading.{from, wordAt, beginsWith, readBody, readMarked, lineOf, cameOf, ahead};
 ghost use Rattle.reader.specs.Reading.{wholeArrivals, wholeOf, numbersAfter, endedOf, verdictOf};
 
 // The arrivals of a block as numbers: input, output, flow, rank, tag of each of sixteen.
@@ -37,12 +37,6 @@ pub enum Verdict {
     Accepted(u32),
     // A refusal and its line, counted from 1.
     Refused(Refusal, usize),
-}
-
-// The value of some digits.
-enum Digits {
-    Worth(u32),
-    Bad,
 }
 
 // What stands where an arrival may begin.
@@ -128,7 +122,8 @@ fn verify_blocks(text: &[u8], first: u32) -> Verdict
     let mut rest = text;
     let mut clock = first;
     let mut line: usize = 3;
-    loop {
+    // with this test the compiler sees one call of read_block, and puts it in line
+    while 0 < rest.len() {
         match read_block(rest, clock, true, &mut numbers) {
             Answer::Slot(_, used, lines) => {
                 line += lines as usize;
@@ -150,6 +145,8 @@ fn verify_blocks(text: &[u8], first: u32) -> Verdict
             }
         }
     }
+    // a line is missing
+    Verdict::Refused(Refusal::BadLine, line)
 }
 
 // Whether the text is enough to decide by: it is all there, or more than any block can have.
@@ -277,6 +274,10 @@ fn store(numbers: &mut [u32; NUMBERS], k: usize, a: Arrival)
 fn read_marked(text: &[u8], mark: &[u8]) -> Line
     ensures { λ r. ⌜ r ≡ lineOf (now (text .entry)) (readMarked (now (mark .entry)) (now (text .entry))) ⌝ }
 {
+    // a line has more behind its key; with this test first the compiler drops those of begins and read_number
+    if text.len() <= mark.len() {
+        return Line::Bad;
+    }
     if !begins(text, mark) {
         return Line::Bad;
     }
@@ -291,6 +292,13 @@ fn begins(text: &[u8], mark: &[u8]) -> bool
         return false;
     }
     let mut i = 0;
+    // four at a time: the compiler makes one comparison of them
+    while i + 4 <= mark.len() {
+        if word_at(text, i) != word_at(mark, i) {
+            return false;
+        }
+        i += 4;
+    }
     while i < mark.len() {
         if text[i] != mark[i] {
             return false;
@@ -300,6 +308,24 @@ fn begins(text: &[u8], mark: &[u8]) -> bool
     true
 }
 
+// Four bytes as one number, the first of them its lowest.
+fn word_at(bytes: &[u8], i: usize) -> u32
+    requires { ⌜ i + 4 ≤ length (now bytes) ⌝ }
+    ensures { λ r. ⌜ r ≡ wordAt (now (bytes .entry)) i ⌝ }
+{
+    wide(bytes[i])
+        + 256 * wide(bytes[i + 1])
+        + 65536 * wide(bytes[i + 2])
+        + 16777216 * wide(bytes[i + 3])
+}
+
+// A byte as wide as a word.
+fn wide(b: u8) -> u32
+    ensures { λ r. ⌜ (r ≡ b) × (r < 256) ⌝ }
+{
+    b as u32
+}
+
 // number "\n" from a place of the text; number = "0" | digit { digit }, the first not "0", at most 4294967295
 fn read_number(text: &[u8], start: usize) -> Line
     ensures { λ r. ⌜ r ≡ lineOf (now (text .entry)) (readBody (drop start (now (text .entry)))) ⌝ }
@@ -307,41 +333,40 @@ fn read_number(text: &[u8], start: usize) -> Line
     if text.len() <= start {
         return Line::Bad;
     }
-    let Digits::Worth(first) = with_digit(0, text[start]) else {
+    let first = text[start];
+    if !is_digit(first) {
         return Line::Bad;
-    };
-    let mut n = first;
+    }
+    let mut n = (first - 48) as u32;
     let mut at = start + 1;
     while at < text.len() {
         let b = text[at];
-        at += 1;
-        if b == 10 {
-            return Line::Number(n, at);
+        // first, since most bytes are digits
+        if !is_digit(b) {
+            if b == 10 {
+                return Line::Number(n, at + 1);
+            }
+            return Line::Bad;
         }
         if n == 0 {
             return Line::Bad;
         }
-        let Digits::Worth(m) = with_digit(n, b) else {
+        let m = 10 * (n as u64) + ((b - 48) as u64);
+        if 4294967295 < m {
             return Line::Bad;
-        };
-        n = m;
+        }
+        n = m as u32;
+        at += 1;
     }
     Line::Bad
 }
 
-// The digits of a number and one more.
-fn with_digit(n: u32, b: u8) -> Digits
-    ensures { λ r. ⌜ r ≡ withDigit n b ⌝ }
+// digit = "0" .. "9"
+fn is_digit(b: u8) -> bool
+    ensures { λ r. ⌜ r ≡ isDigit b ⌝ }
 {
     if b < 48 {
-        return Digits::Bad;
+        return false;
     }
-    if 57 < b {
-        return Digits::Bad;
-    }
-    let m = 10 * (n as u64) + ((b - 48) as u64);
-    if 4294967295 < m {
-        return Digits::Bad;
-    }
-    Digits::Worth(m as u32)
+    b <= 57
 }

@@ -5,7 +5,8 @@ use borrow.Author.Needs.{needs}
 use native.Mathlib.Omega.{arith}
 use lib.ListN.{length}
 use Rattle.reader.proofs.Whole.{Verified, verified-start, verified-within, verified-lines, verified-less}
-use Rattle.reader.proofs.Whole.{verified-more, verified-clock-end, verified-end, verified-bad, whole-decided}
+use Rattle.reader.proofs.Whole.{verified-more, verified-clock-end, verified-end, verified-bad}
+use Rattle.reader.proofs.Whole.{verified-missing, whole-decided}
 use Rattle.reader.proofs.Answered.{answer-more-e}
 use Rattle.reader.proofs.verify_blocks.Statement.{statement}
 use Rattle.reader.proofs.verify_blocks.Tie as tie
@@ -30,19 +31,19 @@ cast-line c = search needs
 
 add-line : tie.Need-add-line Inv-loop μ-loop
 add-line c =
-    let v = c .before .before .before .before .before .loop .inv in
+    let v = c .before .before .before .before .before .before .loop .inv in
     let l = verified-lines v (c .before .before .before .read-block .ensures .0) (c .before .used .given .1) in
     omega (arith, v .begun, v .fits, v .lines)
 
 returns : tie.Need-returns Inv-loop μ-loop
 returns c =
-    verified-clock-end (c .before .before .before .before .before .before .loop .inv) (c .before .before .before .before .read-block .ensures .0) (c .before .before .used .given .1) (c .if1 .taken)
+    verified-clock-end (c .before .before .before .before .before .before .before .loop .inv) (c .before .before .before .before .read-block .ensures .0) (c .before .before .used .given .1) (c .if1 .taken)
 
 add-clock : tie.Need-add-clock Inv-loop μ-loop
-add-clock c = omega (arith, c .before .before .before .before .before .before .loop .inv .fits, c .if1 .left)
+add-clock c = omega (arith, c .before .before .before .before .before .before .before .loop .inv .fits, c .if1 .left)
 
 sub-rest : tie.Need-sub-rest Inv-loop μ-loop
-sub-rest c = verified-within (c .before .before .before .before .before .before .loop .inv) (c .before .before .before .before .read-block .ensures .0) (c .before .before .used .given .1)
+sub-rest c = verified-within (c .before .before .before .before .before .before .before .loop .inv) (c .before .before .before .before .read-block .ensures .0) (c .before .before .used .given .1)
 
 part-rest-start : tie.Need-part-rest-start Inv-loop μ-loop
 part-rest-start c = sub-rest c
@@ -52,35 +53,35 @@ part-rest-end c = search needs
 
 loop-less : tie.Need-loop-less Inv-loop μ-loop
 loop-less c =
-    verified-less (c .before .before .before .before .before .before .before .loop .inv) (c .before .before .before .before .before .read-block .ensures .0) (c .before .before .before .used .given .1)
+    verified-less (c .before .before .before .before .before .before .before .before .loop .inv) (c .before .before .before .before .before .read-block .ensures .0) (c .before .before .before .used .given .1)
 
 loop-again : tie.Need-loop-again Inv-loop μ-loop
 loop-again c =
-    verified-more (c .before .before .before .before .before .before .before .loop .inv) (c .before .before .before .before .before .read-block .ensures .0) (c .before .before .before .used .given .1) (c .before .if1 .left)
+    verified-more (c .before .before .before .before .before .before .before .before .loop .inv) (c .before .before .before .before .before .read-block .ensures .0) (c .before .before .before .used .given .1) (c .before .if1 .left)
 
 enum-told : tie.Need-enum-told Inv-loop μ-loop
 enum-told c = search needs
 
-sub-t17 : tie.Need-sub-t17 Inv-loop μ-loop
-sub-t17 c = c .before .before .before .before .loop .inv .begun
+sub-t19 : tie.Need-sub-t19 Inv-loop μ-loop
+sub-t19 c = c .before .before .before .before .before .loop .inv .begun
 
 returns-2 : tie.Need-returns-2 Inv-loop μ-loop
-returns-2 c = verified-end (c .before .before .before .before .loop .inv) (c .before .before .read-block .ensures .0) (c .enum-told .given .1)
+returns-2 c = verified-end (c .before .before .before .before .before .loop .inv) (c .before .before .read-block .ensures .0) (c .enum-told .given .1)
 
 enum-known-k : tie.Need-enum-known-k Inv-loop μ-loop
 enum-known-k c = search needs
 
-cast-t19 : tie.Need-cast-t19 Inv-loop μ-loop
-cast-t19 c = search needs
+cast-t21 : tie.Need-cast-t21 Inv-loop μ-loop
+cast-t21 c = search needs
 
-add-t20 : tie.Need-add-t20 Inv-loop μ-loop
-add-t20 c =
-    let v = c .before .before .before .before .before .loop .inv in
+add-t22 : tie.Need-add-t22 Inv-loop μ-loop
+add-t22 c =
+    let v = c .before .before .before .before .before .before .loop .inv in
     let g = c .known-told2 .given in
     omega (arith, v .begun, v .fits, v .lines, g)
 
 returns-3 : tie.Need-returns-3 Inv-loop μ-loop
-returns-3 c = verified-bad (c .before .before .before .before .before .loop .inv) (c .before .before .before .read-block .ensures .0) (c .before .k .given .1)
+returns-3 c = verified-bad (c .before .before .before .before .before .before .loop .inv) (c .before .before .before .read-block .ensures .0) (c .before .k .given .1)
 
 enum-told-2 : tie.Need-enum-told-2 Inv-loop μ-loop
 enum-told-2 c = search needs
@@ -88,6 +89,9 @@ enum-told-2 c = search needs
 returns-4 : tie.Need-returns-4 Inv-loop μ-loop
 returns-4 c =
     whole-decided _ (answer-more-e true _ _ (c .before .before .read-block .ensures .0) (c .enum-told2 .given .1))
+
+returns-5 : tie.Need-returns-5 Inv-loop μ-loop
+returns-5 c = verified-missing (c .before .loop .inv) (c .loop-test .left)
 
 pub verify-blocks-spec : {M : Type 1} → statement M
 verify-blocks-spec =
@@ -108,11 +112,12 @@ verify-blocks-spec =
     loop-less
     loop-again
     enum-told
-    sub-t17
+    sub-t19
     returns-2
     enum-known-k
-    cast-t19
-    add-t20
+    cast-t21
+    add-t22
     returns-3
     enum-told-2
-    returns-4)
+    returns-4
+    returns-5)
