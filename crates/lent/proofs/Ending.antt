@@ -1,7 +1,7 @@
 -- What comes of a slot whose records have been taken.
 --     ended-refused, ended-ran      what the code answers and leaves, by what was found
 --     ended-fault, ended-tally      the refusal, and the tally
---     taken-runs, taken-outcome, taken-table, taken-ended     the slot on the records
+--     taken-runs, taken-ended       the slot on the records
 use Prim.Native.Nat.{ℕ, _≤_}
 use mathlib.Core.Bool.{true, false}
 use mathlib.Core.List.{List}
@@ -89,12 +89,12 @@ module _ (table : List ℕ) (room : ℕ) (records : List Arrival) where
   taken-runs Clear new h e = (h .1 .0, h .0)
   taken-runs (At r place) new h e = absurd (clear-not (sym e))
 
-  pub taken-outcome : (f : Fault) (new : List ℕ) → Taken table room records f new → takenOutcome new f ≡ outcome
+  taken-outcome : (f : Fault) (new : List ℕ) → Taken table room records f new → takenOutcome new f ≡ outcome
   unfolding takenOutcome
   taken-outcome Clear new h = sym (h .1 .1)
   taken-outcome (At r place) new h = sym (h .1)
 
-  pub taken-table : (f : Fault) (new : List ℕ) → Taken table room records f new
+  taken-table : (f : Fault) (new : List ℕ) → Taken table room records f new
       → tableAfter new outcome ≡ tableAfter table outcome
   unfolding tableAfter
   taken-table Clear new h = ap (tableAfter new) (h .1 .1) ∙ sym (ap (tableAfter table) (h .1 .1))
@@ -103,13 +103,11 @@ module _ (table : List ℕ) (room : ℕ) (records : List Arrival) where
 module _ (table : List ℕ) (records : List Arrival) (answer : List ℕ) (f : Fault) (new : List ℕ)
     (h : Taken table (length answer) records f new) where
   pub taken-ended : (ended : Ended) (table′ answer′ : List ℕ) → Leaves new answer (takenOutcome new f) ended table′ answer′
-      → (ended .fault ≡ refusalOf (recordsSlot table (length answer) records))
-      × ((table′ ≡ tableAfter table (recordsSlot table (length answer) records))
-      × (answer′ ≡ answerAfter answer (recordsSlot table (length answer) records)))
+      → Leaves table answer (recordsSlot table (length answer) records) ended table′ answer′
   taken-ended ended table′ answer′ (e, (t, a)) =
       let same : takenOutcome new f ≡ recordsSlot table (length answer) records =
       taken-outcome table (length answer) records f new h in (
-        ap (λ d. d .fault) e ∙ ended-fault (takenOutcome new f) ∙ ap refusalOf same,
+        e ∙ ap endedOf same,
         (
           t ∙ ap (tableAfter new) same ∙ taken-table table (length answer) records f new h,
           a ∙ ap (answerAfter answer) same,

@@ -1,33 +1,24 @@
 -- Records read from bytes, and a slot on the first of them.
 --     arrivalAt-fields         the record at a place, by its fields
 --     read-none, read-next     the records read so far
---     lent-first              a slot looks at no record behind the seventeenth
 --     lent-torn, lent-called   a slot on bytes: no whole number of records, or the slot on the first of them
 use Prim.Native.Nat.{ℕ, zero, suc, _+_, _*_, _/_, _%_, _≤_, _<_, min}
 use native.Mathlib.Omega.{arith}
 use native.Mathlib.Numerals.{add-one}
 use mathlib.Core.Bool.{Bool, true, false}
-use mathlib.Core.List.{List, [], _∷_, _++_, map}
-use mathlib.Core.Option.{Option, none, some, Option·some-ne-none}
+use mathlib.Core.List.{List, [], _∷_, _++_}
+use mathlib.Core.Option.{Option, none, some}
 use mathlib.Core.Path.{_≡_, refl, sym, ap, ap₂, _∙_}
 use borrow.Author.Tests.{ltb-true, ltb-false}
-use lib.Dec.{ltb, eqb}
-use lib.ListN.{length, take, drop, set, take-append-drop, length-map, length-take}
-use lib.Seq.{take-suc-set, take-all, length-take-le, drop-drop}
+use lib.Dec.{ltb}
+use lib.ListN.{length, take, drop, set, length-take}
+use lib.Seq.{take-suc-set, take-all, drop-drop}
 use Rattle.cell.specs.declared.Arrival.{Arrival}
-use Rattle.cell.specs.declared.Cell.{Cell}
-use Rattle.cell.specs.declared.Refusal.{Refusal}
-use Rattle.cell.specs.declared.Refusal.the-variants.{BrokenTable, ClockEnd, ShortBuffer}
+use Rattle.cell.specs.declared.Refusal.the-variants.{BrokenTable}
 use Rattle.cell.specs.declared.Tally.{Tally}
-use Rattle.cell.specs.Cell.{accepted}
-use Rattle.cell.specs.Limits.{clockEnd, portLimit}
-use Rattle.model.specs.State.{Switch, cells}
-use Rattle.model.specs.Checks.{Outcome, refused, fault, faultFrom, firstFault}
-use Rattle.model.specs.Crossbar.{Course, slot}
+use Rattle.model.specs.State.{Switch}
+use Rattle.model.specs.Checks.{refused, fault}
 use Rattle.model.specs.Tally.{tallyAfter, arrivalCount, afterRefused}
-use Rattle.model.proofs.Admitted.{faultless}
-use Rattle.model.proofs.CheckOrder.{faults-first, faults-next}
-use Rattle.layout.specs.Answer.{answerSize}
 use Rattle.layout.specs.Arrivals.{arrivalSize, arrivalOf, arrivalsOf, recordsOf}
 use Rattle.layout.specs.Host.{slotOf, tableAfter, answerAfter}
 use Rattle.layout.specs.Number.{word}
@@ -35,15 +26,13 @@ use Rattle.layout.specs.Table.{decode}
 use Rattle.layout.specs.TallyBytes.{tallyOf, tallyBytes}
 use Rattle.layout.proofs.Arrivals.{recordsOf-whole, recordsOf-broken, length-arrivalsOf}
 use Rattle.layout.proofs.Records.{numberAt-part}
-use Rattle.layout.proofs.Table.{decode-sound, sound-ports}
 use Rattle.arrival.specs.declared.Fault.{Fault}
 use Rattle.arrival.specs.declared.Fault.the-variants.{At}
-use Rattle.arrival.specs.Fault.{turnAfter}
-use Rattle.arrival.proofs.Faults.{port-input, turn-after}
 use Rattle.fabric.specs.Slot.{refusalOf}
 use Rattle.tally.specs.Counted.{countedAs}
 use Rattle.lent.specs.Lent.{lentSlot, arrivalAt}
 use Rattle.lent.specs.Looked.{recordsSlot}
+use Rattle.lent.proofs.Looking.{lent-first, tally-first}
 
 ------------------------------------------------------------------------
 -- the bytes
@@ -101,134 +90,6 @@ arrivalsOf-take zero n bs h = refl
 arrivalsOf-take (suc k) zero bs h = absurd (omega arith)
 arrivalsOf-take (suc k) (suc n) bs h =
     ap (λ l. arrivalOf (take arrivalSize bs) ∷ l) (arrivalsOf-take k n (drop arrivalSize bs) (omega arith))
-
-------------------------------------------------------------------------
--- the first records of a slot
-
-module _ (ports : ℕ) (waiting : List Cell) where
-  -- a fault stays the first one with more records behind it
-  fault-front : (place : ℕ) (before : Option Cell) (cs more : List Cell) (f : Refusal × ℕ)
-      → faultFrom ports waiting place before cs ≡ some f → faultFrom ports waiting place before (cs ++ more) ≡ some f
-  unfolding faultFrom
-  fault-front place before [] more f e = absurd (Option·some-ne-none f (sym e))
-  fault-front place before (c ∷ cs) more f e =
-      go (fault ports waiting before c) refl (λ q. fault-front (place + 1) (some c) cs more f q)
-    where
-      go : (o : Option Refusal) → fault ports waiting before c ≡ o
-          → (faultFrom ports waiting (place + 1) (some c) cs ≡ some f → faultFrom ports waiting (place + 1) (some c) (cs ++ more) ≡ some f)
-          → faultFrom ports waiting place before (c ∷ (cs ++ more)) ≡ some f
-      go (some r) q again =
-          faults-first ports waiting place before c (cs ++ more) q
-          ∙ sym (faults-first ports waiting place before c cs q)
-          ∙ e
-      go none q again =
-          faults-next ports waiting place before c (cs ++ more) q
-          ∙ again (sym (faults-next ports waiting place before c cs q) ∙ e)
-
-  -- inputs rise, so there are no more records without a fault than ports
-  none-few : ports ≤ portLimit → (place : ℕ) (before : Option Cell) (cs : List Cell) → turnAfter before ≤ portLimit
-      → faultFrom ports waiting place before cs ≡ none → turnAfter before + length cs ≤ portLimit
-  unfolding faultFrom turnAfter
-  none-few p place before [] t e = omega arith
-  none-few p place before (c ∷ cs) t e =
-      go (fault ports waiting before c) refl (λ h q. none-few p (place + 1) (some c) cs h q)
-    where
-      go : (o : Option Refusal) → fault ports waiting before c ≡ o
-          → (c .input + 1 ≤ portLimit → faultFrom ports waiting (place + 1) (some c) cs ≡ none → c .input + 1 + length cs ≤ portLimit)
-          → turnAfter before + suc (length cs) ≤ portLimit
-      go (some r) q again =
-          absurd (Option·some-ne-none (r, place) (sym (faults-first ports waiting place before c cs q) ∙ e))
-      go none q again =
-          let w = faultless ports waiting before c q in
-          let low : c .input < ports = port-input ports c (w .port) in
-          let late : turnAfter before ≤ c .input = ltb-false (c .input) (turnAfter before) (turn-after before c ∙ w .turn) in
-          let rest : c .input + 1 + length cs ≤ portLimit =
-          again (omega arith) (sym (faults-next ports waiting place before c cs q) ∙ e) in
-          omega arith
-
-  -- so the first seventeen records tell
-  fault-first : ports ≤ portLimit → (cs : List Cell) → 17 ≤ length cs
-      → (f : Refusal × ℕ) × (firstFault ports waiting (take 17 cs) ≡ some f) × (firstFault ports waiting cs ≡ some f)
-  unfolding firstFault turnAfter
-  fault-first p cs many = go (faultFrom ports waiting 1 none (take 17 cs)) refl
-    where
-      go : (o : Option (Refusal × ℕ)) → faultFrom ports waiting 1 none (take 17 cs) ≡ o
-          → (f : Refusal × ℕ)
-          × (faultFrom ports waiting 1 none (take 17 cs) ≡ some f) × (faultFrom ports waiting 1 none cs ≡ some f)
-      go none q =
-          absurd (omega (arith, length-take-le 17 cs many, none-few p 1 none (take 17 cs) (omega arith) q))
-      go (some f) q = (
-        f,
-        q,
-        ap (faultFrom ports waiting 1 none) (sym (take-append-drop 17 cs))
-            ∙ fault-front 1 none (take 17 cs) (drop 17 cs) f q,
-      )
-
--- a slot with more records than are looked at is refused, with the first of them as with all
-abbrev Refused : Outcome Course → Outcome Course → Type 0
-Refused o p = (r : Refusal) × (place : ℕ) × (o ≡ refused r place) × (p ≡ refused r place)
-
-slot-first : (s : Switch) (records : List Arrival) → s .ports ≤ portLimit → 17 ≤ length records
-    → Refused (slot s (some (take 17 records))) (slot s (some records))
-unfolding slot
-slot-first s records p many = go (eqb (s .clock) clockEnd) refl
-  where
-    front : (k : ℕ) (rs : List Arrival) → map (accepted (s .clock)) (take k rs) ≡ take k (map (accepted (s .clock)) rs)
-    front zero rs = refl
-    front (suc k) [] = refl
-    front (suc k) (r ∷ rs) = ap (λ l. accepted (s .clock) r ∷ l) (front k rs)
-
-    go : (b : Bool) → eqb (s .clock) clockEnd ≡ b → Refused (slot s (some (take 17 records))) (slot s (some records))
-    go true e = (ClockEnd, 0, rw (e, slot), rw (e, slot))
-    go false e =
-        let told = fault-first (s .ports) (cells s) p (map (accepted (s .clock)) records)
-        (omega (arith, length-map records (accepted (s .clock)))) in
-        let first : firstFault (s .ports) (cells s) (map (accepted (s .clock)) (take 17 records)) ≡ some (told .0) =
-        ap (firstFault (s .ports) (cells s)) (front 17 records) ∙ told .1 in
-        (told .0 .0, told .0 .1, rw (e, first, slot), rw (e, told .2, slot))
-
-lent-refused : (table : List ℕ) (room : ℕ) (records : List Arrival) → 17 ≤ length records
-    → Refused (recordsSlot table room (take 17 records)) (recordsSlot table room records)
-unfolding recordsSlot slotOf
-lent-refused table room records many = go (decode table) refl (ltb room answerSize) refl
-  where
-    go : (o : Option Switch) → decode table ≡ o → (b : Bool) → ltb room answerSize ≡ b
-        → Refused (recordsSlot table room (take 17 records)) (recordsSlot table room records)
-    go none t b l = (BrokenTable, 0, rw t, rw t)
-    go (some s) t true l = (ShortBuffer, 0, rw (t, l, slotOf), rw (t, l, slotOf))
-    go (some s) t false l =
-        let h = slot-first s records (sound-ports s (decode-sound table s t)) many in
-        let one : recordsSlot table room (take 17 records) ≡ slot s (some (take 17 records)) = rw (t, l, slotOf) in
-        let two : recordsSlot table room records ≡ slot s (some records) = rw (t, l, slotOf) in
-        (h .0, h .1, one ∙ h .2, two ∙ h .3)
-
-module _ (table : List ℕ) (room : ℕ) (records : List Arrival) where
-  pub lent-first : recordsSlot table room (take 17 records) ≡ recordsSlot table room records
-  lent-first = go (ltb (length records) 17) refl
-    where
-      go : (b : Bool) → ltb (length records) 17 ≡ b → recordsSlot table room (take 17 records) ≡ recordsSlot table room records
-      go true e =
-          let few : length records < 17 = ltb-true (length records) 17 e in
-          ap (recordsSlot table room) (take-all 17 records (omega arith))
-      go false e =
-          let h = lent-refused table room records (ltb-false (length records) 17 e) in
-          h .2 ∙ sym (h .3)
-
-  -- and it is counted as with all
-  pub tally-first : (t : Tally) → tallyAfter (length (take 17 records)) (recordsSlot table room records) t
-      ≡ tallyAfter (length records) (recordsSlot table room records) t
-  unfolding tallyAfter
-  tally-first t = go (ltb (length records) 17) refl
-    where
-      go : (b : Bool) → ltb (length records) 17 ≡ b
-          → tallyAfter (length (take 17 records)) (recordsSlot table room records) t ≡ tallyAfter (length records) (recordsSlot table room records) t
-      go true e =
-          let few : length records < 17 = ltb-true (length records) 17 e in
-          ap (λ l. tallyAfter (length l) (recordsSlot table room records) t) (take-all 17 records (omega arith))
-      go false e =
-          let h = lent-refused table room records (ltb-false (length records) 17 e) in
-          ap (λ o. tallyAfter (length (take 17 records)) o t) (h .3)
-          ∙ sym (ap (λ o. tallyAfter (length records) o t) (h .3))
 
 ------------------------------------------------------------------------
 -- a slot on bytes

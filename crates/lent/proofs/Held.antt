@@ -1,4 +1,6 @@
 -- A local that holds records or a tally, as what is lent of it: the first records of an array, and a tally whole.
+--     recordsVal, records-told      the machine value of an array of records
+--     records-row, records-full     an array's memory, as its records side by side, and back
 --     Front, Back      the first k records of an array in memory, and those after them
 --     records-apart    an array's memory is cut in two
 --     records-room     and the two are room for the array again
@@ -21,12 +23,12 @@ use types.SemTy.{cells}
 use types.Share.{arr-parts}
 use borrow.Rule.Array.Init.{part-room}
 use borrow.Table.Elements.{at, cut-app, join-app}
-use denote.Array.{Array}
+use denote.Array.{Array, array-vals, array-tells}
 use denote.ArrayMemory.{array-apart, array-whole}
 use denote.Index.{row, whole-in, whole-out}
 use denote.Laws.{Is, shows}
 use denote.Memory.{cellAt, mem, partAt, partOf, shares}
-use denote.Steps.{facts}
+use denote.Steps.{only, facts}
 use denote.Struct.Laws as LL
 use Rattle.cell.specs.declared.Arrival.{Arrival}
 use Rattle.cell.specs.declared.Tally.{Tally}
@@ -38,6 +40,36 @@ use Rattle.cell.proofs.Tally.Laws as Y′
 abbrev pub arrayTy : Ty
 arrayTy = tyArray R′.mir 17
 
+-- the machine value of an array of records
+abbrev pub recordsVal : List Arrival → Val
+recordsVal rs = only (array-vals (LL.vals R.the-type R′.the-laws) rs)
+
+pub records-told : (rs : List Arrival) (vs : List Val) → Is (Array R.the-row 17) rs vs → vs ≡ recordsVal rs ∷ []
+records-told = array-tells R.the-row (LL.vals R.the-type R′.the-laws) (LL.tells R.the-type R′.the-laws) 17
+
+module _ (rs : List Arrival) (l : ℕ) {M : Type 1} (𝓤 : URA M) (H : Heap 𝓤) (A : Atoms 𝓤) (W : Given 𝓤 H A) where
+  pub records-row : (v : Val) → ent 𝓤 (sep 𝓤 (H .at fullShare arrayTy l 0 v) (sem 𝓤 H A (Array R.the-row 17 .own rs (v ∷ [])))) (sem 𝓤 H A (row R.the-row fullShare rs l 0))
+  unfolding partOf
+  records-row v =
+      qed W (‵ (fat fullShare arrayTy l 0 v) ∷ ‵ (Array R.the-row 17 .own rs (v ∷ [])) ∷ []) ∵
+      use1 W (‵ (cellAt fullShare (Array R.the-row 17 .mir) (v ∷ []) l 0)) (W .laws .at-raw fullShare arrayTy l 0 v) $ fjoin ! $
+      fpack ! (List Val) (λ us. fsep (cellAt fullShare (Array R.the-row 17 .mir) us l 0) (Array R.the-row 17 .own rs us)) (v ∷ []) $
+      use1 W (‵ (arr-parts (shares R.the-row) 17 .part fullShare rs l 0)) (array-apart 𝓤 H A W R.the-row fullShare tt 17 rs l 0) $ fsplit ! $ drop ! $ done !
+
+  records-part : length rs ≡ 17 → ent 𝓤 (sem 𝓤 H A (row R.the-row fullShare rs l 0)) (sem 𝓤 H A (partAt (Array R.the-row 17) fullShare rs l 0))
+  records-part size =
+      qed W (‵ (row R.the-row fullShare rs l 0) ∷ []) ∵ feqI ! ℕ (length rs) 17 size $ fjoin ! $
+      use1 W (‵ (partAt (Array R.the-row 17) fullShare rs l 0)) (array-whole 𝓤 H A W R.the-row fullShare 17 rs l 0) $ done !
+
+  pub records-full : length rs ≡ 17 → ent 𝓤 (sem 𝓤 H A (row R.the-row fullShare rs l 0)) (guard 𝓤 (Is (Array R.the-row 17) rs (recordsVal rs ∷ [])) (H .at fullShare arrayTy l 0 (recordsVal rs)))
+  unfolding partOf
+  records-full size =
+      qed W (‵ (row R.the-row fullShare rs l 0) ∷ []) ∵ use1 W (‵ (partAt (Array R.the-row 17) fullShare rs l 0)) (records-part size) $ fpick ! (λ vs. fsplit ! $ move ! (1 ∷ []) $
+      facts ! (Array R.the-row 17) (Is (Array R.the-row 17)) (shows 𝓤 H A (Array R.the-row 17)) rs vs (λ p.
+      rewrite ! 0 (λ (us : List Val). ‵ (cellAt fullShare (Array R.the-row 17 .mir) us l 0)) (records-told rs vs p) refl $
+      use1 W (‵ (fat fullShare arrayTy l 0 (recordsVal rs))) (W .laws .raw-at fullShare arrayTy l 0 (recordsVal rs)) $
+      check ! (subst (λ (us : List Val). Is (Array R.the-row 17) rs us) (records-told rs vs p) p) $ done !))
+
 module _ (k : ℕ) (rs : List Arrival) (l : ℕ) where
   abbrev pub Front : Fml
   Front = arr-parts (shares R.the-row) (length (take k rs)) .part fullShare (take k rs) l 0
@@ -47,12 +79,8 @@ module _ (k : ℕ) (rs : List Arrival) (l : ℕ) where
 
   module _ {M : Type 1} (𝓤 : URA M) (H : Heap 𝓤) (A : Atoms 𝓤) (W : Given 𝓤 H A) where
     pub records-apart : (v : Val) → ent 𝓤 (sep 𝓤 (H .at fullShare arrayTy l 0 v) (sem 𝓤 H A (Array R.the-row 17 .own rs (v ∷ [])))) (sep 𝓤 (sem 𝓤 H A Front) (sem 𝓤 H A Back))
-    unfolding partOf
     records-apart v =
-        qed W (‵ (fat fullShare arrayTy l 0 v) ∷ ‵ (Array R.the-row 17 .own rs (v ∷ [])) ∷ []) ∵
-        use1 W (‵ (cellAt fullShare (Array R.the-row 17 .mir) (v ∷ []) l 0)) (W .laws .at-raw fullShare arrayTy l 0 v) $ fjoin ! $
-        fpack ! (List Val) (λ us. fsep (cellAt fullShare (Array R.the-row 17 .mir) us l 0) (Array R.the-row 17 .own rs us)) (v ∷ []) $
-        use1 W (‵ (arr-parts (shares R.the-row) 17 .part fullShare rs l 0)) (array-apart 𝓤 H A W R.the-row fullShare tt 17 rs l 0) $ fsplit ! $ drop ! $
+        qed W (‵ (fat fullShare arrayTy l 0 v) ∷ ‵ (Array R.the-row 17 .own rs (v ∷ [])) ∷ []) ∵ use2 W (‵ (row R.the-row fullShare rs l 0)) (records-row rs l 𝓤 H A W v) $
         use1 W (‵ (cells (mem R.the-row) rs l 0)) (whole-in 𝓤 H A W R.the-row rs l 0) $
         rewrite ! 0 (λ (zs : List Arrival). ‵ (cells (mem R.the-row) zs l 0)) (sym (take-append-drop k rs)) refl $
         use1 W (‵ (cells (mem R.the-row) (take k rs) l 0) ⊛ ‵ Back) (cut-app 𝓤 H A (mem R.the-row) (take k rs) (dropL k rs) l 0) $ split ! $
@@ -64,8 +92,8 @@ module _ (k : ℕ) (rs : List Arrival) (l : ℕ) where
         qed W (‵ Front ∷ ‵ Back ∷ []) ∵ fsplit ! $ drop ! $ use1 W (‵ (cells (mem R.the-row) (take k rs) l 0)) (whole-in 𝓤 H A W R.the-row (take k rs) l 0) $
         use2 W (‵ (cells (mem R.the-row) (take k rs ++ dropL k rs) l 0)) (join-app 𝓤 H A (mem R.the-row) (take k rs) (dropL k rs) l 0) $
         rewrite ! 0 (λ (zs : List Arrival). ‵ (cells (mem R.the-row) zs l 0)) (take-append-drop k rs) refl $
-        use1 W (‵ (row R.the-row fullShare rs l 0)) (whole-out 𝓤 H A W R.the-row rs l 0) $ feqI ! ℕ (length rs) 17 size $ fjoin ! $
-        use1 W (‵ (partAt (Array R.the-row 17) fullShare rs l 0)) (array-whole 𝓤 H A W R.the-row fullShare 17 rs l 0) $
+        use1 W (‵ (row R.the-row fullShare rs l 0)) (whole-out 𝓤 H A W R.the-row rs l 0) $
+        use1 W (‵ (partAt (Array R.the-row 17) fullShare rs l 0)) (records-part rs l 𝓤 H A W size) $
         use1 W (‵ (froom arrayTy l 0)) (part-room 𝓤 H A W (Array R.the-row 17) rs l 0) $ done !
 
 module _ (c : Tally) (l : ℕ) {M : Type 1} (𝓤 : URA M) (H : Heap 𝓤) (A : Atoms 𝓤) (W : Given 𝓤 H A) where

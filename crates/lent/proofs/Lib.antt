@@ -1,8 +1,8 @@
 pub mod Departures
 pub mod Ending
+pub mod Few
 pub mod FromBytes
 pub mod Held
 pub mod Looking
-pub mod Shared
 pub mod Taking
 pub mod Typed

@@ -1,13 +1,17 @@
--- What whoever holds a record knows by its type.
-use Prim.Native.Nat.{_<_}
+-- What whoever holds a record, or an array of records, knows by its type.
+use Prim.Native.Nat.{ℕ, zero, suc, _<_}
+use native.Mathlib.Nat.{le-of-suc-le-suc}
 use native.Mathlib.Omega.{arith}
 use mathlib.Core.Bool.{true}
-use mathlib.Core.List.{List}
+use mathlib.Core.List.{List, [], _∷_}
 use mathlib.Core.Path.{_≡_}
 use borrow.Author.Tests.{le-leb}
 use lib.Dec.{leb}
+use lib.ListN.{length, getD}
 use mir.Val.{Val}
+use denote.Array.{each}
 use denote.Laws.{Is}
+use denote.Shadow.{shadow}
 use denote.Struct.Laws as LL
 use Rattle.laws.proofs.Tests.{and-i}
 use Rattle.cell.specs.declared.Arrival.{Arrival}
@@ -28,7 +32,14 @@ fits-arrival a i o f r t =
     let t′ : leb (a .tag) 4294967295 ≡ true = le-leb (a .tag) 4294967295 (omega arith) in
     search and-i depth 9
 
-pub arrival-fits : (a : Arrival) (vs : List Val) → Is A.the-row a vs → arrivalFits a ≡ true
+arrival-fits : (a : Arrival) (vs : List Val) → Is A.the-row a vs → arrivalFits a ≡ true
 arrival-fits a vs p =
     let o = LL.owed A.the-type A′.the-laws a vs p in
     fits-arrival a (o .0 .1) (o .1 .0 .1) (o .1 .1 .0 .1) (o .1 .1 .1 .0 .1) (o .1 .1 .1 .1 .0 .1)
+
+pub held-fits : (held : List Arrival) (vs : List Val) → shadow (each Arrival (A.the-row .own) held vs) → (n : ℕ) → n < length held
+    → (d : Arrival) → arrivalFits (getD held n d) ≡ true
+held-fits [] vs s n less d = absurd (omega arith)
+held-fits (a ∷ held) [] s n less d = absurd s
+held-fits (a ∷ held) (v ∷ vs) s zero less d = arrival-fits a (v ∷ []) (s .0)
+held-fits (a ∷ held) (v ∷ vs) s (suc n) less d = held-fits held vs (s .1) n (le-of-suc-le-suc less) d

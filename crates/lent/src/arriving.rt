@@ -16,37 +16,27 @@ ghost use Rattle.arrival.specs.Arrival.{Arriving};
 ghost use Rattle.lent.specs.Looked.{Looked};
 ghost use Rattle.lent.specs.Taken.{Begun, Entered, Taken};
 
-// Looks at the lent records, after what was found before them, and lets their cells arrive. Behind a fault the table is
-// as it was.
-pub fn take_records(table: &mut [u8], before: Checked, records: &[Arrival]) -> Fault
-    requires { ⌜ ((room : ℕ) × Looked (now table) room (now records) 0 before) ⌝ }
-    ensures { λ r. ⌜ ((room : ℕ) → Looked (now (table .entry)) room (now (records .entry)) 0 before
-        → Taken (now (table .entry)) room (now (records .entry)) r (now (table .exit))) ⌝ }
-{
-    let checked: Checked = check_records(table, before, records);
-    arrive_records(table, checked.fault, records);
-    checked.fault
-}
-
-// The same for a caller that holds the first records by value.
+// Looks at the first of the held records, after what was found before them, and lets their cells arrive. Behind a fault
+// the table is as it was.
 pub fn take_held(table: &mut [u8], before: Checked, records: [Arrival; 17], many: usize) -> Fault
     requires { ⌜ (many ≤ 17) × ((room : ℕ) × Looked (now table) room (take many records) 0 before) ⌝ }
     ensures { λ r. ⌜ ((room : ℕ) → Looked (now (table .entry)) room (take many records) 0 before
         → Taken (now (table .entry)) room (take many records) r (now (table .exit))) ⌝ }
 {
-    take_records(table, before, &records[..many])
+    let fault = check_records(table, before, records, many).fault;
+    arrive_records(table, fault, records, many);
+    fault
 }
 
-// Lets the cells of the lent records arrive, each record copied out of the slice.
-fn arrive_records(table: &mut [u8], fault: Fault, records: &[Arrival])
-    requires { ⌜ (fault ≡ Clear → Arriving (now table) (now records)) ⌝ }
-    ensures { λ _. ⌜ Entered (now (table .entry)) (now (records .entry)) fault (now (table .exit)) ⌝ }
+// Lets the cells of the first of the held records arrive.
+fn arrive_records(table: &mut [u8], fault: Fault, records: [Arrival; 17], many: usize)
+    requires { ⌜ (many ≤ 17) × (fault ≡ Clear → Arriving (now table) (take many records)) ⌝ }
+    ensures { λ _. ⌜ Entered (now (table .entry)) (take many records) fault (now (table .exit)) ⌝ }
 {
-    let many: usize = records.len();
-    let end: usize = begin(table, fault, many);
-    let mut n: usize = 0;
+    let end = begin(table, fault, many);
+    let mut n = 0;
     while n < end {
-        let a: Arrival = records[n];
+        let a = records[n];
         arrive(table, a);
         n += 1;
     }

@@ -6,24 +6,24 @@ mod running;
 
 use arrival::Fault;
 use arriving::take_held;
-use arriving::take_records;
 use cell::Arrival;
 use cell::Tally;
-use records::Checked;
 use records::before_records;
 use records::clock_refusal;
+use records::few;
 use records::none_checked;
 use running::Ended;
 use running::run_taken;
 use tally::count;
 ghost use mathlib.Core.Path.{_≡_};
-ghost use Prim.Native.Nat.{_≤_};
+ghost use Prim.Native.Nat.{_≤_, min};
 ghost use lib.ListN.{length, take};
 ghost use Rattle.model.specs.Tally.{tallyAfter};
 ghost use Rattle.layout.specs.Answer.{answerSize};
 ghost use Rattle.layout.specs.Host.{tableAfter, answerAfter};
 ghost use Rattle.layout.specs.Table.{IsTable};
 ghost use Rattle.fabric.specs.Slot.{refusalOf};
+ghost use Rattle.lent.specs.Ended.{endedOf};
 ghost use Rattle.lent.specs.Looked.{recordsSlot};
 
 // Takes a slot on the lent table with the lent records. The table is then the one after the slot, the first bytes of the
@@ -36,13 +36,46 @@ pub fn slot(table: &mut [u8], records: &[Arrival], answer: &mut [u8], tally: &mu
     ensures { λ _. ⌜ now (answer .exit) ≡ answerAfter (now (answer .entry)) (recordsSlot (now (table .entry)) (length (now (answer .entry))) (now (records .entry))) ⌝ }
     ensures { λ _. ⌜ now (tally .exit) ≡ tallyAfter (length (now (records .entry))) (recordsSlot (now (table .entry)) (length (now (answer .entry))) (now (records .entry))) (now (tally .entry)) ⌝ }
 {
-    let room: usize = answer.len();
     let many: usize = records.len();
-    let before: Checked = before_records(table, room);
-    let taken: Fault = take_records(table, before, records);
-    let ended: Ended = run_taken(table, answer, taken);
+    let held: [Arrival; 17] = hold(records);
+    let ended: Ended = run_held(table, held, few(many), answer);
     count(tally, ended.ran, many as u64, ended.departures);
     ended.fault
+}
+
+// The first of the lent records, those that are looked at, each copied out of the slice: whoever looks at them needs no
+// reference to a struct.
+fn hold(records: &[Arrival]) -> [Arrival; 17]
+    ensures { λ r. ⌜ take (min (length (now (records .entry))) 17) r ≡ take 17 (now (records .entry)) ⌝ }
+{
+    let none: Arrival = Arrival {
+        input: 0,
+        output: 0,
+        flow: 0,
+        rank: 0,
+        tag: 0,
+    };
+    let mut held: [Arrival; 17] = [none; 17];
+    let end: usize = few(records.len());
+    let mut n: usize = 0;
+    while n < end {
+        let a: Arrival = records[n];
+        held[n] = a;
+        n += 1;
+    }
+    held
+}
+
+// The slot with the first of the held records, and what came of it; the tally is not counted in.
+fn run_held(table: &mut [u8], held: [Arrival; 17], many: usize, answer: &mut [u8]) -> Ended
+    requires { ⌜ many ≤ 17 ⌝ }
+    ensures { λ r. ⌜ r ≡ endedOf (recordsSlot (now (table .entry)) (length (now (answer .entry))) (take many held)) ⌝ }
+    ensures { λ _. ⌜ now (table .exit) ≡ tableAfter (now (table .entry)) (recordsSlot (now (table .entry)) (length (now (answer .entry))) (take many held)) ⌝ }
+    ensures { λ _. ⌜ now (answer .exit) ≡ answerAfter (now (answer .entry)) (recordsSlot (now (table .entry)) (length (now (answer .entry))) (take many held)) ⌝ }
+{
+    let before = before_records(table, answer.len());
+    let taken = take_held(table, before, held, many);
+    run_taken(table, answer, taken)
 }
 
 // What a slot call leaves of what it was passed by value: its refusal, and the tally.

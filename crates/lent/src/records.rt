@@ -1,4 +1,4 @@
-// The records that a slot is lent, looked at: each is copied out of the slice.
+// The records of a slot, looked at one by one.
 use arrival::Fault;
 use arrival::cell_of;
 use arrival::check_record;
@@ -7,7 +7,7 @@ use cell::Refusal;
 ghost use mathlib.Core.Path.{_≡_};
 ghost use mathlib.Core.List.{List, _∷_};
 ghost use Prim.Native.Nat.{ℕ, _+_, _≤_, min};
-ghost use lib.ListN.{drop};
+ghost use lib.ListN.{take, drop};
 ghost use Rattle.cell.specs.declared.Arrival.{Arrival};
 ghost use Rattle.layout.specs.Answer.{answerSize};
 ghost use Rattle.layout.specs.Table.{IsTable};
@@ -25,25 +25,24 @@ pub struct Checked {
     pub turn: u32,
 }
 
-// Looks at the lent records one by one, each copied out of the slice, after what was found before them. Inputs rise and
-// are below 16, so that the seventeenth record, if there is one, has a fault or stands behind one.
-pub fn check_records(table: &[u8], before: Checked, records: &[Arrival]) -> Checked
-    requires { ⌜ ((room : ℕ) × Looked (now table) room (now records) 0 before) ⌝ }
-    ensures { λ r. ⌜ ((room : ℕ) → Looked (now (table .entry)) room (now (records .entry)) 0 before
-        → Found (now (table .entry)) room (now (records .entry)) r) ⌝ }
+// Looks at the first of the held records one by one, after what was found before them.
+pub fn check_records(table: &[u8], before: Checked, records: [Arrival; 17], many: usize) -> Checked
+    requires { ⌜ (many ≤ 17) × ((room : ℕ) × Looked (now table) room (take many records) 0 before) ⌝ }
+    ensures { λ r. ⌜ ((room : ℕ) → Looked (now (table .entry)) room (take many records) 0 before
+        → Found (now (table .entry)) room (take many records) r) ⌝ }
 {
-    let mut checked: Checked = before;
-    let end: usize = few(records.len());
-    let mut n: usize = 0;
-    while n < end {
-        let a: Arrival = records[n];
+    let mut checked = before;
+    let mut n = 0;
+    while n < many {
+        let a = records[n];
         checked = check_next(table, checked, n, a);
         n += 1;
     }
     checked
 }
 
-// How many of so many records are looked at.
+// How many of so many records are looked at. Inputs rise and are below 16, so that the seventeenth record, if there is
+// one, has a fault or stands behind one.
 pub fn few(count: usize) -> usize
     ensures { λ r. ⌜ r ≡ min count 17 ⌝ }
 {

@@ -31,7 +31,7 @@ use types.SemTy.{Body}
 use types.Tokens.{lft-new, lft-end, lent-back}
 use sound.WpLaws.{FmC, fmOf, WpFn-mono}
 use denote.RattleType.{owns}
-use denote.Array.{Array, array-vals, array-tells, array-lawful, array-makes}
+use denote.Array.{Array, array-vals, array-lawful, array-makes}
 use denote.Laws.{Is, shows}
 use denote.Lend.{lends-shr-slice, lends-ref, ref-back}
 use denote.Memory.{mem, partAt, pointee}
@@ -67,7 +67,7 @@ use Rattle.arrival.proofs.Fault.Laws as F′
 use Rattle.fabric.specs.Slot.{refusalOf}
 use Rattle.lent.specs.declared.Called.{Called}
 use Rattle.lent.specs.Looked.{recordsSlot}
-use Rattle.lent.proofs.Held.{arrayTy, Front, Back, records-apart, records-room, tally-in, tally-out}
+use Rattle.lent.proofs.Held.{arrayTy, recordsVal, records-told, Front, Back, records-apart, records-room, tally-in, tally-out}
 use Rattle.lent.proofs.Called as D
 use Rattle.lent.proofs.Called.Laws as D′
 use Rattle.lent.proofs.slot as slot
@@ -106,15 +106,12 @@ recordPtr = tyRef erased imm (pointee (R.the-row .written))
 abbrev tallyPtr : Ty
 tallyPtr = tyRef erased mut (pointee (Y.the-row .written))
 
--- the machine values of a fault, a tally and an array of records
+-- the machine values of a fault and a tally
 abbrev faultVal : Fault → Val
 faultVal = EL.val F.the-type F′.the-laws
 
 abbrev tallyVal : Tally → Val
 tallyVal = LL.val Y.the-type Y′.the-laws
-
-abbrev recordsVal : List Arrival → Val
-recordsVal rs = only (array-vals (LL.vals R.the-type R′.the-laws) rs)
 
 -- the contract that the walk cites
 abbrev SlotC : {M : Type 1} (𝓤 : URA M) (H : Heap 𝓤) (A : Atoms 𝓤) (at-mem : Memory → SProp 𝓤) (run : Routine → Fun 𝓤) → Contract 𝓤
@@ -337,7 +334,7 @@ module _ {M : Type 1} (𝓤 : URA M) (H : Heap 𝓤) (A : Atoms 𝓤) (W : Given
   slot-of-walks : (C : Calls 𝓤 H) (Λ : Loops 𝓤 H) → FmC 𝓤 H (W .laws) C → Triple 𝓤 (C #lent·slot) (SlotC 𝓤 H A at-mem run) → Walks 𝓤 H A f.ended stayed (WpFn 𝓤 H C Λ code.function) (f.clauses 𝓤 H A at-mem run)
   slot-of-walks C Λ fm known = walked 𝓤 H A f.ended stayed (f.clauses 𝓤 H A at-mem run) (WpFn 𝓤 H C Λ code.function)
       (λ κs. (slice-vals, (array-vals (LL.vals R.the-type R′.the-laws), (uint-vals w64, (slice-vals, (LL.vals Y.the-type Y′.the-laws, tt))))))
-      (λ κs. (mut-slice-tells (named 0) (κs .0) u8, (array-tells R.the-row (LL.vals R.the-type R′.the-laws) (LL.tells R.the-type R′.the-laws) 17, (uint-tells w64, (mut-slice-tells (named 1) (κs .1 .0) u8, (LL.tells Y.the-type Y′.the-laws, tt))))))
+      (λ κs. (mut-slice-tells (named 0) (κs .0) u8, (records-told, (uint-tells w64, (mut-slice-tells (named 1) (κs .1 .0) u8, (LL.tells Y.the-type Y′.the-laws, tt))))))
       (λ κs qs bounds a g are. needs 𝓤 (a .1 .1 .0 ≤ 17) _ (λ enough. walk 𝓤 H A W at-mem run (κs .0) (κs .1 .0) (qs .0) (qs .1 .0)
       (a .0 .ptr .0) (a .0 .ptr .1) (a .0 .name) (a .0 .now) (are .0 .0 .1) (a .1 .0) (are .1 .0) (a .1 .1 .0) (are .1 .1 .0 .1)
       (a .1 .1 .1 .0 .ptr .0) (a .1 .1 .1 .0 .ptr .1) (a .1 .1 .1 .0 .name) (a .1 .1 .1 .0 .now) (are .1 .1 .1 .0 .0 .1) (a .1 .1 .1 .1 .0) (are .1 .1 .1 .1 .0) enough C Λ fm known))

@@ -1,8 +1,9 @@
 -- The clock, the records, then the course of the slot.
 use native.Mathlib.Omega.{arith}
+use mathlib.Core.Path.{ap, _∙_}
 use borrow.Author.Needs.{needs}
 use lib.ListN.{length}
-use Rattle.lent.proofs.Ending.{taken-runs, taken-ended}
+use Rattle.lent.proofs.Ending.{ended-fault, taken-runs, taken-ended}
 use Rattle.lent.proofs.sound_slot.Statement.{statement}
 use Rattle.lent.proofs.sound_slot.Tie as tie
 
@@ -44,9 +45,11 @@ returns c =
     let clock = none .before in
     let start = clock .before .before .before .before in
     let room = length (start .args .answer .now) in
+    let ended =
     taken-ended _ _ (start .args .answer .now) (take .take-held .result) _
     (take .take-held .ensures room (none .none-checked .ensures _ room _ (clock .clock-refusal .ensures room (start .pre .1 .0))))
-    (run .run-taken .result) _ _ (run .run-taken .ensures)
+    (run .run-taken .result) _ _ (run .run-taken .ensures) in
+    (ap (λ d. d .fault) (ended .0) ∙ ended-fault _, ended .1)
 
 pub sound-slot-spec : {M : Type 1} → statement M
 sound-slot-spec =
