@@ -169,6 +169,9 @@ module _ (table : List ℕ) (records : List Arrival) (g : Arriving table records
     unfolding arrived
     clock-is = sym (table-clock cur is-table) ∙ ap (λ z. z .clock) state
 
+    pub came-state : IsTable cur × (stateOf cur ≡ arrived s (take n records))
+    came-state = (is-table, state)
+
     pub came-all : length records ≤ n → IsTable cur × (stateOf cur ≡ arrived s records)
     came-all past = (is-table, state ∙ ap (arrived s) (take-all n records past))
 
@@ -193,24 +196,6 @@ module _ (table : List ℕ) (records : List Arrival) (g : Arriving table records
 
       among : List·Memᴰ c cs
       among = subst (λ x. List·Memᴰ x cs) at-n (getD-mem cs n (accepted (s .clock) d) inside)
-
-      pub came-next : (new : List ℕ) → arrivalFits a ≡ true
-          → new ≡ encode (entered (accepted (clockIn cur - 1) a) (stateOf cur)) → Came table records (n + 1) new
-      unfolding all?
-      came-next new fits w =
-          let slot : clockIn cur - 1 ≡ s .clock = omega (arith, clock-is) in
-          let taken : take (n + 1) records ≡ take n records ++ (a ∷ []) =
-          ap (λ k. take k records) (add-one n) ∙ take-suc records n d more in
-          record {
-            holds =
-                w
-                ∙ ap₂ (λ k z. encode (entered (accepted k a) z)) slot state
-                ∙ ap encode (entered-last s a (take n records) ∙ ap (arrived s) (sym taken));
-            fits =
-                ap (all? arrivalFits) taken
-                ∙ all?-append arrivalFits (take n records) (a ∷ [])
-                ∙ and-i _ _ (h .fits) (and-i _ _ fits refl);
-          }
 
       -- its input has had no cell yet
       room-left : length (getD (arrive (take n cs) (s .sections)) (c .input) []) < cellLimit
@@ -245,9 +230,31 @@ module _ (table : List ℕ) (records : List Arrival) (g : Arriving table records
                     (pairwise-split rises m (List·Memᴰ·head refl) (rw split at (admit .turns))),
               ))
 
-      pub came-may : MayEnter a cur
+      -- the first n and this one
+      taken : take (n + 1) records ≡ take n records ++ (a ∷ [])
+      taken = ap (λ k. take k records) (add-one n) ∙ take-suc records n d more
+
+      next-is : entered (accepted (clockIn cur - 1) a) (stateOf cur) ≡ after (n + 1)
+      next-is =
+          let slot : clockIn cur - 1 ≡ s .clock = omega (arith, clock-is) in
+          ap₂ (λ k z. entered (accepted k a) z) slot state
+          ∙ entered-last s a (take n records)
+          ∙ ap (arrived s) (sym taken)
+
+      all-fit : arrivalFits a ≡ true → all? arrivalFits (take (n + 1) records) ≡ true
+      unfolding all?
+      all-fit fits =
+          ap (all? arrivalFits) taken
+          ∙ all?-append arrivalFits (take n records) (a ∷ [])
+          ∙ and-i _ _ (h .fits) (and-i _ _ fits refl)
+
+      pub came-next : (new : List ℕ) → arrivalFits a ≡ true
+          → new ≡ encode (entered (accepted (clockIn cur - 1) a) (stateOf cur)) → Came table records (n + 1) new
+      came-next new fits w = record { holds = w ∙ ap encode next-is; fits = all-fit fits }
+
+      pub came-may : arrivalFits a ≡ true → MayEnter a cur
       unfolding arrived accepted
-      came-may =
+      came-may fits =
           record {
             sound = is-table;
             risen = omega (arith, clock-is);
@@ -255,6 +262,7 @@ module _ (table : List ℕ) (records : List Arrival) (g : Arriving table records
             room = room-now;
             output = few-outputs;
             flow = few-flows;
+            next = ap sound next-is ∙ after-sound (n + 1) (all-fit fits);
           }
         where
           ports : s .ports ≤ portLimit

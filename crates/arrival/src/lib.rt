@@ -2,8 +2,10 @@
 // of its input, on the bytes of the table in place.
 ghost use mathlib.Core.Path.{_≡_};
 ghost use mathlib.Core.Option.{Option};
-ghost use Prim.Native.Nat.{_+_, _-_, _*_, _/_, _≤_, _<_};
-ghost use lib.ListN.{length};
+ghost use Prim.Native.Nat.{_+_, _-_, _*_, _/_, _^_, _≤_, _<_};
+ghost use mathlib.Core.Bool.{true, false};
+ghost use lib.Dec.{eqb};
+ghost use lib.ListN.{length, getD};
 ghost use Rattle.cell.specs.declared.Cell.{Cell};
 ghost use Rattle.cell.specs.Cell.{accepted};
 ghost use Rattle.cell.specs.Limits.{clockEnd};
@@ -14,12 +16,16 @@ ghost use Rattle.layout.specs.Entry.{entryAt, portsIn, clockIn, countIn};
 ghost use Rattle.layout.specs.Records.{recordStart, recordAt};
 ghost use Rattle.layout.specs.Table.{tableSize, entrySize, entryBytes, stateOf, encode, IsTable};
 ghost use Rattle.table.specs.Entries.{flowWord};
-ghost use Rattle.arrival.specs.Arrival.{raised, entered, MayEnter, enterPlace, movedUp};
+ghost use Rattle.places.specs.View.{placesIn};
+ghost use Rattle.places.specs.Viewed.{SetsOf};
+ghost use Rattle.arrival.specs.Arrival.{raised, entered, MayEnter, enterPlace, movedUp, openedWith};
 ghost use Rattle.arrival.specs.Fault.{sectionIn, faultAt, turnAfter, outranks};
 use cell::Arrival;
 use cell::Cell;
 use cell::Refusal;
 use cell::Switch;
+use table::entry::CELLS;
+use table::entry::PORTS;
 
 // What the checks of a slot's records find: nothing, or the first fault and its record's place, from 1.
 pub enum Fault {
@@ -38,13 +44,25 @@ pub fn raise_clock(table: &mut [u8])
 }
 
 // Lets the cell of a record enter the list of its input, which has room for it. The clock has risen: the cell's slot is
-// the one before.
-pub fn arrive(table: &mut [u8], a: Arrival)
+// the one before. The sets of the table's cells by place follow it.
+pub fn arrive(
+    table: &mut [u8],
+    listed: &mut [u64; PORTS],
+    heads: &mut [u64; PORTS],
+    crossed: &mut [u64; PORTS],
+    buffered: &mut [u64; PORTS],
+    a: Arrival,
+)
     requires { ⌜ MayEnter a (now table) ⌝ }
+    requires { ⌜ SetsOf (now table) (placesIn (now table)) (now listed) (now heads) (now crossed) (now buffered) ⌝ }
     ensures { λ _. ⌜ now (table .exit) ≡ encode (entered (accepted (clockIn (now (table .entry)) - 1) a) (stateOf (now (table .entry)))) ⌝ }
+    ensures { λ _. ⌜ SetsOf (now (table .exit)) (placesIn (now (table .exit))) (now (listed .exit)) (now (heads .exit))
+        (now (crossed .exit)) (now (buffered .exit)) ⌝ }
 {
     let clock = table::entry::clock_of(table);
-    enter(table, cell_of(a, clock - 1));
+    let at = enter(table, cell_of(a, clock - 1));
+    let input = a.input as usize;
+    open_sets(listed, heads, crossed, buffered, input, at - CELLS * input);
 }
 
 // The checks of one record, in their order. `turn` is the lowest input whose turn it is.
@@ -134,12 +152,13 @@ fn input_full(table: &[u8], c: Cell) -> bool
     Switch::input_full(table::entry::count_of(table, c.input as usize) as u32)
 }
 
-// Lets a cell enter the list of its input, which has room for it.
-fn enter(table: &mut [u8], c: Cell)
+// Lets a cell enter the list of its input, which has room for it. Gives the number of its entry.
+fn enter(table: &mut [u8], c: Cell) -> usize
     requires { ⌜ IsTable (now table) ⌝ }
     requires { ⌜ (c .input < portsIn (now table)) × (countIn (now table) (c .input) < 64) ⌝ }
     requires { ⌜ (c .output < 256) × (c .flow < 256) ⌝ }
     ensures { λ _. ⌜ now (table .exit) ≡ encode (entered c (stateOf (now (table .entry)))) ⌝ }
+    ensures { λ r. ⌜ r ≡ 64 * c .input + enterPlace c (sectionIn (now (table .entry)) (c .input)) ⌝ }
 {
     let input = c.input as usize;
     let count = table::entry::count_of(table, input);
@@ -147,6 +166,31 @@ fn enter(table: &mut [u8], c: Cell)
     move_up(table, at, 64 * input + count);
     table::entry::write_entry(table, at, c, table::entry::LISTED);
     table::entry::write_count(table, input, count + 1);
+    at
+}
+
+// The sets of an input when a listed cell has come to a position: the cells from there on stand one later. It is a head if
+// it comes to the front.
+fn open_sets(
+    listed: &mut [u64; PORTS],
+    heads: &mut [u64; PORTS],
+    crossed: &mut [u64; PORTS],
+    buffered: &mut [u64; PORTS],
+    input: usize,
+    position: usize,
+)
+    requires { ⌜ (input < 16) × (position < 64) ⌝ }
+    requires { ⌜ (getD (now listed) input 0 < 2 ^ 63) × (getD (now heads) input 0 < 2 ^ 63)
+        × (getD (now crossed) input 0 < 2 ^ 63) × (getD (now buffered) input 0 < 2 ^ 63) ⌝ }
+    ensures { λ _. ⌜ now (listed .exit) ≡ openedWith true (now (listed .entry)) input position ⌝ }
+    ensures { λ _. ⌜ now (heads .exit) ≡ openedWith (eqb position 0) (now (heads .entry)) input position ⌝ }
+    ensures { λ _. ⌜ now (crossed .exit) ≡ openedWith false (now (crossed .entry)) input position ⌝ }
+    ensures { λ _. ⌜ now (buffered .exit) ≡ openedWith false (now (buffered .entry)) input position ⌝ }
+{
+    listed[input] = sets::with(sets::open(listed[input], position), position);
+    heads[input] = sets::with_if(sets::open(heads[input], position), position, position == 0);
+    crossed[input] = sets::open(crossed[input], position);
+    buffered[input] = sets::open(buffered[input], position);
 }
 
 // The number that a new cell gets: it stands right after the last cell of its flow in the list, or in front if the

@@ -16,6 +16,8 @@ ghost use Rattle.layout.specs.Answer.{answerBytes, answerSize};
 ghost use Rattle.layout.specs.Host.{filled};
 ghost use Rattle.layout.specs.Number.{bytesOf};
 ghost use Rattle.layout.specs.Table.{IsTable, encode, stateOf};
+ghost use Rattle.places.specs.View.{placesIn};
+ghost use Rattle.places.specs.Viewed.{SetsOf};
 ghost use Rattle.fabric.specs.Slot.{courseOf, Scheduled};
 
 // Scheduling is done twice.
@@ -27,34 +29,47 @@ struct Proposals {
     second: u32,
 }
 
-// The course of a slot whose cells have arrived and whose clock has risen.
-pub fn run(table: &mut [u8], answer: &mut [u8])
-    requires { ⌜ IsTable (now table) ⌝ }
-    requires { ⌜ answerSize ≤ length (now answer) ⌝ }
+// The course of a slot whose cells have arrived and whose clock has risen, with the sets of its cells by place.
+pub fn run(
+    table: &mut [u8],
+    listed: &mut [u64; PORTS],
+    heads: &mut [u64; PORTS],
+    crossed: &[u64; PORTS],
+    buffered: &[u64; PORTS],
+    answer: &mut [u8],
+)
+    requires { ⌜ IsTable (now table) × (answerSize ≤ length (now answer)) ⌝ }
+    requires { ⌜ SetsOf (now table) (placesIn (now table)) (now listed) (now heads) (now crossed) (now buffered) ⌝ }
     ensures { λ _. ⌜ now (table .exit) ≡ encode (courseOf (stateOf (now (table .entry))) .switch) ⌝ }
     ensures { λ _. ⌜ now (answer .exit) ≡ filled (answerBytes (answerOf (courseOf (stateOf (now (table .entry)))))) (now (answer .entry)) ⌝ }
 {
     let mut best = [NOWHERE; PORTS];
-    let proposals = schedule(table, &mut best);
+    let proposals = schedule(table, listed, heads, crossed, buffered, &mut best);
     depart(table, &best, answer);
     write_proposals(answer, proposals);
 }
 
-// The two phases, on a view of the table that is made once. `best` is lent with no cell in it and gets the best buffered
-// cell of each output.
-fn schedule(table: &mut [u8], best: &mut [u16; PORTS]) -> Proposals
+// The two phases, on a view of the table that is made once, from the sets of its cells by place. `best` is lent with no
+// cell in it and gets the best buffered cell of each output.
+fn schedule(
+    table: &mut [u8],
+    listed: &mut [u64; PORTS],
+    heads: &mut [u64; PORTS],
+    crossed: &[u64; PORTS],
+    buffered: &[u64; PORTS],
+    best: &mut [u16; PORTS],
+) -> Proposals
     requires { ⌜ IsTable (now table) × (now best ≡ replicate portLimit nowhere) ⌝ }
+    requires { ⌜ SetsOf (now table) (placesIn (now table)) (now listed) (now heads) (now crossed) (now buffered) ⌝ }
     ensures { λ r. ⌜ Scheduled (stateOf (now (table .entry))) (now (table .exit)) (now (best .exit)) (r .first) (r .second) ⌝ }
 {
-    let mut listed = [0u64; PORTS];
-    let mut heads = [0u64; PORTS];
     let mut cross = [[NOWHERE; PORTS]; PORTS];
     let mut keys = [[NO_KEY; PORTS]; PORTS];
-    load(table, &mut listed, &mut heads, &mut cross, &mut keys, best);
+    load(table, crossed, buffered, &mut cross, &mut keys, best);
     let mut made = [0u32; PHASES];
     let mut n = 0;
     while n < PHASES {
-        made[n] = phase(table, &mut listed, &mut heads, &mut cross, &mut keys, best);
+        made[n] = phase(table, listed, heads, &mut cross, &mut keys, best);
         n += 1;
     }
     let first = made[0];

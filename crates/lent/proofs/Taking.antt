@@ -13,6 +13,7 @@ use Rattle.cell.specs.declared.Arrival.{Arrival}
 use Rattle.cell.specs.declared.Refusal.{Refusal}
 use Rattle.cell.specs.Cell.{accepted, arrivalFits}
 use Rattle.model.specs.Checks.{done}
+use Rattle.model.specs.Crossbar.{arrive}
 use Rattle.layout.specs.Entry.{clockIn}
 use Rattle.layout.specs.Table.{stateOf, encode}
 use Rattle.arrival.specs.declared.Fault.{Fault}
@@ -20,11 +21,13 @@ use Rattle.arrival.specs.declared.Fault.the-variants.{Clear, At}
 use Rattle.arrival.specs.Arrival.{raised, entered, arrived, Arriving, MayEnter}
 use Rattle.arrival.specs.Fault.{coming}
 use Rattle.arrival.proofs.Faults.{clear-not}
-use Rattle.arrival.proofs.OneByOne.{Came, came-none, came-may, came-next, came-all}
+use Rattle.arrival.proofs.OneByOne.{Came, came-none, came-may, came-next, came-all, came-state}
+use Rattle.arrival.proofs.Opening.{sets-kept}
+use Rattle.arrival.proofs.Stored.{table-ports}
 use Rattle.fabric.specs.Slot.{courseOf}
 use Rattle.fabric.proofs.Course.{run-course}
 use Rattle.lent.specs.Looked.{FoundAt}
-use Rattle.lent.specs.Taken.{Begun, Entered, Taken}
+use Rattle.lent.specs.Taken.{Begun, Entered, SetsIf, Taken}
 use Rattle.lent.proofs.Looking.{lent-fault}
 
 ------------------------------------------------------------------------
@@ -46,9 +49,9 @@ module _ (table : List ℕ) (records : List Arrival) where
     coming-inside (At r place) (e, h) more = absurd (omega arith)
 
     pub coming-may : (f : Fault) → (f ≡ Clear → Arriving table records) → Coming table records f end n cur → n < end
-        → (d : Arrival) → MayEnter (getD records n d) cur
-    coming-may Clear g (e, h) more d = came-may table records (g refl) n cur h (omega arith) d
-    coming-may (At r place) g (e, h) more d = absurd (omega arith)
+        → (d : Arrival) → arrivalFits (getD records n d) ≡ true → MayEnter (getD records n d) cur
+    coming-may Clear g (e, h) more d fits = came-may table records (g refl) n cur h (omega arith) d fits
+    coming-may (At r place) g (e, h) more d fits = absurd (omega arith)
 
     pub coming-next : (f : Fault) → (f ≡ Clear → Arriving table records) → Coming table records f end n cur → n < end
         → (d : Arrival) → arrivalFits (getD records n d) ≡ true → (new : List ℕ)
@@ -61,6 +64,20 @@ module _ (table : List ℕ) (records : List Arrival) where
         → Entered table records f cur
     coming-entered Clear g (e, h) past = came-all table records (g refl) n cur h (omega arith)
     coming-entered (At r place) g (e, h) past = h
+
+------------------------------------------------------------------------
+-- the sets of the cells by place, before the first of them
+
+module _ (table : List ℕ) (records : List Arrival) (end : ℕ) (new : List ℕ) (listed heads crossed buffered : List ℕ) where
+  pub sets-begun : (f : Fault) → (f ≡ Clear → Arriving table records) → Coming table records f end 0 new
+      → SetsIf table listed heads crossed buffered → SetsIf new listed heads crossed buffered
+  unfolding arrived coming arrive
+  sets-begun Clear g (e, h) w t =
+      let now = came-state table records (g refl) 0 new h in
+      sets-kept table new (g refl .sound) (now .0)
+      (sym (table-ports new (now .0)) ∙ ap (λ s. s .ports) (now .1) ∙ table-ports table (g refl .sound))
+      (ap (λ s. s .sections) (now .1)) listed heads crossed buffered (w (g refl .sound))
+  sets-begun (At r place) g (e, h) w t = rw h (w (rw h at t))
 
 ------------------------------------------------------------------------
 -- the first of them

@@ -9,6 +9,8 @@ use Rattle.layout.specs.Table.{stateOf, encode, IsTable}
 use Rattle.arrival.specs.declared.Fault.{Fault}
 use Rattle.arrival.specs.declared.Fault.the-variants.{Clear, At}
 use Rattle.arrival.specs.Arrival.{raised, arrived}
+use Rattle.places.specs.View.{placesIn}
+use Rattle.places.specs.Viewed.{SetsOf}
 use Rattle.fabric.specs.Slot.{courseOf}
 use Rattle.lent.specs.Looked.{recordsSlot}
 
@@ -21,6 +23,10 @@ Begun table (At r place) many new end = (end ≡ 0) × (new ≡ table)
 abbrev pub Entered : List ℕ → List Arrival → Fault → List ℕ → Type 0
 Entered table records Clear new = IsTable new × (stateOf new ≡ arrived (stateOf table) records)
 Entered table records (At r place) new = new ≡ table
+
+-- the sets of a table's cells by place, if it is a table
+abbrev pub SetsIf : List ℕ → List ℕ → List ℕ → List ℕ → List ℕ → Type 0
+SetsIf table listed heads crossed buffered = IsTable table → SetsOf table (placesIn table) listed heads crossed buffered
 
 -- the slot goes on from the new table, or it is refused and the table is as it was
 abbrev pub Taken : List ℕ → ℕ → List Arrival → Fault → List ℕ → Type 0

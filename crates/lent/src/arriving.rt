@@ -5,6 +5,7 @@ use arrival::Fault;
 use arrival::arrive;
 use arrival::raise_clock;
 use cell::Arrival;
+use table::entry::PORTS;
 ghost use mathlib.Core.Path.{_≡_};
 ghost use Prim.Native.Nat.{ℕ, _≤_, _<_};
 ghost use lib.ListN.{take};
@@ -14,30 +15,63 @@ ghost use Rattle.layout.specs.Table.{IsTable};
 ghost use Rattle.arrival.specs.declared.Fault.the-variants.{Clear};
 ghost use Rattle.arrival.specs.Arrival.{Arriving};
 ghost use Rattle.lent.specs.Looked.{Looked};
-ghost use Rattle.lent.specs.Taken.{Begun, Entered, Taken};
+ghost use Rattle.lent.specs.Taken.{Begun, Entered, SetsIf, Taken};
 
 // Looks at the first of the held records, after what was found before them, and lets their cells arrive. Behind a fault
-// the table is as it was.
-pub fn take_held(table: &mut [u8], before: Checked, records: [Arrival; 17], many: usize) -> Fault
+// the table is as it was. The sets of its cells by place follow it.
+pub fn take_held(
+    table: &mut [u8],
+    listed: &mut [u64; PORTS],
+    heads: &mut [u64; PORTS],
+    crossed: &mut [u64; PORTS],
+    buffered: &mut [u64; PORTS],
+    before: Checked,
+    records: [Arrival; 17],
+    many: usize,
+) -> Fault
     requires { ⌜ (many ≤ 17) × ((room : ℕ) × Looked (now table) room (take many records) 0 before) ⌝ }
+    requires { ⌜ SetsIf (now table) (now listed) (now heads) (now crossed) (now buffered) ⌝ }
     ensures { λ r. ⌜ ((room : ℕ) → Looked (now (table .entry)) room (take many records) 0 before
         → Taken (now (table .entry)) room (take many records) r (now (table .exit))) ⌝ }
+    ensures { λ _. ⌜ SetsIf (now (table .exit)) (now (listed .exit)) (now (heads .exit))
+        (now (crossed .exit)) (now (buffered .exit)) ⌝ }
 {
     let fault = check_records(table, before, records, many).fault;
-    arrive_records(table, fault, records, many);
+    arrive_records(
+        table,
+        listed,
+        heads,
+        crossed,
+        buffered,
+        fault,
+        records,
+        many,
+    );
     fault
 }
 
 // Lets the cells of the first of the held records arrive.
-fn arrive_records(table: &mut [u8], fault: Fault, records: [Arrival; 17], many: usize)
+fn arrive_records(
+    table: &mut [u8],
+    listed: &mut [u64; PORTS],
+    heads: &mut [u64; PORTS],
+    crossed: &mut [u64; PORTS],
+    buffered: &mut [u64; PORTS],
+    fault: Fault,
+    records: [Arrival; 17],
+    many: usize,
+)
     requires { ⌜ (many ≤ 17) × (fault ≡ Clear → Arriving (now table) (take many records)) ⌝ }
+    requires { ⌜ SetsIf (now table) (now listed) (now heads) (now crossed) (now buffered) ⌝ }
     ensures { λ _. ⌜ Entered (now (table .entry)) (take many records) fault (now (table .exit)) ⌝ }
+    ensures { λ _. ⌜ SetsIf (now (table .exit)) (now (listed .exit)) (now (heads .exit))
+        (now (crossed .exit)) (now (buffered .exit)) ⌝ }
 {
     let end = begin(table, fault, many);
     let mut n = 0;
     while n < end {
         let a = records[n];
-        arrive(table, a);
+        arrive(table, listed, heads, crossed, buffered, a);
         n += 1;
     }
 }

@@ -8,12 +8,14 @@ use arrival::Fault;
 use arriving::take_held;
 use cell::Arrival;
 use cell::Tally;
+use loading::fill_sets;
 use records::before_records;
 use records::clock_refusal;
 use records::few;
 use records::none_checked;
 use running::Ended;
 use running::run_taken;
+use table::entry::PORTS;
 use tally::count;
 ghost use mathlib.Core.Path.{_≡_};
 ghost use Prim.Native.Nat.{_≤_, min};
@@ -67,15 +69,43 @@ fn hold(records: &[Arrival]) -> [Arrival; 17]
 }
 
 // The slot with the first of the held records, and what came of it; the tally is not counted in.
-fn run_held(table: &mut [u8], held: [Arrival; 17], many: usize, answer: &mut [u8]) -> Ended
-    requires { ⌜ many ≤ 17 ⌝ }
-    ensures { λ r. ⌜ r ≡ endedOf (recordsSlot (now (table .entry)) (length (now (answer .entry))) (take many held)) ⌝ }
-    ensures { λ _. ⌜ now (table .exit) ≡ tableAfter (now (table .entry)) (recordsSlot (now (table .entry)) (length (now (answer .entry))) (take many held)) ⌝ }
-    ensures { λ _. ⌜ now (answer .exit) ≡ answerAfter (now (answer .entry)) (recordsSlot (now (table .entry)) (length (now (answer .entry))) (take many held)) ⌝ }
+fn run_held(table: &mut [u8], held: [Arrival; 17], number: usize, answer: &mut [u8]) -> Ended
+    requires { ⌜ number ≤ 17 ⌝ }
+    ensures { λ r. ⌜ r ≡ endedOf (recordsSlot (now (table .entry)) (length (now (answer .entry))) (take number held)) ⌝ }
+    ensures { λ _. ⌜ now (table .exit) ≡ tableAfter (now (table .entry)) (recordsSlot (now (table .entry)) (length (now (answer .entry))) (take number held)) ⌝ }
+    ensures { λ _. ⌜ now (answer .exit) ≡ answerAfter (now (answer .entry)) (recordsSlot (now (table .entry)) (length (now (answer .entry))) (take number held)) ⌝ }
 {
-    let before = before_records(table, answer.len());
-    let taken = take_held(table, before, held, many);
-    run_taken(table, answer, taken)
+    let mut listed = [0u64; PORTS];
+    let mut heads = [0u64; PORTS];
+    let mut crossed = [0u64; PORTS];
+    let mut buffered = [0u64; PORTS];
+    let before = before_records(
+        table,
+        answer.len(),
+        &mut listed,
+        &mut heads,
+        &mut crossed,
+        &mut buffered,
+    );
+    let taken = take_held(
+        table,
+        &mut listed,
+        &mut heads,
+        &mut crossed,
+        &mut buffered,
+        before,
+        held,
+        number,
+    );
+    run_taken(
+        table,
+        &mut listed,
+        &mut heads,
+        &crossed,
+        &buffered,
+        answer,
+        taken,
+    )
 }
 
 // What a slot call leaves of what it was passed by value: its refusal, and the tally.
@@ -116,7 +146,29 @@ pub fn sound_slot(table: &mut [u8], records: [Arrival; 17], many: usize, answer:
     ensures { λ _. ⌜ now (table .exit) ≡ tableAfter (now (table .entry)) (recordsSlot (now (table .entry)) (length (now (answer .entry))) (take many records)) ⌝ }
     ensures { λ _. ⌜ now (answer .exit) ≡ answerAfter (now (answer .entry)) (recordsSlot (now (table .entry)) (length (now (answer .entry))) (take many records)) ⌝ }
 {
+    let mut listed = [0u64; PORTS];
+    let mut heads = [0u64; PORTS];
+    let mut crossed = [0u64; PORTS];
+    let mut buffered = [0u64; PORTS];
+    fill_sets(table, &mut listed, &mut heads, &mut crossed, &mut buffered);
     let before = none_checked(clock_refusal(table));
-    let taken = take_held(table, before, records, many);
-    run_taken(table, answer, taken).fault
+    let taken = take_held(
+        table,
+        &mut listed,
+        &mut heads,
+        &mut crossed,
+        &mut buffered,
+        before,
+        records,
+        many,
+    );
+    run_taken(
+        table,
+        &mut listed,
+        &mut heads,
+        &crossed,
+        &buffered,
+        answer,
+        taken,
+    ).fault
 }

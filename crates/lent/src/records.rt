@@ -4,6 +4,7 @@ use arrival::cell_of;
 use arrival::check_record;
 use cell::Arrival;
 use cell::Refusal;
+use table::entry::PORTS;
 ghost use mathlib.Core.Path.{_≡_};
 ghost use mathlib.Core.List.{List, _∷_};
 ghost use Prim.Native.Nat.{ℕ, _+_, _≤_, min};
@@ -12,6 +13,7 @@ ghost use Rattle.cell.specs.declared.Arrival.{Arrival};
 ghost use Rattle.layout.specs.Answer.{answerSize};
 ghost use Rattle.layout.specs.Table.{IsTable};
 ghost use Rattle.lent.specs.Looked.{Before, Looked, Standing, Found};
+ghost use Rattle.lent.specs.Taken.{SetsIf};
 
 // The bytes of an answer.
 const ANSWER_BYTES: usize = 456;
@@ -52,11 +54,20 @@ pub fn few(count: usize) -> usize
     17
 }
 
-// What is found before any record is looked at.
-pub fn before_records(table: &[u8], room: usize) -> Checked
+// What is found before any record is looked at. The check of the table sorts its cells by place.
+pub fn before_records(
+    table: &[u8],
+    room: usize,
+    listed: &mut [u64; PORTS],
+    heads: &mut [u64; PORTS],
+    crossed: &mut [u64; PORTS],
+    buffered: &mut [u64; PORTS],
+) -> Checked
     ensures { λ r. ⌜ ((records : List Arrival) → Looked (now (table .entry)) room records 0 r) ⌝ }
+    ensures { λ _. ⌜ SetsIf (now (table .entry)) (now (listed .exit)) (now (heads .exit))
+        (now (crossed .exit)) (now (buffered .exit)) ⌝ }
 {
-    none_checked(first_refusal(table, room))
+    none_checked(first_refusal(table, room, listed, heads, crossed, buffered))
 }
 
 // No record has been looked at.
@@ -67,10 +78,19 @@ pub fn none_checked(fault: Fault) -> Checked
 }
 
 // 2, 10 and 3.
-fn first_refusal(table: &[u8], room: usize) -> Fault
+fn first_refusal(
+    table: &[u8],
+    room: usize,
+    listed: &mut [u64; PORTS],
+    heads: &mut [u64; PORTS],
+    crossed: &mut [u64; PORTS],
+    buffered: &mut [u64; PORTS],
+) -> Fault
     ensures { λ r. ⌜ Before (now (table .entry)) room r ⌝ }
+    ensures { λ _. ⌜ SetsIf (now (table .entry)) (now (listed .exit)) (now (heads .exit))
+        (now (crossed .exit)) (now (buffered .exit)) ⌝ }
 {
-    if !table::check::is_table(table) {
+    if !table::check::sort_table(table, listed, heads, crossed, buffered) {
         return Fault::At(Refusal::BrokenTable, 0);
     }
     if room < ANSWER_BYTES {

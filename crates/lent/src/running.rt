@@ -1,6 +1,7 @@
 // The course of a slot whose records have been taken.
 use arrival::Fault;
 use fabric::slot::run;
+use table::entry::PORTS;
 ghost use mathlib.Core.Path.{_≡_};
 ghost use Prim.Native.Nat.{_≤_};
 ghost use lib.ListN.{length};
@@ -8,6 +9,7 @@ ghost use Rattle.layout.specs.Answer.{answerSize};
 ghost use Rattle.layout.specs.Host.{tableAfter, answerAfter};
 ghost use Rattle.layout.specs.Table.{IsTable};
 ghost use Rattle.arrival.specs.declared.Fault.the-variants.{Clear};
+ghost use Rattle.lent.specs.Taken.{SetsIf};
 ghost use Rattle.lent.specs.Ended.{takenOutcome, endedOf, sentIn};
 
 // What came of a slot: its refusal if it is turned back, and its departures if it ran.
@@ -17,9 +19,19 @@ pub struct Ended {
     pub departures: u64,
 }
 
-// Runs the slot from the table after its arrivals if no fault was found; else nothing is written.
-pub fn run_taken(table: &mut [u8], answer: &mut [u8], fault: Fault) -> Ended
+// Runs the slot from the table after its arrivals, with the sets of its cells by place, if no fault was found; else nothing
+// is written.
+pub fn run_taken(
+    table: &mut [u8],
+    listed: &mut [u64; PORTS],
+    heads: &mut [u64; PORTS],
+    crossed: &[u64; PORTS],
+    buffered: &[u64; PORTS],
+    answer: &mut [u8],
+    fault: Fault,
+) -> Ended
     requires { ⌜ (fault ≡ Clear → IsTable (now table) × (answerSize ≤ length (now answer))) ⌝ }
+    requires { ⌜ SetsIf (now table) (now listed) (now heads) (now crossed) (now buffered) ⌝ }
     ensures { λ r. ⌜ r ≡ endedOf (takenOutcome (now (table .entry)) fault) ⌝ }
     ensures { λ _. ⌜ now (table .exit) ≡ tableAfter (now (table .entry)) (takenOutcome (now (table .entry)) fault) ⌝ }
     ensures { λ _. ⌜ now (answer .exit) ≡ answerAfter (now (answer .entry)) (takenOutcome (now (table .entry)) fault) ⌝ }
@@ -31,7 +43,7 @@ pub fn run_taken(table: &mut [u8], answer: &mut [u8], fault: Fault) -> Ended
             departures: 0,
         };
     };
-    run(table, answer);
+    run(table, listed, heads, crossed, buffered, answer);
     Ended {
         fault,
         ran: true,

@@ -27,13 +27,13 @@ use Rattle.layout.proofs.Number.{fits32-below}
 use Rattle.layout.proofs.Table.{decode-bytes}
 use Rattle.places.specs.Choices.{nowhere, betterOf, BestAmong, empty}
 use Rattle.places.specs.View.{waitingAt, waitingIn, placesIn, InTable}
-use Rattle.places.specs.Viewed.{noKey, keyAt, Buffered}
+use Rattle.places.specs.Viewed.{noKey, keyAt, Buffered, bufferedSet}
 use Rattle.places.proofs.Choices.{Ordered, best-same, best-more, better-first, better-over, better-under}
 use Rattle.places.proofs.Keys.{slot-below, over-keys}
 use Rattle.places.proofs.Own.{table-readable, waitingIn-orderly}
 use Rattle.places.proofs.Placed.{decode-entry}
 use Rattle.places.proofs.Window.{inTable-i, inTable-below}
-use Rattle.loading.specs.Loading.{bufferedSet, BufferedBelow, BestBelow}
+use Rattle.loading.specs.Loading.{BufferedBelow, BestBelow}
 use Rattle.loading.proofs.Walk.{Passing, passing-start, passing-end, passing-this, passing-below, passing-next}
 use Rattle.loading.proofs.Crossing.{keyAt-cell, keyAt-none}
 

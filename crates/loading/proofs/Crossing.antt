@@ -25,11 +25,11 @@ use Rattle.layout.specs.Table.{placeOf, IsTable}
 use Rattle.places.specs.Choices.{nowhere}
 use Rattle.places.specs.View.{waitingAt, waitingIn, InTable, crosspointAt, placesIn}
 use Rattle.places.specs.Scan.{Readable}
-use Rattle.places.specs.Viewed.{noKey, keyAt}
+use Rattle.places.specs.Viewed.{noKey, keyAt, crossedSet}
 use Rattle.places.proofs.Own.{table-readable, waitingIn-single}
 use Rattle.places.proofs.Squares.{put, put-square, put-same, put-other, uniform-square, uniform-at}
 use Rattle.places.proofs.Window.{inTable-i, inTable-below, waitingAt-input}
-use Rattle.loading.specs.Loading.{crossedSet, Crossed, CrossedBelow}
+use Rattle.loading.specs.Loading.{Crossed, CrossedBelow}
 use Rattle.loading.proofs.Walk.{Passing, passing-start, passing-end, passing-this, passing-below, passing-next}
 
 pub keyAt-cell : (table : List ℕ) (k : ℕ) → k < nowhere → keyAt table k ≡ key (entryAt table k .cell)

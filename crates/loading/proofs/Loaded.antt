@@ -1,7 +1,6 @@
 -- The view, input by input.
---     loaded-start     blank arrays, of no input
---     lists-put        the lists of one input more
---     loaded-end       of all inputs, it is the table's
+--     sets-start, sets-put, sets-end      the sets of no input, of one more, of all: the table's
+--     loaded-start, loaded-end            the crosspoints and buffers of no input, and of all
 use Prim.Native.Nat.{ℕ, _+_, _*_, _≤_, _<_}
 use native.Mathlib.Omega.{arith}
 use mathlib.Core.Bool.{Bool, true}
@@ -18,67 +17,70 @@ use Rattle.layout.specs.Entry.{portsIn, countIn}
 use Rattle.layout.specs.Table.{stateOf, IsTable}
 use Rattle.layout.proofs.Table.{decode-sound, sound-length}
 use Rattle.places.specs.View.{waitingAt, waitingIn, crosspointAt, placesIn, Agrees}
-use Rattle.places.specs.Viewed.{noKey, listedSet, headSet, ListsOf, BestBuffered, Viewed, Blank}
+use Rattle.places.specs.Viewed.{noKey, listedSet, headSet, crossedSet, bufferedSet, SetsOf, NoSets}
+use Rattle.places.specs.Viewed.{BestBuffered, Occupied, Blank}
 use Rattle.places.specs.Scan.{Readable}
 use Rattle.places.proofs.Choices.{best-same}
 use Rattle.places.proofs.Own.{table-readable}
 use Rattle.places.proofs.Placed.{decode-ports, decode-count}
 use Rattle.places.proofs.Window.{inTable-e, inTable-input, waitingAt-input}
-use Rattle.loading.specs.Loading.{ListsBelow, Crossed, LoadedBelow}
+use Rattle.loading.specs.Loading.{Sorted, FilledBelow, SetsBelow, Crossed, LoadedBelow}
 use Rattle.loading.proofs.Crossing.{crossed-none}
 use Rattle.loading.proofs.Buffers.{best-none}
 
 ------------------------------------------------------------------------
--- blank arrays
+-- no input
 
-pub loaded-start : (table listed heads : List ℕ) (cross keys : List (List ℕ)) (best : List ℕ)
-    → Blank listed heads cross keys best
-    → LoadedBelow table 0 listed heads cross keys best (replicate 16 noKey)
-loaded-start table listed heads cross keys best b =
-    rw (b .no-lists, b .no-heads, b .no-crosspoints, b .no-keys, b .no-buffers)
+none-filled : (is : ℕ → ℕ) → FilledBelow is 0 (replicate 16 0)
+none-filled is =
+    record { size = refl; at = λ i h. absurd (omega arith); rest = λ i _ h. getD-replicate 16 i 0 0 h }
+
+pub sets-start : (table listed heads crossed buffered : List ℕ) → NoSets listed heads crossed buffered
+    → SetsBelow table 0 listed heads crossed buffered
+sets-start table listed heads crossed buffered b =
+    rw (b .no-lists, b .no-heads, b .no-crossed, b .no-buffered)
     (record {
-      lists =
-          record {
-            listed-size = refl;
-            heads-size = refl;
-            listed-at = λ i h. absurd (omega arith);
-            heads-at = λ i h. absurd (omega arith);
-            listed-rest = λ i _ h. getD-replicate 16 i 0 0 h;
-            heads-rest = λ i _ h. getD-replicate 16 i 0 0 h;
-          };
-      crossed = crossed-none table (placesIn table);
-      bests = best-none table (placesIn table);
+      lists = none-filled (listedSet table (placesIn table));
+      firsts = none-filled (headSet table (placesIn table));
+      crosses = none-filled (crossedSet table (placesIn table));
+      buffers = none-filled (bufferedSet table (placesIn table));
     })
+
+pub loaded-start : (table : List ℕ) (cross keys : List (List ℕ)) (best : List ℕ) → Blank cross keys best
+    → LoadedBelow table 0 cross keys best (replicate 16 noKey)
+loaded-start table cross keys best b =
+    rw (b .no-crosspoints, b .no-keys, b .no-buffers)
+    (record { crossed = crossed-none table (placesIn table); bests = best-none table (placesIn table) })
 
 ------------------------------------------------------------------------
 -- one input more
 
--- a number written for an input, where those before it are as they should be and the rest are 0
-module _ (is : ℕ → ℕ) (input : ℕ) (port : input < 16) (l : List ℕ) (size : length l ≡ 16) (n : ℕ) (own : n ≡ is input) where
-  put-done : ((i : ℕ) → i < input → getD l i 0 ≡ is i) → (i : ℕ) → i < input + 1 → getD (set l input n) i 0 ≡ is i
-  put-done done i h = go (compare i input)
-    where
-      go : Compared i input → getD (set l input n) i 0 ≡ is i
-      go (below d) = getD-set-other l input i n 0 (omega arith) ∙ done i d
-      go (equal d) =
-          ap (λ i. getD (set l input n) i 0) d ∙ getD-set-same l input n 0 (omega arith) ∙ own ∙ ap is (sym d)
-      go (above d) = absurd (omega arith)
-
-put-rest : (input : ℕ) (l : List ℕ) (n : ℕ) → ((i : ℕ) → input ≤ i → i < 16 → getD l i 0 ≡ 0)
-    → (i : ℕ) → input + 1 ≤ i → i < 16 → getD (set l input n) i 0 ≡ 0
-put-rest input l n rest i low h = getD-set-other l input i n 0 (omega arith) ∙ rest i (omega arith) h
-
-pub lists-put : (table places : List ℕ) (input : ℕ) (listed heads : List ℕ) (l h : ℕ) → input < 16
-    → l ≡ listedSet table places input → h ≡ headSet table places input → ListsBelow table places input listed heads
-    → ListsBelow table places (input + 1) (set listed input l) (set heads input h)
-lists-put table places input listed heads l h port own-l own-h w =
+-- a number written for it
+filled-more : {is : ℕ → ℕ} {input : ℕ} {l : List ℕ} (n : ℕ) → input < 16 → n ≡ is input → FilledBelow is input l
+    → FilledBelow is (input + 1) (set l input n)
+filled-more {is} {input} {l} n port own w =
     record {
-      listed-size = length-set listed input l ∙ w .listed-size;
-      heads-size = length-set heads input h ∙ w .heads-size;
-      listed-at = put-done (listedSet table places) input port listed (w .listed-size) l own-l (w .listed-at);
-      heads-at = put-done (headSet table places) input port heads (w .heads-size) h own-h (w .heads-at);
-      listed-rest = put-rest input listed l (w .listed-rest);
-      heads-rest = put-rest input heads h (w .heads-rest);
+      size = length-set l input n ∙ w .size;
+      at = λ i h. at i h (compare i input);
+      rest = λ i low h. getD-set-other l input i n 0 (omega arith) ∙ w .rest i (omega arith) h;
+    }
+  where
+    at : (i : ℕ) → i < input + 1 → Compared i input → getD (set l input n) i 0 ≡ is i
+    at i h (below d) = getD-set-other l input i n 0 (omega arith) ∙ w .at i d
+    at i h (equal d) =
+        ap (λ i. getD (set l input n) i 0) d ∙ getD-set-same l input n 0 (omega (arith, w .size)) ∙ own ∙ ap is (sym d)
+    at i h (above d) = absurd (omega arith)
+
+pub sets-put : (table : List ℕ) (input : ℕ) (listed heads crossed buffered : List ℕ) (l h c b : ℕ) → input < 16
+    → Sorted table (placesIn table) input l c b → h ≡ headSet table (placesIn table) input
+    → SetsBelow table input listed heads crossed buffered
+    → SetsBelow table (input + 1) (set listed input l) (set heads input h) (set crossed input c) (set buffered input b)
+sets-put table input listed heads crossed buffered l h c b port own own-h w =
+    record {
+      lists = filled-more l port (own .listed-is) (w .lists);
+      firsts = filled-more h port own-h (w .firsts);
+      crosses = filled-more c port (own .crossed-is) (w .crosses);
+      buffers = filled-more b port (own .buffered-is) (w .buffers);
     }
 
 ------------------------------------------------------------------------
@@ -103,28 +105,36 @@ module _ (table : List ℕ) (good : IsTable table) where
   unfolding setFrom
   no-set p input l h = ap (setFrom p (cellLimit * input)) (no-entries input l h)
 
-  module _ (listed heads : List ℕ) (cross keys : List (List ℕ)) (best rivals : List ℕ)
-      (w : LoadedBelow table (portsIn table) listed heads cross keys best rivals) where
-    lists : ListsOf table (placesIn table) listed heads
-    unfolding listedSet headSet
-    lists =
-        record {
-          listed-size = w .lists .listed-size;
-          heads-size = w .lists .heads-size;
-          listed-at = λ i h. listed-at i h (compare i (portsIn table));
-          heads-at = λ i h. heads-at i h (compare i (portsIn table));
-        }
-      where
-        listed-at : (i : ℕ) → i < 16 → Compared i (portsIn table) → getD listed i 0 ≡ listedSet table (placesIn table) i
-        listed-at i h (below l) = w .lists .listed-at i l
-        listed-at i h (equal l) = w .lists .listed-rest i (omega arith) h ∙ sym (no-set _ i (omega arith) h)
-        listed-at i h (above l) = w .lists .listed-rest i (omega arith) h ∙ sym (no-set _ i (omega arith) h)
+  -- an array of sets
+  all-filled : (p : ℕ → Bool) {l : List ℕ}
+      → FilledBelow (λ input. setFrom p (cellLimit * input) (countIn table input)) (portsIn table) l
+      → (input : ℕ) → input < 16 → getD l input 0 ≡ setFrom p (cellLimit * input) (countIn table input)
+  all-filled p {l} w i h = go (compare i (portsIn table))
+    where
+      go : Compared i (portsIn table) → getD l i 0 ≡ setFrom p (cellLimit * i) (countIn table i)
+      go (below d) = w .at i d
+      go (equal d) = w .rest i (omega arith) h ∙ sym (no-set p i (omega arith) h)
+      go (above d) = w .rest i (omega arith) h ∙ sym (no-set p i (omega arith) h)
 
-        heads-at : (i : ℕ) → i < 16 → Compared i (portsIn table) → getD heads i 0 ≡ headSet table (placesIn table) i
-        heads-at i h (below l) = w .lists .heads-at i l
-        heads-at i h (equal l) = w .lists .heads-rest i (omega arith) h ∙ sym (no-set _ i (omega arith) h)
-        heads-at i h (above l) = w .lists .heads-rest i (omega arith) h ∙ sym (no-set _ i (omega arith) h)
+  pub sets-end : (listed heads crossed buffered : List ℕ) → SetsBelow table (portsIn table) listed heads crossed buffered
+      → SetsOf table (placesIn table) listed heads crossed buffered
+  unfolding listedSet headSet crossedSet bufferedSet
+  sets-end listed heads crossed buffered w =
+      record {
+        lists = record {
+          listed-size = w .lists .size;
+          heads-size = w .firsts .size;
+          listed-at = all-filled _ (w .lists);
+          heads-at = all-filled _ (w .firsts);
+        };
+        crossed-size = w .crosses .size;
+        buffered-size = w .buffers .size;
+        crossed-at = all-filled _ (w .crosses);
+        buffered-at = all-filled _ (w .buffers);
+      }
 
+  module _ (cross keys : List (List ℕ)) (best rivals : List ℕ)
+      (w : LoadedBelow table (portsIn table) cross keys best rivals) where
     agrees : Agrees table (placesIn table) cross
     unfolding waitingAt
     agrees =
@@ -155,12 +165,5 @@ module _ (table : List ℕ) (good : IsTable table) where
               (λ k b. record { early = omega (arith, b .entry .input); cell = b }) (w .bests .each o h);
         }
 
-    pub loaded-end : Viewed table listed heads cross keys best
-    loaded-end =
-        record {
-          lists = lists;
-          square = w .crossed .square;
-          agrees = agrees;
-          keyed = w .crossed .keyed;
-          bests = bests;
-        }
+    pub loaded-end : Occupied table cross keys best
+    loaded-end = record { square = w .crossed .square; agrees = agrees; keyed = w .crossed .keyed; bests = bests }

@@ -20,10 +20,10 @@ use Rattle.table.specs.Check.{lowPlace, highPlace}
 use Rattle.table.proofs.Collecting.{set-back}
 use Rattle.table.proofs.Walks.{listed-set, crossed-set, buffered-set}
 use Rattle.places.specs.View.{InTable, placesIn}
-use Rattle.places.specs.Viewed.{listedSet}
+use Rattle.places.specs.Viewed.{listedSet, crossedSet, bufferedSet}
 use Rattle.places.proofs.Own.{table-readable, own-place, own-in-place}
 use Rattle.places.proofs.Placed.{inTable-number}
-use Rattle.loading.specs.Loading.{crossedSet, bufferedSet, Sorted}
+use Rattle.loading.specs.Loading.{Sorted}
 
 -- the sets have the digits of the entries from k on
 pub record Sorting (table : List ℕ) (first end low high k : ℕ) : Type 0 where

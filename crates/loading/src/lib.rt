@@ -1,20 +1,21 @@
-// The view of a table, which a slot makes once: the lists and their heads, the crosspoints with the keys of their cells,
-// and the best cell in each output's buffer. One pass over each input's entries sorts them by their places into sets; what
-// is asked of each place is a loop over its set.
+// The view of a table, which a slot makes once: the cells of each input by their places, as sets, with the heads of its
+// list; then from these the crosspoints with the keys of their cells, and the best cell in each output's buffer. One pass
+// over each input's entries sorts them; what is asked of each place is a loop over its set.
 use places::NO_KEY;
 use table::entry::CELLS;
 use table::entry::PORTS;
 ghost use mathlib.Core.Bool.{cond};
 ghost use mathlib.Core.Path.{_≡_};
-ghost use Prim.Native.Nat.{_+_, _*_, _<_};
+ghost use Prim.Native.Nat.{ℕ, _+_, _*_, _<_};
+ghost use lib.ListN.{getD};
 ghost use Rattle.cell.specs.Order.{key as cellKey};
 ghost use Rattle.layout.specs.Table.{IsTable};
 ghost use Rattle.layout.specs.Entry.{entryAt, portsIn};
 ghost use Rattle.places.specs.Choices.{betterOf};
 ghost use Rattle.places.specs.View.{InTable, placesIn};
-ghost use Rattle.places.specs.Viewed.{keyAt, listedSet, headSet, Buffered, Viewed, Blank};
-ghost use Rattle.loading.specs.Loading.{Sorted, Crossed, CrossedBelow, BestBelow, LoadedBelow};
-ghost use Rattle.loading.specs.Loading.{crossedSet, bufferedSet};
+ghost use Rattle.places.specs.Viewed.{keyAt, listedSet, headSet, crossedSet, bufferedSet, Buffered};
+ghost use Rattle.places.specs.Viewed.{SetsOf, NoSets, Occupied, Blank};
+ghost use Rattle.loading.specs.Loading.{Sorted, Crossed, CrossedBelow, BestBelow};
 
 // Above every flow word.
 const NO_FLOW: u16 = 65535;
@@ -26,49 +27,55 @@ struct Places {
     buffered: u64,
 }
 
-// Fills the view of a table. The arrays are lent blank.
-pub fn load(
+// Sorts the cells of each input by their places. The arrays are lent with no cell in them.
+pub fn fill_sets(
     table: &[u8],
-    listed: &mut [u64; 16],
-    heads: &mut [u64; 16],
-    cross: &mut [[u16; 16]; 16],
-    keys: &mut [[u64; 16]; 16],
-    best: &mut [u16; 16],
+    listed: &mut [u64; PORTS],
+    heads: &mut [u64; PORTS],
+    crossed: &mut [u64; PORTS],
+    buffered: &mut [u64; PORTS],
 )
     requires { ⌜ IsTable (now table) ⌝ }
-    requires { ⌜ Blank (now listed) (now heads) (now cross) (now keys) (now best) ⌝ }
-    ensures { λ _. ⌜ Viewed (now (table .entry)) (now (listed .exit)) (now (heads .exit)) (now (cross .exit)) (now (keys .exit)) (now (best .exit)) ⌝ }
+    requires { ⌜ NoSets (now listed) (now heads) (now crossed) (now buffered) ⌝ }
+    ensures { λ _. ⌜ SetsOf (now (table .entry)) (placesIn (now (table .entry))) (now (listed .exit))
+        (now (heads .exit)) (now (crossed .exit)) (now (buffered .exit)) ⌝ }
+{
+    let ports = table::entry::ports_of(table);
+    let mut input = 0;
+    while input < ports {
+        let places = sort(table, input);
+        listed[input] = places.listed;
+        heads[input] = heads_of(table, input, places.listed);
+        crossed[input] = places.crossed;
+        buffered[input] = places.buffered;
+        input += 1;
+    }
+}
+
+// The crosspoints with their keys, and the best buffered cell of each output, from the sets. The other arrays are lent
+// blank.
+pub fn load(
+    table: &[u8],
+    crossed: &[u64; PORTS],
+    buffered: &[u64; PORTS],
+    cross: &mut [[u16; PORTS]; PORTS],
+    keys: &mut [[u64; PORTS]; PORTS],
+    best: &mut [u16; PORTS],
+)
+    requires { ⌜ IsTable (now table) ⌝ }
+    requires { ⌜ ((input : ℕ) → input < 16 → getD (now crossed) input 0 ≡ crossedSet (now table) (placesIn (now table)) input) ⌝ }
+    requires { ⌜ ((input : ℕ) → input < 16 → getD (now buffered) input 0 ≡ bufferedSet (now table) (placesIn (now table)) input) ⌝ }
+    requires { ⌜ Blank (now cross) (now keys) (now best) ⌝ }
+    ensures { λ _. ⌜ Occupied (now (table .entry)) (now (cross .exit)) (now (keys .exit)) (now (best .exit)) ⌝ }
 {
     let mut rivals = [NO_KEY; PORTS];
     let ports = table::entry::ports_of(table);
     let mut input = 0;
     while input < ports {
-        load_input(table, input, listed, heads, cross, keys, best, &mut rivals);
+        load_crossed(table, input, crossed[input], cross, keys);
+        load_buffered(table, input, buffered[input], best, &mut rivals);
         input += 1;
     }
-}
-
-// The entries of one input.
-fn load_input(
-    table: &[u8],
-    input: usize,
-    listed: &mut [u64; 16],
-    heads: &mut [u64; 16],
-    cross: &mut [[u16; 16]; 16],
-    keys: &mut [[u64; 16]; 16],
-    best: &mut [u16; 16],
-    rivals: &mut [u64; 16],
-)
-    requires { ⌜ IsTable (now table) ⌝ }
-    requires { ⌜ input < portsIn (now table) ⌝ }
-    requires { ⌜ LoadedBelow (now table) input (now listed) (now heads) (now cross) (now keys) (now best) (now rivals) ⌝ }
-    ensures { λ _. ⌜ LoadedBelow (now (table .entry)) (input + 1) (now (listed .exit)) (now (heads .exit)) (now (cross .exit)) (now (keys .exit)) (now (best .exit)) (now (rivals .exit)) ⌝ }
-{
-    let places = sort(table, input);
-    listed[input] = places.listed;
-    heads[input] = heads_of(table, input, places.listed);
-    load_crossed(table, input, places.crossed, cross, keys);
-    load_buffered(table, input, places.buffered, best, rivals);
 }
 
 // One pass over the entries of an input, from the last to the first, so that the digits of their places can be pushed
@@ -121,8 +128,8 @@ fn load_crossed(
     table: &[u8],
     input: usize,
     crossed: u64,
-    cross: &mut [[u16; 16]; 16],
-    keys: &mut [[u64; 16]; 16],
+    cross: &mut [[u16; PORTS]; PORTS],
+    keys: &mut [[u64; PORTS]; PORTS],
 )
     requires { ⌜ IsTable (now table) ⌝ }
     requires { ⌜ input < portsIn (now table) ⌝ }
@@ -138,7 +145,12 @@ fn load_crossed(
 }
 
 // One of them: its number goes to its crosspoint, and its key to its output's.
-fn cross_cell(table: &[u8], k: usize, cross: &mut [[u16; 16]; 16], keys: &mut [[u64; 16]; 16])
+fn cross_cell(
+    table: &[u8],
+    k: usize,
+    cross: &mut [[u16; PORTS]; PORTS],
+    keys: &mut [[u64; PORTS]; PORTS],
+)
     requires { ⌜ IsTable (now table) ⌝ }
     requires { ⌜ Crossed (now table) (placesIn (now table)) k ⌝ }
     requires { ⌜ CrossedBelow (now table) (placesIn (now table)) k (now cross) (now keys) ⌝ }
@@ -155,8 +167,8 @@ fn load_buffered(
     table: &[u8],
     input: usize,
     buffered: u64,
-    best: &mut [u16; 16],
-    rivals: &mut [u64; 16],
+    best: &mut [u16; PORTS],
+    rivals: &mut [u64; PORTS],
 )
     requires { ⌜ IsTable (now table) ⌝ }
     requires { ⌜ input < portsIn (now table) ⌝ }
@@ -173,7 +185,7 @@ fn load_buffered(
 
 // One of them: it is the best of its output, unless the one so far is better. Nothing branches on that, as it would be
 // guessed badly.
-fn choose_cell(table: &[u8], k: usize, best: &mut [u16; 16], rivals: &mut [u64; 16])
+fn choose_cell(table: &[u8], k: usize, best: &mut [u16; PORTS], rivals: &mut [u64; PORTS])
     requires { ⌜ IsTable (now table) ⌝ }
     requires { ⌜ Buffered (now table) (placesIn (now table)) (entryAt (now table) k .cell .output) k ⌝ }
     requires { ⌜ BestBelow (now table) (placesIn (now table)) k (now best) (now rivals) ⌝ }

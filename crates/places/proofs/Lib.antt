@@ -1,6 +1,7 @@
 pub mod Bytes
 pub mod Choices
 pub mod Encoding
+pub mod Handed
 pub mod Heads
 pub mod Keys
 pub mod Own

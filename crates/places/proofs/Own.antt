@@ -16,7 +16,8 @@ use Rattle.model.specs.Sound.{soundSections}
 use Rattle.model.proofs.SoundOrderly.{sound-orderly, sound-one-crosspoint}
 use Rattle.layout.specs.Entry.{entryAt, portsIn, countIn}
 use Rattle.layout.specs.Records.{placeByteAt}
-use Rattle.layout.specs.Table.{placeByte, stateOf, IsTable}
+use Rattle.layout.specs.Table.{placeByte, placeOf, stateOf, IsTable}
+use Rattle.layout.proofs.Records.{entryAt-place}
 use Rattle.layout.proofs.Table.{placeByte-range, decode-sound, sound-sections}
 use Rattle.places.specs.View.{InTable, InPlace, placesIn, waitingIn}
 use Rattle.places.specs.Scan.{Readable}
@@ -42,6 +43,9 @@ module _ (table : List ℕ) (good : IsTable table) where
 
   pub own-place : (k : ℕ) → InTable table k → getD (placesIn table) k 0 ≡ placeByteAt table k
   own-place k t = placesIn-at table k (inTable-below table-readable t)
+
+  pub own-kind : (k : ℕ) → InTable table k → placeOf (getD (placesIn table) k 0) ≡ entryAt table k .place
+  own-kind k t = ap placeOf (own-place k t) ∙ sym (entryAt-place table k)
 
   pub own-in-place : InPlace table (placesIn table)
   own-in-place k t =

@@ -15,7 +15,7 @@ use Rattle.sets.specs.Sets.{setFrom, members}
 use Rattle.cell.specs.Flow.{sameFlow}
 use Rattle.cell.specs.Limits.{portLimit, cellLimit}
 use Rattle.cell.specs.Order.{key}
-use Rattle.model.specs.State.{isListed, isBuffered}
+use Rattle.model.specs.State.{isListed, isCrossed, isBuffered}
 use Rattle.model.specs.Phase.{Waiting, ahead, lists, phase}
 use Rattle.layout.specs.Entry.{entryAt, countIn}
 use Rattle.layout.specs.Table.{placeOf}
@@ -44,6 +44,23 @@ pub record ListsOf (table places listed heads : List ℕ) : Type 0 where
   pub heads-size : length heads ≡ 16
   pub listed-at : (input : ℕ) → input < 16 → getD listed input 0 ≡ listedSet table places input
   pub heads-at : (input : ℕ) → input < 16 → getD heads input 0 ≡ headSet table places input
+
+-- the positions of the cells of an input at crosspoints, and of those in buffers
+unfoldable pub crossedSet : List ℕ → List ℕ → ℕ → ℕ
+crossedSet table places input =
+    setFrom (λ k. isCrossed (placeOf (getD places k 0))) (cellLimit * input) (countIn table input)
+
+unfoldable pub bufferedSet : List ℕ → List ℕ → ℕ → ℕ
+bufferedSet table places input =
+    setFrom (λ k. isBuffered (placeOf (getD places k 0))) (cellLimit * input) (countIn table input)
+
+-- the cells of each input by their places
+pub record SetsOf (table places listed heads crossed buffered : List ℕ) : Type 0 where
+  pub lists : ListsOf table places listed heads
+  pub crossed-size : length crossed ≡ 16
+  pub buffered-size : length buffered ≡ 16
+  pub crossed-at : (input : ℕ) → input < 16 → getD crossed input 0 ≡ crossedSet table places input
+  pub buffered-at : (input : ℕ) → input < 16 → getD buffered input 0 ≡ bufferedSet table places input
 
 ------------------------------------------------------------------------
 -- the crosspoints
@@ -91,10 +108,21 @@ pub record ViewOf (table places listed heads : List ℕ) (cross keys : List (Lis
 abbrev pub Viewed : List ℕ → List ℕ → List ℕ → List (List ℕ) → List (List ℕ) → List ℕ → Type 0
 Viewed table listed heads cross keys best = ViewOf table (placesIn table) listed heads cross keys best
 
--- no cell is in it
-pub record Blank (listed heads : List ℕ) (cross keys : List (List ℕ)) (best : List ℕ) : Type 0 where
+-- the part of it that is of crosspoints and buffers
+pub record Occupied (table : List ℕ) (cross keys : List (List ℕ)) (best : List ℕ) : Type 0 where
+  pub square : Square cross
+  pub agrees : Agrees table (placesIn table) cross
+  pub keyed : Keyed table cross keys
+  pub bests : BestBuffered table (placesIn table) best
+
+-- no cell is in the sets, and none at the crosspoints and in the buffers
+pub record NoSets (listed heads crossed buffered : List ℕ) : Type 0 where
   pub no-lists : listed ≡ replicate 16 0
   pub no-heads : heads ≡ replicate 16 0
+  pub no-crossed : crossed ≡ replicate 16 0
+  pub no-buffered : buffered ≡ replicate 16 0
+
+pub record Blank (cross keys : List (List ℕ)) (best : List ℕ) : Type 0 where
   pub no-crosspoints : cross ≡ replicate 16 (replicate 16 nowhere)
   pub no-keys : keys ≡ replicate 16 (replicate 16 noKey)
   pub no-buffers : best ≡ replicate 16 nowhere

@@ -12,14 +12,14 @@
 --     Visited, visited-..                   a loop over a set: the members passed, rising, and those left
 use mathlib.Core.Path.{_≡_, refl, sym, ap, ap₂, _∙_, subst}
 use mathlib.Core.Bool.{Bool, true, false, not, cond, _&&_, _||_, and-true, or-false, and-or-distrib-left}
-use mathlib.Core.Logic.{_⊎_, inl, inr}
+use mathlib.Core.Logic.{_⊎_, inl, inr, _≢_}
 use mathlib.Core.List.{List, [], _∷_, _++_, map, append-assoc, append-nil}
 use mathlib.Core.List.{List·Memᴰ, List·Memᴰ·head, Memᴰ·append-right}
 use Prim.Native.Nat.{ℕ, zero, suc, _+_, _-_, _*_, _/_, _%_, _^_, _≤_, _<_}
 use native.Mathlib.Nat.{pow-suc, add-zero, zero-add}
 use native.Mathlib.Numerals.{add-one}
 use native.Mathlib.Omega.{arith}
-use borrow.Author.Tests.{lt-ltb, le-ltb, ltb-true, ltb-false, eq-eqb, ne-eqb, eqb-true}
+use borrow.Author.Tests.{lt-ltb, le-ltb, ltb-true, ltb-false, eq-eqb, ne-eqb, eqb-true, eqb-false}
 use lib.Bits.{bitAnd, and-le-l, and-le-r}
 use lib.Count.{trailingZeros, trailing-le, ones, ones-step}
 use lib.Dec.{eqb, ltb, leb·suc-suc, leb·zero, leb·suc-zero}
@@ -31,9 +31,9 @@ use Rattle.laws.proofs.Lists.{keep-append, keep-pass, keep-fail, keep-all, keep
 use Rattle.laws.proofs.Lists.{mem-keep, none?-i, all?-i}
 use Rattle.laws.proofs.Pairwise.{pairwise-keep}
 use Rattle.laws.proofs.Count.{count-cons, count-ext, count-map, length-keep-lt}
-use Rattle.laws.proofs.Numbers.{length-numbersFrom, numbersFrom-add, numbersFrom-mem, mem-numbersFrom}
-use Rattle.sets.specs.Sets.{positions, has, pushed, setFrom, setOf, withOne, withoutOne, minus, both, either}
-use Rattle.sets.specs.Sets.{below, from, members, headOr, firstOf, restOf, sizeOf}
+use Rattle.laws.proofs.Numbers.{numbersFrom-add, numbersFrom-mem, mem-numbersFrom, length-numbersFrom}
+use Rattle.sets.specs.Sets.{positions, has, pushed, setFrom, setOf, withOne, withoutOne, minus, both, below}
+use Rattle.sets.specs.Sets.{from, opened, members, headOr, firstOf, restOf, either, sizeOf}
 use Rattle.sets.proofs.Digits.{has-zero, has-suc, has-past, same-members, has-and, has-pred, digit, half-lt}
 use Rattle.sets.proofs.Digits.{trailing-none, trailing-member}
 
@@ -48,17 +48,22 @@ pushed-last : (set : ℕ) (member : Bool) → eqb (pushed set member % 2) 1 ≡ 
 pushed-last set true = let odd : (2 * set + 1) % 2 ≡ 1 = omega arith in ap (λ n. eqb n 1) odd
 pushed-last set false = let even : (2 * set + 0) % 2 ≡ 0 = omega arith in ap (λ n. eqb n 1) even
 
+-- what is pushed stands one position later
+pub has-pushed : (set : ℕ) (member : Bool) (j : ℕ) → has (pushed set member) (suc j) ≡ has set j
+has-pushed set member j = has-suc (pushed set member) j ∙ ap (λ s. has s j) (pushed-half set member)
+
+pub has-pushed-first : (set : ℕ) (member : Bool) → has (pushed set member) 0 ≡ member
+has-pushed-first set member = has-zero (pushed set member) ∙ pushed-last set member
+
 pub has-setFrom : (p : ℕ → Bool) (k n j : ℕ) → has (setFrom p k n) j ≡ (ltb j n && p (k + j))
 unfolding setFrom
 has-setFrom p k zero j = has-past 0 0 j (omega arith) (omega arith) ∙ ap (λ b. b && p (k + j)) (sym (leb·suc-zero j))
 has-setFrom p k (suc n) zero =
-    has-zero (setFrom p k (suc n))
-    ∙ pushed-last (setFrom p (k + 1) n) (p k)
+    has-pushed-first (setFrom p (k + 1) n) (p k)
     ∙ ap₂ (λ b i. b && p i) (sym (leb·suc-suc 0 n ∙ leb·zero n)) (sym (add-zero k))
 has-setFrom p k (suc n) (suc j) =
     let next : k + 1 + j ≡ k + suc j = omega arith in
-    has-suc (setFrom p k (suc n)) j
-    ∙ ap (λ s. has s j) (pushed-half (setFrom p (k + 1) n) (p k))
+    has-pushed (setFrom p (k + 1) n) (p k) j
     ∙ has-setFrom p (k + 1) n j
     ∙ ap₂ (λ b i. b && p i) (sym (leb·suc-suc (suc j) n)) next
 
@@ -154,6 +159,136 @@ module _ (set k j : ℕ) (position : j < positions) where
 pub withOne-lt : (set k : ℕ) → withOne set k < 2 ^ positions
 unfolding withOne
 withOne-lt set k = setOf-lt (λ j. has set j || eqb j k)
+
+-- the three ways in which two positions can stand
+data Compared (a b : ℕ) : Type 0 where
+  lower : a < b → Compared a b
+  alike : a ≡ b → Compared a b
+  higher : b < a → Compared a b
+
+compare : (a b : ℕ) → Compared a b
+compare a b = go (ltb a b) refl (eqb a b) refl
+  where
+    go : (s : Bool) → ltb a b ≡ s → (t : Bool) → eqb a b ≡ t → Compared a b
+    go true e t f = lower (ltb-true a b e)
+    go false e true f = alike (eqb-true a b f)
+    go false e false f =
+        let h : b ≤ a = ltb-false a b e in
+        let k : a ≢ b = eqb-false a b f in
+        higher (omega arith)
+
+-- opened at a position: before it, at it, behind it
+module _ (set k : ℕ) where
+  has-opened : (j : ℕ) → j < positions → has (opened set k) j ≡ ((has set j && ltb j k) || (ltb k j && has set (j - 1)))
+  unfolding opened
+  has-opened j h = has-setOf (λ j. (has set j && ltb j k) || (ltb k j && has set (j - 1))) j h
+
+  pub opened-lt : opened set k < 2 ^ positions
+  unfolding opened
+  opened-lt = setOf-lt (λ j. (has set j && ltb j k) || (ltb k j && has set (j - 1)))
+
+  pub opened-before : (j : ℕ) → j < positions → j < k → has (opened set k) j ≡ has set j
+  opened-before j h l =
+      has-opened j h
+      ∙ ap₂ (λ x y. (has set j && x) || (y && has set (j - 1))) (lt-ltb j k l) (le-ltb k j (omega arith))
+      ∙ or-false (has set j && true)
+      ∙ and-true (has set j)
+
+  pub opened-at : k < positions → has (opened set k) k ≡ false
+  opened-at h =
+      has-opened k h
+      ∙ ap (λ x. (has set k && x) || (x && has set (k - 1))) (le-ltb k k (omega arith))
+      ∙ or-false (has set k && false)
+      ∙ and-false-r (has set k) false refl
+
+  pub opened-behind : (j : ℕ) → suc j < positions → k ≤ j → has (opened set k) (suc j) ≡ has set j
+  opened-behind j h l =
+      let back : suc j - 1 ≡ j = omega arith in
+      has-opened (suc j) h
+      ∙ ap₂ (λ x y. (has set (suc j) && x) || (y && has set (suc j - 1))) (le-ltb (suc j) k (omega arith))
+      (lt-ltb k (suc j) (omega arith))
+      ∙ ap (λ x. x || has set (suc j - 1)) (and-false-r (has set (suc j)) false refl)
+      ∙ ap (has set) back
+
+-- a test that holds of the positions from one on as another does of those before them
+module _ (p q : ℕ → Bool) (k n j : ℕ) (few : n < positions) (inside : j ≤ n)
+    (before : (i : ℕ) → i < j → q (k + i) ≡ p (k + i)) (behind : (i : ℕ) → j ≤ i → i < n → q (k + suc i) ≡ p (k + i)) where
+  in-new : (i : ℕ) → has (setFrom q k (suc n)) i ≡ (ltb i (suc n) && q (k + i))
+  in-new i = has-setFrom q k (suc n) i
+
+  -- a position other than the new one
+  other : (i : ℕ) → i < positions → i ≢ j → has (setFrom q k (suc n)) i ≡ has (opened (setFrom p k n) j) i
+  other i h d = go i h d (compare i j)
+    where
+      go : (i : ℕ) → i < positions → i ≢ j → Compared i j
+          → has (setFrom q k (suc n)) i ≡ has (opened (setFrom p k n) j) i
+      go i h d (lower l) =
+          in-new i
+          ∙ ap₂ _&&_ (lt-ltb i (suc n) (omega arith)) (before i l)
+          ∙ sym (has-setFrom p k n i ∙ ap (λ b. b && p (k + i)) (lt-ltb i n (omega arith)))
+          ∙ sym (opened-before (setFrom p k n) j i h l)
+      go i h d (alike e) = absurd (d e)
+      go zero h d (higher l) = absurd (omega arith)
+      go (suc i) h d (higher l) =
+          in-new (suc i)
+          ∙ by (compare i n)
+          ∙ sym (has-setFrom p k n i)
+          ∙ sym (opened-behind (setFrom p k n) j i h (omega arith))
+        where
+          past : n ≤ i → (ltb (suc i) (suc n) && q (k + suc i)) ≡ (ltb i n && p (k + i))
+          past m =
+              ap (λ b. b && q (k + suc i)) (le-ltb (suc i) (suc n) (omega arith))
+              ∙ sym (ap (λ b. b && p (k + i)) (le-ltb i n m))
+
+          by : Compared i n → (ltb (suc i) (suc n) && q (k + suc i)) ≡ (ltb i n && p (k + i))
+          by (lower m) = ap₂ _&&_ (lt-ltb (suc i) (suc n) (omega arith) ∙ sym (lt-ltb i n m)) (behind i (omega arith) m)
+          by (alike m) = past (omega arith)
+          by (higher m) = past (omega arith)
+
+  here : has (setFrom q k (suc n)) j ≡ q (k + j)
+  here = in-new j ∙ ap (λ b. b && q (k + j)) (lt-ltb j (suc n) (omega arith))
+
+  new-fits : setFrom q k (suc n) < 2 ^ positions
+  new-fits = setFrom-fits q k (suc n) (omega arith)
+
+  -- the new position is not a member, or it is
+  pub open-without : q (k + j) ≡ false → setFrom q k (suc n) ≡ opened (setFrom p k n) j
+  open-without off =
+      same-members positions (setFrom q k (suc n)) (opened (setFrom p k n) j) new-fits (opened-lt (setFrom p k n) j)
+      (λ i h. go i h (compare i j))
+    where
+      go : (i : ℕ) → i < positions → Compared i j → has (setFrom q k (suc n)) i ≡ has (opened (setFrom p k n) j) i
+      go i h (lower l) = other i h (omega arith)
+      go i h (alike e) =
+          ap (has (setFrom q k (suc n))) e
+          ∙ here
+          ∙ off
+          ∙ sym (ap (has (opened (setFrom p k n) j)) e ∙ opened-at (setFrom p k n) j (omega arith))
+      go i h (higher l) = other i h (omega arith)
+
+  pub open-with : q (k + j) ≡ true → setFrom q k (suc n) ≡ withOne (opened (setFrom p k n) j) j
+  open-with on =
+      same-members positions (setFrom q k (suc n)) (withOne (opened (setFrom p k n) j) j) new-fits
+      (withOne-lt (opened (setFrom p k n) j) j) (λ i h. go i h (compare i j))
+    where
+      kept : (i : ℕ) → i < positions → i ≢ j
+          → has (setFrom q k (suc n)) i ≡ has (withOne (opened (setFrom p k n) j) j) i
+      kept i h d =
+          other i h d
+          ∙ sym (has-withOne (opened (setFrom p k n) j) j i h
+          ∙ ap (λ b. has (opened (setFrom p k n) j) i || b) (ne-eqb i j d)
+          ∙ or-false (has (opened (setFrom p k n) j) i))
+
+      go : (i : ℕ) → i < positions → Compared i j
+          → has (setFrom q k (suc n)) i ≡ has (withOne (opened (setFrom p k n) j) j) i
+      go i h (lower l) = kept i h (omega arith)
+      go i h (alike e) =
+          ap (has (setFrom q k (suc n))) e
+          ∙ here
+          ∙ on
+          ∙ sym (has-withOne (opened (setFrom p k n) j) j i h
+          ∙ or-r (has (opened (setFrom p k n) j) i) (eqb i j) (eq-eqb i j e))
+      go i h (higher l) = kept i h (omega arith)
 
 ------------------------------------------------------------------------
 -- members

@@ -1,22 +1,23 @@
 -- The sets that the code makes, as operations on digits.
-use mathlib.Core.Path.{_≡_, sym, ap, ap₂, _∙_}
-use mathlib.Core.Bool.{not, _&&_, _||_, and-or-distrib-right}
-use Prim.Native.Nat.{ℕ, suc, _+_, _-_, _*_, _/_, _%_, _^_, _≤_, _<_}
+use mathlib.Core.Path.{_≡_, refl, sym, ap, ap₂, _∙_}
+use mathlib.Core.Bool.{Bool, true, false, not, _&&_, _||_, and-true, and-or-distrib-right}
+use Prim.Native.Nat.{ℕ, zero, suc, _+_, _-_, _*_, _/_, _%_, _^_, _≤_, _<_}
 use native.Mathlib.Nat.{one-mul, mod-eq-of-lt, pow-suc}
 use native.Mathlib.Omega.{arith}
-use borrow.Author.Tests.{eqb-true, eq-eqb}
+use borrow.Author.Tests.{eqb-true, eq-eqb, lt-ltb, le-ltb, ltb-true, ltb-false}
 use lib.Arith.{digits-div}
 use lib.Bits.{bitAnd, bitOr, and-le-l, and-le-r, or-lt, or-add-and, or-zero-l}
 use lib.Count.{leadingZeros, leading-top, ones}
 use lib.Dec.{eqb, ltb}
 use lib.Pow.{pow-lt, ones-lt}
 use Rattle.laws.specs.Lists.{upTo}
-use Rattle.laws.proofs.Tests.{same, and-i, and-l, and-r}
+use Rattle.laws.proofs.Tests.{same, and-i, and-l, and-r, and-false-r}
 use Rattle.laws.proofs.Count.{length-keep}
-use Rattle.sets.specs.Sets.{positions, has, withOne, withoutOne, minus, both, either, below, from, members}
-use Rattle.sets.specs.Sets.{sizeOf, Last}
-use Rattle.sets.proofs.Digits.{has-past, same-members, has-and, has-or, has-not, has-one, has-ones}
-use Rattle.sets.proofs.Members.{setOf-is, ones-count}
+use Rattle.sets.specs.Sets.{positions, has, withOne, withoutOne, minus, both, below, from, members, sizeOf}
+use Rattle.sets.specs.Sets.{Last, pushed, opened, either}
+use Rattle.sets.proofs.Digits.{has-past, has-and, has-or, has-not, has-one, has-ones, same-members}
+use Rattle.sets.proofs.Members.{setOf-is, setOf-lt, has-below, has-from, has-pushed, has-pushed-first}
+use Rattle.sets.proofs.Members.{ones-count}
 
 -- one position as a set
 pub shifted-one : (k : ℕ) → k < positions → 1 * 2 ^ k % 2 ^ positions ≡ 2 ^ k
@@ -59,6 +60,47 @@ module _ (set : ℕ) (fits : set < 2 ^ positions) where
         ∙ setOf-is (λ j. has set j && not (ltb j k)) (bitAnd set others) (and-fits others)
         (λ j h. has-and set others j
         ∙ ap (λ b. has set j && b) (has-not positions (2 ^ k - 1) j few h ∙ ap not (has-ones k j)))
+
+  pub from-less : (k : ℕ) → k < positions → from set k ≤ set
+  from-less k position =
+      omega (arith, from-and k position, and-le-l set (2 ^ positions - 1 - (1 * 2 ^ k % 2 ^ positions - 1)))
+
+  -- those before a position, and those from it on pushed by one
+  pub opened-or : (k : ℕ) → k < positions → set < 2 ^ 63 → bitOr (below set k) (pushed (from set k) false) ≡ opened set k
+  unfolding opened below
+  opened-or k position room =
+      setOf-is (λ j. (has set j && ltb j k) || (ltb k j && has set (j - 1)))
+      (bitOr (below set k) (pushed (from set k) false))
+      (or-lt positions (below set k) (pushed (from set k) false) below-fits pushed-fits)
+      (λ j h. has-or (below set k) (pushed (from set k) false) j ∙ ap₂ _||_ (has-below set k j h) (later j h))
+    where
+      below-fits : below set k < 2 ^ positions
+      below-fits = setOf-lt (λ j. has set j && ltb j k)
+
+      pushed-fits : pushed (from set k) false < 2 ^ positions
+      pushed-fits = omega (arith, from-less k position, room)
+
+      later : (j : ℕ) → j < positions → has (pushed (from set k) false) j ≡ (ltb k j && has set (j - 1))
+      later zero h =
+          has-pushed-first (from set k) false ∙ sym (ap (λ b. b && has set (0 - 1)) (le-ltb k 0 (omega arith)))
+      later (suc j) h =
+          let back : suc j - 1 ≡ j = omega arith in
+          has-pushed (from set k) false j
+          ∙ has-from set k j (omega arith)
+          ∙ go (ltb j k) refl
+          ∙ ap (λ i. ltb k (suc j) && has set i) (sym back)
+        where
+          go : (b : Bool) → ltb j k ≡ b → (has set j && not (ltb j k)) ≡ (ltb k (suc j) && has set j)
+          go true e =
+              let less = ltb-true j k e in
+              ap (λ b. has set j && not b) e
+              ∙ and-false-r (has set j) false refl
+              ∙ sym (ap (λ b. b && has set j) (le-ltb k (suc j) (omega arith)))
+          go false e =
+              let more = ltb-false j k e in
+              ap (λ b. has set j && not b) e
+              ∙ and-true (has set j)
+              ∙ sym (ap (λ b. b && has set j) (lt-ltb k (suc j) (omega arith)))
 
   pub minus-and : (b : ℕ) → b < 2 ^ positions → bitAnd set (2 ^ positions - 1 - b) ≡ minus set b
   unfolding minus

@@ -4,7 +4,7 @@
 --     setOf p         the positions at which the test holds
 --     members set     the members, rising
 --     firstOf set     the first member; 64 where there is none
-use Prim.Native.Nat.{ℕ, zero, suc, _+_, _*_, _/_, _%_, _^_, _<_}
+use Prim.Native.Nat.{ℕ, zero, suc, _+_, _*_, _-_, _/_, _%_, _^_, _<_}
 use mathlib.Core.Bool.{Bool, true, false, cond, not, _&&_, _||_}
 use mathlib.Core.Path.{_≡_}
 use mathlib.Core.List.{List, [], _∷_}
@@ -55,6 +55,10 @@ below set k = setOf (λ j. has set j && ltb j k)
 
 unfoldable pub from : ℕ → ℕ → ℕ
 from set k = setOf (λ j. has set j && not (ltb j k))
+
+-- a set whose members from a position on stand one later, so that the position is free
+unfoldable pub opened : ℕ → ℕ → ℕ
+opened set k = setOf (λ j. (has set j && ltb j k) || (ltb k j && has set (j - 1)))
 
 unfoldable pub members : ℕ → List ℕ
 members set = keep (has set) (upTo positions)

@@ -3,8 +3,8 @@
 ghost use mathlib.Core.Bool.{cond};
 ghost use mathlib.Core.Path.{_≡_};
 ghost use Prim.Native.Nat.{_<_, _^_};
-ghost use Rattle.sets.specs.Sets.{has, pushed, withOne, withoutOne, minus, both, either, below, from};
-ghost use Rattle.sets.specs.Sets.{firstOf, restOf, sizeOf, Last};
+ghost use Rattle.sets.specs.Sets.{has, pushed, withOne, withoutOne, minus, both, below, from, opened, firstOf};
+ghost use Rattle.sets.specs.Sets.{restOf, sizeOf, Last, either};
 
 // Whether a position is a member.
 pub fn has(set: u64, j: usize) -> bool
@@ -82,6 +82,14 @@ pub fn from(set: u64, j: usize) -> u64
     ensures { λ r. ⌜ r ≡ from set j ⌝ }
 {
     set & !((1 << j) - 1)
+}
+
+// The set whose members from a position on stand one later, so that the position is free.
+pub fn open(set: u64, j: usize) -> u64
+    requires { ⌜ (j < 64) × (set < 2 ^ 63) ⌝ }
+    ensures { λ r. ⌜ r ≡ opened set j ⌝ }
+{
+    below(set, j) | push(from(set, j), false)
 }
 
 // The first member; 64 where there is none.

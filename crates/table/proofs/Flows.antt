@@ -1,32 +1,40 @@
--- Whether the cells of each flow stand together in output priority, found by a walk from the first listed entry on.
-use Prim.Native.Nat.{ℕ, _+_, _/_, _%_, _^_, _≤_, _<_}
-use mathlib.Core.Bool.{Bool, true, false, cond, not, _&&_, _||_, or-false}
+-- Whether the cells of each flow stand together in output priority, and which are the first of their flow, found by a
+-- walk from the first listed entry on.
+use Prim.Native.Nat.{ℕ, _+_, _-_, _*_, _/_, _%_, _^_, _≤_, _<_}
+use mathlib.Core.Bool.{Bool, true, false, cond, not, _&&_, _||_, or-false, and-true}
 use mathlib.Core.Path.{_≡_, refl, sym, _∙_, ap, ap₂, subst}
 use mathlib.Core.List.{List, [], _∷_, _++_, map-append, List·Memᴰ, List·Memᴰ·head}
-use mathlib.Core.List.{Memᴰ·append-left, Memᴰ·append-right}
+use mathlib.Core.List.{Memᴰ·append-left, Memᴰ·append-right, List·Memᴰ·append-cases}
 use mathlib.Core.Logic.{_⊎_, inl, inr}
 use native.Mathlib.Omega.{arith}
-use borrow.Author.Tests.{eqb-true, eq-eqb, ne-eqb, ltb-true, ltb-false, le-leb, lt-leb}
+use borrow.Author.Tests.{eqb-true, eq-eqb, ne-eqb, ltb-true, ltb-false, lt-ltb, le-leb, lt-leb}
 use lib.Dec.{eqb, ltb, leb}
 use lib.ListN.{length, getD, set}
-use Rattle.laws.specs.Lists.{some?, none?, all?}
-use Rattle.laws.proofs.Tests.{eqb-turned, either, clash, by-fail, same, and-l, and-false-r, not-or}
+use Rattle.laws.specs.Lists.{some?, none?, all?, pairwise, upTo, numbersFrom}
+use Rattle.laws.proofs.Tests.{eqb-turned, either, clash, by-fail, same, and-i, and-l, and-r, and-false-r, not-or}
 use Rattle.laws.proofs.Lists.{some?-i, some?-ext, some?-append, none?-e, none?-false, none?-append, none?-not-some?}
-use Rattle.laws.proofs.Lists.{all?-i, all?-e, all?-map}
-use Rattle.sets.specs.Sets.{positions, members, firstOf, restOf}
-use Rattle.sets.proofs.Members.{Visited, visited-start, visited-cons, visited-next, visited-end, in-members}
+use Rattle.laws.proofs.Lists.{none?-i, none?-ext, none?-clash, none?-map, all?-i, all?-e, all?-map}
+use Rattle.laws.proofs.Pairwise.{pairwise-split}
+use Rattle.laws.proofs.Numbers.{numbersFrom-mem, mem-numbersFrom}
+use Rattle.sets.specs.Sets.{positions, has, setFrom, withOne, members, firstOf, restOf}
+use Rattle.sets.proofs.Digits.{has-past}
+use Rattle.sets.proofs.Members.{Visited, visited-start, visited-cons, visited-next, visited-member, visited-end}
+use Rattle.sets.proofs.Members.{in-members, members-in, members-rising, first-before, first-position, first-member}
+use Rattle.sets.proofs.Members.{setOf-is, setFrom-fits, has-setFrom, has-withOne, withOne-lt, has-withoutOne}
+use Rattle.sets.proofs.Members.{numbersFrom-shift}
 use Rattle.cell.specs.Flow.{sameFlow}
 use Rattle.cell.specs.Limits.{cellLimit, fits32}
 use Rattle.cell.specs.Order.{over, key}
 use Rattle.cell.proofs.Flow.{flow-i, flow-e, flow-sym, flow-trans}
 use Rattle.cell.proofs.Keys.{over-key-input}
-use Rattle.model.specs.State.{Entry}
+use Rattle.model.specs.State.{Entry, isListed}
 use Rattle.model.specs.Sound.{together}
 use Rattle.layout.specs.Entry.{entryAt}
 use Rattle.layout.specs.Table.{tableSize}
-use Rattle.layout.specs.Records.{recordStart}
+use Rattle.layout.specs.Records.{recordStart, between}
 use Rattle.table.specs.Check.{inRange, entriesIn, breaksFlow, MarksBelow}
 use Rattle.table.specs.Entries.{flowNumber, recordLimit}
+use Rattle.table.specs.Handed.{isFirst, isHead, headsIn}
 use Rattle.layout.proofs.Records.{entryAt-input, entryAt-slot}
 use Rattle.layout.proofs.Number.{bytes?, word-fits, fits32-below}
 use Rattle.table.proofs.Marks.{Marked, marked-none, marked-one}
@@ -154,6 +162,79 @@ module _ {first : ℕ} {e g : Entry} (he : Good first e) (hg : Good first g) whe
       turned m n (inr t) = t ∙ ap not (sym (le-leb n m (ltb-false m n t)))
 
 ------------------------------------------------------------------------
+-- the first of each flow
+
+-- those of a set that were passed are its members before the first of those left
+passed-none : (q : ℕ → Bool) (set : ℕ) (passed : List ℕ) (left : ℕ) → Visited set passed left → 0 < left
+    → none? q passed ≡ none? (λ a. has set a && q a) (upTo (firstOf left))
+unfolding upTo
+passed-none q set passed left v some =
+    let position = first-position left some (v .fits) in
+    same (none? q passed) (none? (λ a. has set a && q a) (numbersFrom 0 (firstOf left)))
+    (λ none.
+    none?-i (λ a. has set a && q a) (numbersFrom 0 (firstOf left))
+    (λ a m. by-fail _ (λ t.
+    let early = mem-numbersFrom 0 (firstOf left) m in
+    go a none (and-r (has set a) (q a) t) (omega arith)
+    (List·Memᴰ·append-cases passed
+    (subst (List·Memᴰ a) (v .split) (members-in set a (omega arith) (and-l (has set a) (q a) t)))))))
+    (λ none.
+    none?-i q passed
+    (λ a m. by-fail _ (λ t.
+    let member = in-members set (subst (List·Memᴰ a) (sym (v .split)) (Memᴰ·append-left (members left) m)) in
+    let before =
+    pairwise-split ltb m (members-in left (firstOf left) position (first-member left some (v .fits)))
+    (ap (pairwise ltb) (sym (v .split)) ∙ members-rising set) in
+    none?-clash (λ a. has set a && q a) none
+    (numbersFrom-mem 0 (firstOf left) (omega arith) (omega (arith, ltb-true a (firstOf left) before)))
+    (and-i (has set a) (q a) (member .1) t))))
+  where
+    go : (a : ℕ) → none? q passed ≡ true → q a ≡ true → a < firstOf left
+        → List·Memᴰ a passed ⊎ List·Memᴰ a (members left) → ⊥
+    go a none t early (inl m) = none?-clash q none m t
+    go a none t early (inr m) = clash (in-members left m .1) (first-before left a early)
+
+-- of the listed entries of a run: those that the table's rules call heads
+pub heads-set : (bs : List ℕ) (first n : ℕ) → n ≤ cellLimit → _≡_ {A = ℕ} (first % cellLimit) 0
+    → headsIn bs first (setFrom (λ k. isListed (entryAt bs k .place)) first n)
+    ≡ setFrom (isFirst bs (first / cellLimit)) first n
+unfolding headsIn isFirst isHead between upTo
+heads-set bs first n few start =
+    sym (setOf-is (isHead bs first listed) (setFrom (isFirst bs (first / cellLimit)) first n)
+    (setFrom-fits (isFirst bs (first / cellLimit)) first n few)
+    (λ j h. has-setFrom (isFirst bs (first / cellLimit)) first n j
+    ∙ split (ltb j n) (isIn (first + j)) _ _ (λ t. front j (ltb-true j n t))
+    ∙ ap (λ b. b && none? (λ a. has listed a && ofFlow (entryAt bs (first + a)) (entryAt bs (first + j))) (upTo j))
+    (sym (has-setFrom isIn first n j))))
+  where
+    isIn : ℕ → Bool
+    isIn k = isListed (entryAt bs k .place)
+
+    listed : ℕ
+    listed = setFrom isIn first n
+
+    split : (b x y z : Bool) → (b ≡ true → y ≡ z) → (b && (x && y)) ≡ ((b && x) && z)
+    split true x y z h = ap (λ y. x && y) (h refl)
+    split false x y z h = refl
+
+    front : (j : ℕ) → j < n
+        → none? (λ a. isIn a && ofFlow (entryAt bs a) (entryAt bs (first + j)))
+        (between (cellLimit * (first / cellLimit)) (first + j))
+        ≡ none? (λ a. has listed a && ofFlow (entryAt bs (first + a)) (entryAt bs (first + j))) (upTo j)
+    front j inside =
+        let e = entryAt bs (first + j) in
+        let from : cellLimit * (first / cellLimit) ≡ first + 0 = omega arith in
+        let size : first + j - cellLimit * (first / cellLimit) ≡ j = omega arith in
+        ap (none? (λ a. isIn a && ofFlow (entryAt bs a) e))
+        (ap₂ numbersFrom from size ∙ sym (numbersFrom-shift first 0 j))
+        ∙ none?-map (λ a. isIn a && ofFlow (entryAt bs a) e) (λ a. first + a) (numbersFrom 0 j)
+        ∙ none?-ext _ (λ a. has listed a && ofFlow (entryAt bs (first + a)) e) (numbersFrom 0 j)
+        (λ a m. ap (λ b. b && ofFlow (entryAt bs (first + a)) e)
+        (sym
+        (has-setFrom isIn first n a
+        ∙ ap (λ b. b && isIn (first + a)) (lt-ltb a n (omega (arith, mem-numbersFrom 0 j m))))))
+
+------------------------------------------------------------------------
 -- the walk
 
 -- the number of the last entry's flow and its key, where there is one
@@ -162,32 +243,50 @@ pub data Ends (l : List Entry) (flow number : ℕ) : Type 0 where
   last : (p : List Entry) (f : Entry) → l ≡ p ++ (f ∷ []) → flow ≡ flowNumber f → number ≡ key (f .cell)
       → Ends l flow number
 
--- the entries passed stand together unless `broken`, their flows are marked, and the last of them is known
-pub record Flows (bs : List ℕ) (first set mark : ℕ) (marks : List ℕ) (broken : Bool) (flow number left : ℕ)
+-- the entries passed stand together unless `broken`, the first of each flow are among `heads`, their flows are marked,
+-- and the last of them is known
+pub record Flows (bs : List ℕ) (first set mark : ℕ) (marks : List ℕ) (broken : Bool) (heads flow number left : ℕ)
     : Type 0 where
   pub passed : List ℕ
   pub visited : Visited set passed left
   pub stand : not broken ≡ together (entriesAt bs first passed)
+  pub few : heads < 2 ^ positions
+  pub gathered : (j : ℕ) → j < positions → has heads j ≡ (not (has left j) && isHead bs first set j)
   pub marked : Marked mark marks (λ n. some? (flowIs n) (entriesAt bs first passed))
   pub ends : Ends (entriesAt bs first passed) flow number
 
 module _ (bs : List ℕ) (first chosen mark : ℕ) (marks : List ℕ) where
   pub flows-start : chosen < 2 ^ positions → MarksBelow mark marks → (number : ℕ)
-      → Flows bs first chosen mark marks false 128 number chosen
-  unfolding together some?
+      → Flows bs first chosen mark marks false 0 128 number chosen
+  unfolding together some? isHead
   flows-start fits below number =
       record {
         passed = [];
         visited = visited-start chosen fits;
         stand = refl;
+        few = omega arith;
+        gathered = λ j h. has-past 0 0 j (omega arith) (omega arith) ∙ nothing (has chosen j) _;
         marked = marked-none mark marks (λ n. some? (flowIs n) []) below (λ n. refl);
         ends = none refl refl;
       }
+    where
+      nothing : (a b : Bool) → false ≡ (not a && (a && b))
+      nothing true b = refl
+      nothing false b = refl
 
-  module _ (broken : Bool) (flow number left : ℕ) (w : Flows bs first chosen mark marks broken flow number left) where
+  module _ (broken : Bool) (heads flow number left : ℕ)
+      (w : Flows bs first chosen mark marks broken heads flow number left) where
     pub flows-end : left ≡ 0 → not broken ≡ together (entriesIn bs first chosen)
     unfolding entriesIn
     flows-end done = w .stand ∙ ap (λ js. together (entriesAt bs first js)) (sym (visited-end (w .visited) done))
+
+    pub flows-heads : left ≡ 0 → heads ≡ headsIn bs first chosen
+    unfolding headsIn
+    flows-heads done =
+        setOf-is (isHead bs first chosen) heads (w .few)
+        (λ j h. w .gathered j h
+        ∙ ap (λ b. not b && isHead bs first chosen j)
+        (ap (λ s. has s j) done ∙ has-past 0 0 j (omega arith) (omega arith)))
 
     -- the entry at hand
     module _ (some : 0 < left) (good : (g : Entry) → List·Memᴰ g (entriesIn bs first chosen) → Good first g) where
@@ -259,8 +358,52 @@ module _ (bs : List ℕ) (first chosen mark : ℕ) (marks : List ℕ) where
                 ∙ together-snoc p f this
                 ∙ ap (λ l. together l && joins f this l) (sym is-last))
 
+        -- it is a head unless its flow was met
+        head : isHead bs first chosen (firstOf left) ≡ not (eqb (getD marks n 0) mark)
+        unfolding isHead
+        head =
+            ap (λ b. b && none? (λ a. has chosen a && ofFlow (entryAt bs (first + a)) this) (upTo (firstOf left)))
+            (in-members chosen (visited-member (w .visited) some) .1)
+            ∙ sym (passed-none (λ a. ofFlow (entryAt bs (first + a)) this) chosen (w .passed) left (w .visited) some)
+            ∙ sym (none?-map (λ x. ofFlow x this) (λ a. entryAt bs (first + a)) (w .passed))
+            ∙ none?-not-some? (λ x. ofFlow x this) before
+            ∙ ap not (sym met)
+
+        heads-next : (new : Bool) → isHead bs first chosen (firstOf left) ≡ new → (j : ℕ) → j < positions
+            → has (cond new (withOne heads (firstOf left)) heads) j
+            ≡ (not (has (restOf left) j) && isHead bs first chosen j)
+        unfolding restOf
+        heads-next new is-head j h =
+            with-if new
+            ∙ ap (λ b. b || (eqb j (firstOf left) && new)) (w .gathered j h)
+            ∙ go (eqb j (firstOf left)) (has left j) (isHead bs first chosen j) new
+            (λ t. ap (has left) (eqb-true j (firstOf left) t) ∙ first-member left some (w .visited .fits))
+            (λ t. ap (isHead bs first chosen) (eqb-true j (firstOf left) t) ∙ is-head)
+            ∙ ap (λ b. not b && isHead bs first chosen j) (sym (has-withoutOne left (firstOf left) j h))
+          where
+            with-if : (b : Bool)
+                → has (cond b (withOne heads (firstOf left)) heads) j ≡ (has heads j || (eqb j (firstOf left) && b))
+            with-if true =
+                has-withOne heads (firstOf left) j h
+                ∙ ap (λ b. has heads j || b) (sym (and-true (eqb j (firstOf left))))
+            with-if false =
+                sym
+                (ap (λ b. has heads j || b) (and-false-r (eqb j (firstOf left)) false refl) ∙ or-false (has heads j))
+
+            go : (here old it new : Bool) → (here ≡ true → old ≡ true) → (here ≡ true → it ≡ new)
+                → ((not old && it) || (here && new)) ≡ (not (old && not here) && it)
+            go true true it new o i = sym (i refl)
+            go true false it new o i = absurd (clash (o refl) refl)
+            go false true it new o i = refl
+            go false false it new o i = or-false it
+
+        heads-few : (new : Bool) → cond new (withOne heads (firstOf left)) heads < 2 ^ positions
+        heads-few true = withOne-lt heads (firstOf left)
+        heads-few false = w .few
+
         pub flows-next : Flows bs first chosen mark (set marks n mark)
-            (broken || breaksFlow (eqb n flow) (leb k number) (eqb (getD marks n 0) mark)) n k (restOf left)
+            (broken || breaksFlow (eqb n flow) (leb k number) (eqb (getD marks n 0) mark))
+            (cond (not (eqb (getD marks n 0) mark)) (withOne heads (firstOf left)) heads) n k (restOf left)
         unfolding flowIs some?
         flows-next =
             let more = entriesAt-more bs first (w .passed) (firstOf left) in
@@ -268,6 +411,8 @@ module _ (bs : List ℕ) (first chosen mark : ℕ) (marks : List ℕ) where
               passed = w .passed ++ (firstOf left ∷ []);
               visited = visited-next (w .visited) some;
               stand = not-or broken _ ∙ fits-behind ∙ ap together (sym more);
+              few = heads-few (not (eqb (getD marks n 0) mark));
+              gathered = heads-next (not (eqb (getD marks n 0) mark)) head;
               marked =
                   marked-one (w .marked) n (omega arith)
                   (λ m. some? (flowIs m) (entriesAt bs first (w .passed ++ (firstOf left ∷ []))))

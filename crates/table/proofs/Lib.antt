@@ -4,6 +4,7 @@ pub mod Crossed
 pub mod Entries
 pub mod Fields
 pub mod Flows
+pub mod Handed
 pub mod Marks
 pub mod Parts
 pub mod Put

@@ -1,5 +1,5 @@
--- What one pass over the entries of a section found, in terms of the entries: the listed ones, and the crossed ones.
-use Prim.Native.Nat.{ℕ, _+_, _-_, _≤_, _<_}
+-- What one pass over the entries of a section found, in terms of the entries: the listed, the crossed and the buffered.
+use Prim.Native.Nat.{ℕ, _+_, _-_, _*_, _/_, _%_, _≤_, _<_}
 use mathlib.Core.Bool.{Bool, true, false, not, _&&_, _||_}
 use mathlib.Core.Path.{_≡_, refl, sym, _∙_, ap, ap₂}
 use mathlib.Core.List.{List}
@@ -11,11 +11,11 @@ use Rattle.laws.specs.Lists.{keep, all?, pairwise}
 use Rattle.laws.proofs.Tests.{and-false-l, and-false-r}
 use Rattle.laws.proofs.Lists.{all?-i, all?-e, mem-keep-in}
 use Rattle.laws.proofs.Pairwise.{pairwise-both}
-use Rattle.sets.specs.Sets.{minus}
+use Rattle.sets.specs.Sets.{setFrom, minus, both}
 use Rattle.cell.specs.Limits.{portLimit, cellLimit}
-use Rattle.model.specs.State.{Entry, isListed, isCrossed}
+use Rattle.model.specs.State.{Entry, isListed, isCrossed, isBuffered}
 use Rattle.model.specs.Sound.{together, otherSlot, otherCrosspoint}
-use Rattle.layout.specs.Entry.{countIn}
+use Rattle.layout.specs.Entry.{entryAt, countIn}
 use Rattle.layout.specs.Table.{tableSize}
 use Rattle.layout.specs.Records.{placeByteAt, between, entriesBetween, firstRecord}
 use Rattle.layout.proofs.Number.{bytes?}
@@ -23,8 +23,10 @@ use Rattle.layout.proofs.Records.{between-each}
 use Rattle.table.specs.Check.{isEntry, isUnused, roomOf, areSound, isSection, inRange, entriesIn}
 use Rattle.table.specs.Check.{otherOutput, Collected}
 use Rattle.table.specs.Entries.{recordLimit}
+use Rattle.table.specs.Handed.{isFirst, Sorts, headsIn}
 use Rattle.table.proofs.Fields.{isEntry-e, entries-inRange}
-use Rattle.table.proofs.Walks.{entriesIn-keep, listed-set, crossed-set}
+use Rattle.table.proofs.Flows.{heads-set}
+use Rattle.table.proofs.Walks.{entriesIn-keep, listed-set, crossed-set, buffered-set}
 
 -- a question that need not be asked where it is known to hold
 pub asked-if : (may b : Bool) → (may ≡ false → b ≡ true) → (not may || b) ≡ b
@@ -94,7 +96,8 @@ module _ (ports clock : ℕ) (bs : List ℕ) (input : ℕ) {n : ℕ} (e : n ≡ 
       (le-leb (countIn bs input) (roomOf ports input) (omega arith))
       ∙ ap (λ b. b && areSound ports clock bs first end) (rw e at unused))
 
--- the entries at the listed and at the crossed positions of a run, by the digits of their places
+-- the entries at the listed and at the crossed positions of a run, by the digits of their places; and of a run at the
+-- start of a section, the sets that are handed on
 pub record Found (bs : List ℕ) (first end low high : ℕ) : Type 0 where
   pub listed : entriesIn bs first (minus low high)
       ≡ keep (λ e. isListed (e .place)) (entriesBetween bs first end)
@@ -102,6 +105,9 @@ pub record Found (bs : List ℕ) (first end low high : ℕ) : Type 0 where
   pub crossed : pairwise otherOutput (entriesIn bs first (minus high low))
       ≡ pairwise otherCrosspoint (entriesBetween bs first end)
   pub crossed-range : all? inRange (entriesIn bs first (minus high low)) ≡ true
+  pub sorts : _≡_ {A = ℕ} (first % cellLimit) 0
+      → Sorts bs (first / cellLimit) (end - first) (minus low high) (headsIn bs first (minus low high)) (minus high low)
+      (both low high)
 
 module _ (ports clock : ℕ) (bs : List ℕ) (bytes : bytes? bs ≡ true) (size : length bs ≡ tableSize)
     (ports-few : ports ≤ portLimit) (first end : ℕ) (room : first + cellLimit ≤ recordLimit) (start : first ≤ end)
@@ -132,19 +138,24 @@ module _ (ports clock : ℕ) (bs : List ℕ) (bytes : bytes? bs ≡ true) (size 
   kept-range : (p : Entry → Bool) → all? inRange (keep p run) ≡ true
   kept-range p = all?-i inRange (keep p run) (λ e m. all?-e inRange ranges (mem-keep-in p run m))
 
+  listed-of : minus low high ≡ setFrom (λ k. isListed (entryAt bs k .place)) first n
+  listed-of = ap₂ minus (w .lows t) (w .highs t) ∙ listed-set bs first n (omega arith) places
+
+  crossed-of : minus high low ≡ setFrom (λ k. isCrossed (entryAt bs k .place)) first n
+  crossed-of = ap₂ minus (w .highs t) (w .lows t) ∙ crossed-set bs first n (omega arith) places
+
+  buffered-of : both low high ≡ setFrom (λ k. isBuffered (entryAt bs k .place)) first n
+  buffered-of = ap₂ both (w .lows t) (w .highs t) ∙ buffered-set bs first n (omega arith) places
+
   listed-run : entriesIn bs first (minus low high) ≡ keep (λ e. isListed (e .place)) run
   listed-run =
-      ap (entriesIn bs first)
-      (ap₂ minus (w .lows t) (w .highs t)
-      ∙ listed-set bs first n (omega arith) places)
+      ap (entriesIn bs first) listed-of
       ∙ entriesIn-keep (λ e. isListed (e .place)) bs first n (omega arith)
       ∙ ap (λ k. keep (λ e. isListed (e .place)) (entriesBetween bs first k)) whole
 
   crossed-run : entriesIn bs first (minus high low) ≡ keep (λ e. isCrossed (e .place)) run
   crossed-run =
-      ap (entriesIn bs first)
-      (ap₂ minus (w .highs t) (w .lows t)
-      ∙ crossed-set bs first n (omega arith) places)
+      ap (entriesIn bs first) crossed-of
       ∙ entriesIn-keep (λ e. isCrossed (e .place)) bs first n (omega arith)
       ∙ ap (λ k. keep (λ e. isCrossed (e .place)) (entriesBetween bs first k)) whole
 
@@ -158,4 +169,16 @@ module _ (ports clock : ℕ) (bs : List ℕ) (bytes : bytes? bs ≡ true) (size 
             ap (pairwise otherOutput) crossed-run
             ∙ sym (pairwise-both (λ e f. eqb (e .cell .output) (f .cell .output)) (λ e. isCrossed (e .place)) run);
         crossed-range = ap (all? inRange) crossed-run ∙ kept-range (λ e. isCrossed (e .place));
+        sorts =
+            λ aligned.
+            let at : first ≡ cellLimit * (first / cellLimit) = omega arith in
+            record {
+              listed-is = listed-of ∙ ap (λ k. setFrom (λ k. isListed (entryAt bs k .place)) k n) at;
+              heads-is =
+                  ap (headsIn bs first) listed-of
+                  ∙ heads-set bs first n (omega arith) aligned
+                  ∙ ap (λ k. setFrom (isFirst bs (first / cellLimit)) k n) at;
+              crossed-is = crossed-of ∙ ap (λ k. setFrom (λ k. isCrossed (entryAt bs k .place)) k n) at;
+              buffered-is = buffered-of ∙ ap (λ k. setFrom (λ k. isBuffered (entryAt bs k .place)) k n) at;
+            };
       }

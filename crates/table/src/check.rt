@@ -1,23 +1,25 @@
 // Whether bytes are a table: those of one sound state (scope 5.1). The header first, then input by
-// input the count, the unused records, the entries in one pass, and what is asked of the entries together.
+// input the count, the unused records, the entries in one pass, and what is asked of the entries together. The sets of
+// positions that the check makes of a section are handed on.
 use crate::entry;
 use crate::entry::CELLS;
 use crate::word;
 use cell::Switch;
-ghost use mathlib.Core.Bool.{true, not, _||_};
+ghost use mathlib.Core.Bool.{true, false, not, _||_};
 ghost use mathlib.Core.Path.{_≡_};
-ghost use Prim.Native.Nat.{_+_, _*_, _%_, _<_, _≤_};
+ghost use Prim.Native.Nat.{_+_, _-_, _*_, _/_, _%_, _<_, _≤_};
 ghost use lib.Dec.{eqb};
 ghost use lib.ListN.{length};
 ghost use Rattle.laws.specs.Lists.{some?, all?, pairwise};
 ghost use Rattle.cell.specs.Limits.{portLimit, cellLimit};
 ghost use Rattle.model.specs.Sound.{together, otherSlot};
-ghost use Rattle.layout.specs.Entry.{entryAt};
+ghost use Rattle.layout.specs.Entry.{entryAt, countIn};
 ghost use Rattle.layout.specs.Table.{tableSize, isTable};
 ghost use Rattle.layout.specs.Records.{between, entriesBetween};
 ghost use Rattle.table.specs.Check.{isSection, isUnused, roomOf, areSound, inRange, inReach, sameSlot};
 ghost use Rattle.table.specs.Check.{entriesIn, otherOutput, breaksFlow, Collected, MarksBelow};
 ghost use Rattle.table.specs.Entries.{recordLimit};
+ghost use Rattle.table.specs.Handed.{Handed, Sorts, headsIn};
 
 // What one pass over the entries of a section finds: whether all are entries, whether two may have one slot, and the
 // low and the high digits of their places, as sets of positions.
@@ -26,6 +28,21 @@ struct Places {
     again: bool,
     low: u64,
     high: u64,
+}
+
+// Whether a section is sound; and if it is, its cells by their places, as sets of positions, and the heads of its list.
+struct Sorted {
+    sound: bool,
+    listed: u64,
+    heads: u64,
+    crossed: u64,
+    buffered: u64,
+}
+
+// Whether the cells of each flow stand together, and which of them are the first of their flow.
+struct Flows {
+    together: bool,
+    heads: u64,
 }
 
 // So many unused records are gathered together: their number is known, and the processor's wide registers serve.
@@ -42,6 +59,26 @@ const SPARE_BITS: u32 = 0xfffc_f8f0;
 pub fn is_table(bytes: &[u8]) -> bool
     ensures { λ r. ⌜ r ≡ isTable (now (bytes .entry)) ⌝ }
 {
+    let mut listed = [0u64; entry::PORTS];
+    let mut heads = [0u64; entry::PORTS];
+    let mut crossed = [0u64; entry::PORTS];
+    let mut buffered = [0u64; entry::PORTS];
+    sort_table(bytes, &mut listed, &mut heads, &mut crossed, &mut buffered)
+}
+
+// Whether the bytes are a table; and if they are, the cells of each input by their places, as sets of positions, and
+// the heads of its list.
+pub fn sort_table(
+    bytes: &[u8],
+    listed: &mut [u64; entry::PORTS],
+    heads: &mut [u64; entry::PORTS],
+    crossed: &mut [u64; entry::PORTS],
+    buffered: &mut [u64; entry::PORTS],
+) -> bool
+    ensures { λ r. ⌜ r ≡ isTable (now (bytes .entry)) ⌝ }
+    ensures { λ _. ⌜ (isTable (now (bytes .entry)) ≡ true → Handed (now (bytes .entry)) (now (listed .exit))
+        (now (heads .exit)) (now (crossed .exit)) (now (buffered .exit))) ⌝ }
+{
     if bytes.len() != entry::TABLE_BYTES {
         return false;
     }
@@ -55,41 +92,69 @@ pub fn is_table(bytes: &[u8]) -> bool
     if word::read_u32(bytes, 12) != 0 {
         return false;
     }
-    are_sections(bytes, ports, entry::clock_of(bytes))
+    are_sections(
+        bytes,
+        ports,
+        entry::clock_of(bytes),
+        listed,
+        heads,
+        crossed,
+        buffered,
+    )
 }
 
-// Whether each of the sixteen sections is one of a table. The marks serve all of them: each pass over a section has a
-// greater mark of its own, so they are cleared once.
-fn are_sections(bytes: &[u8], ports: u32, clock: u32) -> bool
+// Whether each of the sixteen sections is one of a table, and the sets of each. The marks serve all of them: each pass
+// over a section has a greater mark of its own, so they are cleared once.
+fn are_sections(
+    bytes: &[u8],
+    ports: u32,
+    clock: u32,
+    listed: &mut [u64],
+    heads: &mut [u64],
+    crossed: &mut [u64],
+    buffered: &mut [u64],
+) -> bool
     requires { ⌜ (length (now bytes) ≡ tableSize) × (ports ≤ portLimit) ⌝ }
+    requires { ⌜ (length (now listed) ≡ 16) × (length (now heads) ≡ 16) × (length (now crossed) ≡ 16)
+        × (length (now buffered) ≡ 16) ⌝ }
     ensures { λ r. ⌜ r ≡ all? (isSection ports clock (now (bytes .entry))) (between 0 portLimit) ⌝ }
+    ensures { λ r. ⌜ (r ≡ true → Handed (now (bytes .entry)) (now (listed .exit)) (now (heads .exit))
+        (now (crossed .exit)) (now (buffered .exit))) ⌝ }
 {
     let mut marks = [0u8; 256];
     let mut i = 0;
     while i < entry::PORTS {
-        if !is_section(bytes, ports, clock, i, &mut marks) {
+        let section = is_section(bytes, ports, clock, i, &mut marks);
+        if !section.sound {
             return false;
         }
+        listed[i] = section.listed;
+        heads[i] = section.heads;
+        crossed[i] = section.crossed;
+        buffered[i] = section.buffered;
         i += 1;
     }
     true
 }
 
-// Whether the section of an input is one of a table. An input that the switch does not have has no entries.
-fn is_section(bytes: &[u8], ports: u32, clock: u32, input: usize, marks: &mut [u8; 256]) -> bool
+// Whether the section of an input is one of a table, and its sets. An input that the switch does not have has no
+// entries.
+fn is_section(bytes: &[u8], ports: u32, clock: u32, input: usize, marks: &mut [u8; 256]) -> Sorted
     requires { ⌜ (length (now bytes) ≡ tableSize) × (ports ≤ portLimit) × (input < portLimit) ⌝ }
     requires { ⌜ MarksBelow (2 * input + 1) (now marks) ⌝ }
-    ensures { λ r. ⌜ r ≡ isSection ports clock (now (bytes .entry)) input ⌝ }
+    ensures { λ r. ⌜ r .sound ≡ isSection ports clock (now (bytes .entry)) input ⌝ }
+    ensures { λ r. ⌜ (r .sound ≡ true → Sorts (now (bytes .entry)) input (countIn (now (bytes .entry)) input)
+        (r .listed) (r .heads) (r .crossed) (r .buffered)) ⌝ }
     ensures { λ _. ⌜ MarksBelow (2 * input + 3) (now (marks .exit)) ⌝ }
 {
     let count = entry::count_of(bytes, input);
     if room(ports, input) < count {
-        return false;
+        return unsound();
     }
     let first = CELLS * input;
     let end = first + count;
     if !are_unused(bytes, end, first + CELLS) {
-        return false;
+        return unsound();
     }
     are_sound(
         bytes,
@@ -100,6 +165,19 @@ fn is_section(bytes: &[u8], ports: u32, clock: u32, input: usize, marks: &mut [u
         (2 * input + 1) as u8,
         marks,
     )
+}
+
+// What is said of a section that is not sound.
+fn unsound() -> Sorted
+    ensures { λ r. ⌜ r .sound ≡ false ⌝ }
+{
+    Sorted {
+        sound: false,
+        listed: 0,
+        heads: 0,
+        crossed: 0,
+        buffered: 0,
+    }
 }
 
 // How many entries an input may have.
@@ -149,7 +227,8 @@ fn record_bits(bytes: &[u8], k: usize) -> u64
     word::read_u64(bytes, entry::start_of(k)) | word::read_u64(bytes, entry::start_of(k) + 8)
 }
 
-// Whether the records of a section from the first up to an end are sound entries, one by one and together.
+// Whether the records of a section from the first up to an end are sound entries, one by one and together; and their
+// sets.
 fn are_sound(
     bytes: &[u8],
     ports: u32,
@@ -158,30 +237,35 @@ fn are_sound(
     end: usize,
     mark: u8,
     marks: &mut [u8; 256],
-) -> bool
+) -> Sorted
     requires { ⌜ (length (now bytes) ≡ tableSize) × (ports ≤ portLimit) × (mark < 255) × MarksBelow mark (now marks) ⌝ }
     requires { ⌜ (first + cellLimit ≤ recordLimit) × (first % cellLimit ≡ 0) ⌝ }
     requires { ⌜ (first ≤ end) × (end ≤ first + cellLimit) ⌝ }
-    ensures { λ r. ⌜ r ≡ areSound ports clock (now (bytes .entry)) first end ⌝ }
+    ensures { λ r. ⌜ r .sound ≡ areSound ports clock (now (bytes .entry)) first end ⌝ }
+    ensures { λ r. ⌜ (r .sound ≡ true → Sorts (now (bytes .entry)) (first / cellLimit) (end - first)
+        (r .listed) (r .heads) (r .crossed) (r .buffered)) ⌝ }
     ensures { λ _. ⌜ MarksBelow (mark + 2) (now (marks .exit)) ⌝ }
 {
     let places = collect(bytes, ports, clock, first, end, mark, marks);
     if !places.good {
-        return false;
+        return unsound();
     }
     if !slots_differ(bytes, places.again, first, end) {
-        return false;
+        return unsound();
     }
-    if !crosspoints_differ(bytes, first, sets::minus(places.high, places.low)) {
-        return false;
+    let crossed = sets::minus(places.high, places.low);
+    if !crosspoints_differ(bytes, first, crossed) {
+        return unsound();
     }
-    flows_together(
-        bytes,
-        first,
-        sets::minus(places.low, places.high),
-        mark + 1,
-        marks,
-    )
+    let listed = sets::minus(places.low, places.high);
+    let flows = flows_together(bytes, first, listed, mark + 1, marks);
+    Sorted {
+        sound: flows.together,
+        listed,
+        heads: flows.heads,
+        crossed,
+        buffered: sets::both(places.low, places.high),
+    }
 }
 
 // One pass over the entries of a section, from the last to the first, so that the digits of their places can be pushed
@@ -305,30 +389,39 @@ fn crosspoints_differ(bytes: &[u8], first: usize, crossed: u64) -> bool
     !twice
 }
 
-// Whether of the entries at these positions the cells of each flow stand together in output priority. `last` is the
-// flow of the entry before; the flows passed are marked. Nothing branches on them, as that would be guessed badly.
-fn flows_together(bytes: &[u8], first: usize, listed: u64, mark: u8, marks: &mut [u8; 256]) -> bool
+// Whether of the entries at these positions the cells of each flow stand together in output priority, and which are the
+// first of their flow. `last` is the flow of the entry before; the flows passed are marked. Nothing branches on them,
+// as that would be guessed badly.
+fn flows_together(bytes: &[u8], first: usize, listed: u64, mark: u8, marks: &mut [u8; 256]) -> Flows
     requires { ⌜ (length (now bytes) ≡ tableSize) × (first + cellLimit ≤ recordLimit) × (first % cellLimit ≡ 0) ⌝ }
     requires { ⌜ all? inRange (entriesIn (now bytes) first listed) ≡ true ⌝ }
     requires { ⌜ MarksBelow mark (now marks) ⌝ }
-    ensures { λ r. ⌜ r ≡ together (entriesIn (now (bytes .entry)) first listed) ⌝ }
+    ensures { λ r. ⌜ r .together ≡ together (entriesIn (now (bytes .entry)) first listed) ⌝ }
+    ensures { λ r. ⌜ r .heads ≡ headsIn (now (bytes .entry)) first listed ⌝ }
     ensures { λ _. ⌜ MarksBelow (mark + 1) (now (marks .exit)) ⌝ }
 {
     let mut broken = false;
+    let mut heads = 0;
     let mut last = NO_FLOW;
     let mut last_key = 0;
     let mut left = listed;
     while left != 0 {
-        let k = first + sets::first(left);
+        let position = sets::first(left);
+        let k = first + position;
         let flow = entry::flow_number(bytes, k);
         let key = entry::key_of(bytes, k);
-        broken = broken | breaks_flow(flow == last, key <= last_key, marks[flow] == mark);
+        let met = marks[flow] == mark;
+        broken = broken | breaks_flow(flow == last, key <= last_key, met);
+        heads = sets::with_if(heads, position, !met);
         marks[flow] = mark;
         last = flow;
         last_key = key;
         left = sets::rest(left);
     }
-    !broken
+    Flows {
+        together: !broken,
+        heads,
+    }
 }
 
 // Whether an entry breaks its flow: the one before it is of its flow and does not go first, or is of another flow and

@@ -79,12 +79,14 @@ returns c =
     let moved = new .before .before .before .before in
     let at = moved .before .before in
     let count = at .before .before in
-    let start = count .before .before .before .before in
-    written .write-count .ensures
-    ∙ entered-bytes _ (start .pre .0) _ (start .pre .1 .0 .0) (start .pre .1 .0 .1) (at .new-place .result)
-    (count .count-of .result) (moved .move-up .last .0) (new .write-entry .last .0) (at .new-place .ensures)
-    (count .count-of .ensures) (moved .move-up .ensures)
-    (new .write-entry .ensures ∙ new-written (at .new-place .result) (start .args .c) (moved .move-up .last .0))
+    let start = count .before .before .before .before in (
+      written .write-count .ensures
+          ∙ entered-bytes _ (start .pre .0) _ (start .pre .1 .0 .0) (start .pre .1 .0 .1) (at .new-place .result)
+          (count .count-of .result) (moved .move-up .last .0) (new .write-entry .last .0) (at .new-place .ensures)
+          (count .count-of .ensures) (moved .move-up .ensures)
+          (new .write-entry .ensures ∙ new-written (at .new-place .result) (start .args .c) (moved .move-up .last .0)),
+      at .new-place .ensures,
+    )
 
 pub enter-spec : {M : Type 1} → statement M
 enter-spec =

@@ -24,10 +24,10 @@ returns c =
     let written = c .before .before in
     let departed = written .before .before .before .before .before .before in
     let scheduled = departed .before .before .before .before .before .before in
-    let start = scheduled .before .before .before .before .before in
+    let start = scheduled .before .before .before .before .before .before .before in
     let h = scheduled .schedule .ensures in (
       ran-table _ _ _ _ _ h _ (departed .depart .ensures .0),
-      ran-answer _ _ _ _ _ h _ _ _ (start .pre .1) (departed .depart .ensures .1) (written .write-proposals .ensures),
+      ran-answer _ _ _ _ _ h _ _ _ (start .pre .0 .1) (departed .depart .ensures .1) (written .write-proposals .ensures),
     )
 
 pub run-spec : {M : Type 1} → statement M

@@ -12,25 +12,44 @@ use Rattle.fabric.proofs.slot.schedule.Statement.{statement}
 use Rattle.fabric.proofs.slot.schedule.Tie as tie
 
 abbrev Inv-loop : tie.InvT-loop
-Inv-loop table₀ best₀ listed₀ heads₀ cross₀ keys₀ made₀ n₀ table best listed heads cross keys made n =
+Inv-loop table₀ listed₀ heads₀ crossed buffered best₀ cross₀ keys₀ made₀ n₀ table listed heads best cross keys made n =
     (n ≤ 2) × Phased (stateOf table₀) n table made × Viewed table listed heads cross keys best × (length made ≡ 2)
     × (length table ≡ length table₀)
 
 abbrev μ-loop : tie.MeasureT-loop
-μ-loop table₀ best₀ listed₀ heads₀ cross₀ keys₀ made₀ n₀ table best listed heads cross keys made n =
+μ-loop table₀ listed₀ heads₀ crossed buffered best₀ cross₀ keys₀ made₀ n₀ table listed heads best cross keys made n =
     2 - n
 
 load-requires : tie.Need-load-requires Inv-loop μ-loop
 load-requires c κs =
-    let start = c .before .before .before .before .before .before .before in (
-      start .pre .0,
-      record { no-lists = refl; no-heads = refl; no-crosspoints = refl; no-keys = refl; no-buffers = start .pre .1 },
+    let start = c .before .before .before .before .before in
+    let sets = start .pre .1 in (
+      start .pre .0 .0,
+      (
+        sets .crossed-at,
+        (
+          sets .buffered-at,
+          record { no-crosspoints = refl; no-keys = refl; no-buffers = start .pre .0 .1 },
+        ),
+      ),
     )
 
 loop-holds : tie.Need-loop-holds Inv-loop μ-loop
 loop-holds c =
-    let start = c .before .before .before .before .before .before .before .before in
-    (omega arith, phased-none _ _ _ (start .pre .0) refl, c .load .ensures, refl, refl)
+    let start = c .before .before .before .before .before .before in
+    let l = c .load .ensures in (
+      omega arith,
+      phased-none _ _ _ (start .pre .0 .0) refl,
+      record {
+        lists = start .pre .1 .lists;
+        square = l .square;
+        agrees = l .agrees;
+        keyed = l .keyed;
+        bests = l .bests;
+      },
+      refl,
+      refl,
+    )
 
 phase-requires : tie.Need-phase-requires Inv-loop μ-loop
 phase-requires c κs =
@@ -74,7 +93,7 @@ same-length c = c .before .loop .inv .4
 returns : tie.Need-returns Inv-loop μ-loop
 returns c =
     let loop = c .before .loop in
-    let start = c .before .before .before .before .before .before .before .before .before .before in
+    let start = c .before .before .before .before .before .before .before .before in
     let last : loop .n ≡ 2 = omega (arith, loop .inv .0) in
     schedules _ _ _ _
     (subst (λ k. Phased (stateOf (start .args .table .now)) k (loop .table) (loop .made)) last (loop .inv .1))

@@ -4,7 +4,7 @@ use mathlib.Core.Path.{_≡_, sym, _∙_, ap}
 use native.Mathlib.Omega.{arith}
 use borrow.Author.Needs.{needs}
 use Rattle.laws.specs.Lists.{all?, pairwise}
-use Rattle.laws.proofs.Tests.{not-e, not-false-e}
+use Rattle.laws.proofs.Tests.{clash, not-e, not-false-e}
 use Rattle.model.specs.Sound.{together, otherSlot, otherCrosspoint}
 use Rattle.layout.specs.Records.{between, entriesBetween}
 use Rattle.table.specs.Check.{isEntry, entriesIn, otherOutput}
@@ -61,26 +61,39 @@ crosspoints c =
 collect-requires : tie.Need-collect-requires
 collect-requires c κs = search needs
 
+unsound-requires : tie.Need-unsound-requires
+unsound-requires c κs = search needs
+
 returns : tie.Need-returns
 returns c =
-    let pass = c .before .before .collect in
-    let a = c .before .before .before .before .before .args in (
-      unsound-entry (a .ports) (a .clock) (a .bytes .now) (a .first) (a .end)
-          (sym (pass .ensures .0 .entries) ∙ not-e (pass .result .good) (c .if1 .taken)),
-      below-more _ _ _ (omega arith) (pass .ensures .1),
+    let then1 = c .before in
+    let pass = then1 .before .before .collect in
+    let a = then1 .before .before .before .before .before .args in (
+      c .unsound .ensures
+          ∙ unsound-entry (a .ports) (a .clock) (a .bytes .now) (a .first) (a .end)
+          (sym (pass .ensures .0 .entries) ∙ not-e (pass .result .good) (then1 .if1 .taken)),
+      (λ t. absurd (clash t (c .unsound .ensures)), below-more _ _ _ (omega arith) (pass .ensures .1)),
     )
 
 slots-differ-requires : tie.Need-slots-differ-requires
 slots-differ-requires c κs = search needs
 
+unsound-requires-2 : tie.Need-unsound-requires-2
+unsound-requires-2 c κs = search needs
+
 returns-2 : tie.Need-returns-2
 returns-2 c =
-    let asked = c .before .slots-differ in
-    let else1 = c .before .before in
+    let then2 = c .before in
+    let asked = then2 .before in
+    let else1 = asked .before in
     let a = else1 .before .before .before .before .before .args in (
-      unsound-slots (a .ports) (a .clock) (a .bytes .now) (a .first) (a .end)
-          (sym (slots (c .before)) ∙ not-e (asked .result) (c .if2 .taken)),
-      below-more _ _ _ (omega arith) (else1 .before .before .collect .ensures .1),
+      c .unsound2 .ensures
+          ∙ unsound-slots (a .ports) (a .clock) (a .bytes .now) (a .first) (a .end)
+          (sym (slots asked) ∙ not-e (asked .slots-differ .result) (then2 .if2 .taken)),
+      (
+        λ t. absurd (clash t (c .unsound2 .ensures)),
+        below-more _ _ _ (omega arith) (else1 .before .before .collect .ensures .1),
+      ),
     )
 
 minus-requires : tie.Need-minus-requires
@@ -92,14 +105,22 @@ crosspoints-differ-requires c κs =
     let pre = else1 .before .before .before .before .before .pre in
     ((pre .0 .0, pre .1 .0 .0), rw (c .minus .ensures) (found-there else1 .crossed-range))
 
+unsound-requires-3 : tie.Need-unsound-requires-3
+unsound-requires-3 c κs = search needs
+
 returns-3 : tie.Need-returns-3
 returns-3 c =
-    let asked = c .before .crosspoints-differ in
-    let else1 = c .before .before .before .before .before in
+    let then3 = c .before in
+    let asked = then3 .before in
+    let else1 = asked .before .before .before .before in
     let a = else1 .before .before .before .before .before .args in (
-      unsound-crosspoints (a .ports) (a .clock) (a .bytes .now) (a .first) (a .end)
-          (sym (crosspoints (c .before)) ∙ not-e (asked .result) (c .if3 .taken)),
-      below-more _ _ _ (omega arith) (else1 .before .before .collect .ensures .1),
+      c .unsound3 .ensures
+          ∙ unsound-crosspoints (a .ports) (a .clock) (a .bytes .now) (a .first) (a .end)
+          (sym (crosspoints asked) ∙ not-e (asked .crosspoints-differ .result) (then3 .if3 .taken)),
+      (
+        λ t. absurd (clash t (c .unsound3 .ensures)),
+        below-more _ _ _ (omega arith) (else1 .before .before .collect .ensures .1),
+      ),
     )
 
 minus-requires-2 : tie.Need-minus-requires-2
@@ -116,22 +137,37 @@ flows-together-requires c κs =
       (rw (c .before .minus2 .ensures) (found-there else1 .listed-range), else1 .before .before .collect .ensures .1),
     )
 
+both-requires : tie.Need-both-requires
+both-requires c κs = search needs
+
 returns-4 : tie.Need-returns-4
 returns-4 c =
-    let listed = c .before .before in
+    let flows = c .before in
+    let listed = flows .before .before in
     let else3 = listed .before in
     let crossed = else3 .before in
     let else2 = crossed .before .before in
     let asked = else2 .before in
     let else1 = asked .before in
-    let a = else1 .before .before .before .before .before .args in (
-      c .flows-together .ensures .0
+    let start = else1 .before .before .before .before .before in
+    let a = start .args in (
+      flows .flows-together .ensures .0
           ∙ ap (λ s. together (entriesIn (a .bytes .now) (a .first) s)) (listed .minus2 .ensures)
           ∙ ap together (found-there else1 .listed)
           ∙ sound-flows (a .ports) (a .clock) (a .bytes .now) (a .first) (a .end) (entries else1)
           (sym (slots asked) ∙ not-false-e (asked .slots-differ .result) (else2 .if2 .left))
           (sym (crosspoints crossed) ∙ not-false-e (crossed .crosspoints-differ .result) (else3 .if3 .left)),
-      below-more _ _ _ (omega arith) (c .flows-together .ensures .1),
+      (
+        λ _.
+            rw (
+              flows .flows-together .ensures .1 .0,
+              listed .minus2 .ensures,
+              crossed .before .minus .ensures,
+              c .both .ensures,
+            )
+            (found-there else1 .sorts (start .pre .1 .0 .1)),
+        below-more _ _ _ (omega arith) (flows .flows-together .ensures .1 .1),
+      ),
     )
 
 pub are-sound-spec : {M : Type 1} → statement M
@@ -139,13 +175,17 @@ are-sound-spec =
     tie.close
     (tie.spec
     collect-requires
+    unsound-requires
     returns
     slots-differ-requires
+    unsound-requires-2
     returns-2
     minus-requires
     crosspoints-differ-requires
+    unsound-requires-3
     returns-3
     minus-requires-2
     add-flows-together
     flows-together-requires
+    both-requires
     returns-4)

@@ -1,4 +1,5 @@
--- The entries passed stand together unless a flow is broken, and their flows are marked (proofs/Flows).
+-- The entries passed stand together unless a flow is broken, the first of each flow are gathered, and their flows are
+-- marked (proofs/Flows).
 use Prim.Native.Nat.{_+_, _<_}
 use mathlib.Core.Path.{_≡_, _∙_, ap}
 use mathlib.Core.List.{List·Memᴰ}
@@ -14,16 +15,17 @@ use Rattle.table.specs.Entries.{flowNumber}
 use Rattle.table.proofs.Fields.{known-bytes}
 use Rattle.table.proofs.Walks.{inRange-e}
 use Rattle.table.proofs.Marks.{marked-below}
-use Rattle.table.proofs.Flows.{Flows, Good, section-good, flows-start, flows-next, flows-end, this-good}
+use Rattle.table.proofs.Flows.{Flows, Good, section-good, this-good}
+use Rattle.table.proofs.Flows.{flows-start, flows-next, flows-end, flows-heads}
 use Rattle.table.proofs.check.flows_together.Statement.{statement}
 use Rattle.table.proofs.check.flows_together.Tie as tie
 
 abbrev Inv-loop : tie.InvT-loop
-Inv-loop bytes first listed mark marks₀ broken₀ last₀ last-key₀ left₀ marks broken last last-key left =
-    Flows bytes first listed mark marks broken last last-key left
+Inv-loop bytes first listed mark marks₀ broken₀ heads₀ last₀ last-key₀ left₀ marks broken heads last last-key left =
+    Flows bytes first listed mark marks broken heads last last-key left
 
 abbrev μ-loop : tie.MeasureT-loop
-μ-loop bytes first listed mark marks₀ broken₀ last₀ last-key₀ left₀ marks broken last last-key left =
+μ-loop bytes first listed mark marks₀ broken₀ heads₀ last₀ last-key₀ left₀ marks broken heads last last-key left =
     left
 
 -- where a position is left: its record is one of the table, and its entry one of the section's
@@ -49,7 +51,7 @@ module _ (c : tie.In-loop Inv-loop μ-loop) where
   this =
       let a = c .before .before .before .args in
       let l = c .before .loop in
-      this-good (a .bytes .now) (a .first) (a .listed) (a .mark) (l .marks) (l .broken) (l .last) (l .last-key)
+      this-good (a .bytes .now) (a .first) (a .listed) (a .mark) (l .marks) (l .broken) (l .heads) (l .last) (l .last-key)
       (l .left) (l .inv) some good
 
 loop-holds : tie.Need-loop-holds Inv-loop μ-loop
@@ -79,27 +81,33 @@ key-of-requires c κs =
     let start = c .before .before .before .before .before in
     (start .pre .0 .0, omega (arith, position (c .before .before), c .before .first .ensures))
 
-element-copy-out-breaks-flow : tie.Need-element-copy-out-breaks-flow Inv-loop μ-loop
-element-copy-out-breaks-flow c = omega (arith, c .before .flow-number .ensures .1)
+element-copy-out-met : tie.Need-element-copy-out-met Inv-loop μ-loop
+element-copy-out-met c = omega (arith, c .before .flow-number .ensures .1)
 
 breaks-flow-requires : tie.Need-breaks-flow-requires Inv-loop μ-loop
 breaks-flow-requires c κs = search needs
 
+with-if-requires : tie.Need-with-if-requires Inv-loop μ-loop
+with-if-requires c κs =
+    let at = c .before .before .before .before in
+    omega (arith, position (at .before), at .first .ensures)
+
 element-write-marks : tie.Need-element-write-marks Inv-loop μ-loop
-element-write-marks c = omega (arith, c .before .before .before .flow-number .ensures .1)
+element-write-marks c = omega (arith, c .before .before .before .before .flow-number .ensures .1)
 
 rest-requires : tie.Need-rest-requires Inv-loop μ-loop
-rest-requires c κs = some (c .before .before .before .before .before)
+rest-requires c κs = some (c .before .before .before .before .before .before)
 
 loop-less : tie.Need-loop-less Inv-loop μ-loop
 loop-less c =
-    let in-loop = c .before .before .before .before .before .before in
+    let in-loop = c .before .before .before .before .before .before .before in
     let l = in-loop .before .loop in
     omega (arith, c .rest .ensures, rest-less (l .left) (some in-loop) (l .inv .visited .fits))
 
 loop-again : tie.Need-loop-again Inv-loop μ-loop
 loop-again c =
-    let keyed = c .before .before .before in
+    let broken = c .before .before in
+    let keyed = broken .before .before in
     let number = keyed .before in
     let at = number .before in
     let in-loop = at .before in
@@ -110,8 +118,8 @@ loop-again c =
     ∙ ap (λ j. flowNumber (entryAt (a .bytes .now) (a .first + j))) (at .first .ensures) in
     let first : keyed .key-of .result ≡ key (entryAt (a .bytes .now) (a .first + firstOf (l .left)) .cell) =
     keyed .key-of .ensures ∙ ap (λ j. key (entryAt (a .bytes .now) (a .first + j) .cell)) (at .first .ensures) in
-    rw (c .before .breaks-flow .ensures, c .rest .ensures)
-    (flows-next (a .bytes .now) (a .first) (a .listed) (a .mark) (l .marks) (l .broken) (l .last) (l .last-key)
+    rw (broken .breaks-flow .ensures, c .before .with-if .ensures, at .first .ensures, c .rest .ensures)
+    (flows-next (a .bytes .now) (a .first) (a .listed) (a .mark) (l .marks) (l .broken) (l .heads) (l .last) (l .last-key)
     (l .left) (l .inv) (some in-loop) (good in-loop) (number .flow-number .result) (keyed .key-of .result) flow
     (number .flow-number .ensures .1) first)
 
@@ -119,9 +127,13 @@ returns : tie.Need-returns Inv-loop μ-loop
 returns c =
     let a = c .before .before .before .args in
     let l = c .before .loop in (
-      flows-end (a .bytes .now) (a .first) (a .listed) (a .mark) (l .marks) (l .broken) (l .last) (l .last-key)
+      flows-end (a .bytes .now) (a .first) (a .listed) (a .mark) (l .marks) (l .broken) (l .heads) (l .last) (l .last-key)
           (l .left) (l .inv) (c .loop-test .left),
-      marked-below (l .inv .marked),
+      (
+        flows-heads (a .bytes .now) (a .first) (a .listed) (a .mark) (l .marks) (l .broken) (l .heads) (l .last)
+            (l .last-key) (l .left) (l .inv) (c .loop-test .left),
+        marked-below (l .inv .marked),
+      ),
     )
 
 pub flows-together-spec : {M : Type 1} → statement M
@@ -135,8 +147,9 @@ flows-together-spec =
     add-k
     flow-number-requires
     key-of-requires
-    element-copy-out-breaks-flow
+    element-copy-out-met
     breaks-flow-requires
+    with-if-requires
     element-write-marks
     rest-requires
     loop-less

@@ -1,9 +1,9 @@
 -- Each question in turn: one that is not answered, or all of them.
-use Prim.Native.Nat.{_≤_}
-use mathlib.Core.Path.{sym, _∙_}
+use Prim.Native.Nat.{_+_, _-_, _*_, _/_, _≤_}
+use mathlib.Core.Path.{_≡_, sym, _∙_}
 use native.Mathlib.Omega.{arith}
 use borrow.Author.Needs.{needs}
-use Rattle.laws.proofs.Tests.{not-e, not-false-e}
+use Rattle.laws.proofs.Tests.{clash, not-e, not-false-e}
 use Rattle.table.proofs.Marks.{below-more}
 use Rattle.table.proofs.Parts.{roomOf-le}
 use Rattle.table.proofs.Sections.{section-full, section-used, section-sound}
@@ -23,14 +23,19 @@ count-of-requires c κs = search needs
 room-requires : tie.Need-room-requires
 room-requires c κs = search needs
 
+unsound-requires : tie.Need-unsound-requires
+unsound-requires c κs = search needs
+
 returns : tie.Need-returns
 returns c =
-    let count = c .before .before in
+    let then1 = c .before in
+    let count = then1 .before .before in
     let start = count .before .before in
     let a = start .args in (
-      section-full (a .ports) (a .clock) (a .bytes .now) (a .input) (count .count-of .ensures)
-          (omega (arith, c .before .room .ensures)),
-      below-more _ _ _ (omega arith) (start .pre .1),
+      c .unsound .ensures
+          ∙ section-full (a .ports) (a .clock) (a .bytes .now) (a .input) (count .count-of .ensures)
+          (omega (arith, then1 .if1 .taken, then1 .before .room .ensures)),
+      (λ t. absurd (clash t (c .unsound .ensures)), below-more _ _ _ (omega arith) (start .pre .1)),
     )
 
 mul-first : tie.Need-mul-first
@@ -45,15 +50,20 @@ add-are-unused c = search needs
 are-unused-requires : tie.Need-are-unused-requires
 are-unused-requires c κs = (c .before .before .before .before .pre .0 .0, omega (arith, few c), omega arith)
 
+unsound-requires-2 : tie.Need-unsound-requires-2
+unsound-requires-2 c κs = search needs
+
 returns-2 : tie.Need-returns-2
 returns-2 c =
-    let asked = c .before .are-unused in
-    let count = c .before .before .before .before in
+    let then2 = c .before in
+    let asked = then2 .before .are-unused in
+    let count = then2 .before .before .before .before in
     let start = count .before .before in
     let a = start .args in (
-      section-used (a .ports) (a .clock) (a .bytes .now) (a .input) (count .count-of .ensures)
-          (sym (asked .ensures) ∙ not-e (asked .result) (c .if2 .taken)),
-      below-more _ _ _ (omega arith) (start .pre .1),
+      c .unsound2 .ensures
+          ∙ section-used (a .ports) (a .clock) (a .bytes .now) (a .input) (count .count-of .ensures)
+          (sym (asked .ensures) ∙ not-e (asked .result) (then2 .if2 .taken)),
+      (λ t. absurd (clash t (c .unsound2 .ensures)), below-more _ _ _ (omega arith) (start .pre .1)),
     )
 
 mul-are-sound : tie.Need-mul-are-sound
@@ -78,12 +88,18 @@ returns-3 c =
     let asked = else2 .before .are-unused in
     let else1 = else2 .before .before in
     let count = else1 .before .before in
-    let a = count .before .before .args in (
+    let a = count .before .before .args in
+    let n = count .count-of .result in
+    let input : 64 * a .input / 64 ≡ a .input = omega arith in
+    let size : 64 * a .input + n - 64 * a .input ≡ n = omega arith in (
       c .are-sound .ensures .0
           ∙ section-sound (a .ports) (a .clock) (a .bytes .now) (a .input) (count .count-of .ensures)
           (omega (arith, else1 .before .room .ensures, else1 .if1 .left))
           (sym (asked .ensures) ∙ not-false-e (asked .result) (else2 .if2 .left)),
-      below-more _ _ _ (omega arith) (c .are-sound .ensures .1),
+      (
+        λ t. rw (input, size, count .count-of .ensures) at (c .are-sound .ensures .1 .0 t),
+        below-more _ _ _ (omega arith) (c .are-sound .ensures .1 .1),
+      ),
     )
 
 pub is-section-spec : {M : Type 1} → statement M
@@ -92,11 +108,13 @@ is-section-spec =
     (tie.spec
     count-of-requires
     room-requires
+    unsound-requires
     returns
     mul-first
     add-end
     add-are-unused
     are-unused-requires
+    unsound-requires-2
     returns-2
     mul-are-sound
     add-are-sound
