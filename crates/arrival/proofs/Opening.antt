@@ -1,8 +1,9 @@
 -- The cells of a table by their places, when a cell has entered it.
 --     Settles, settles        where a new cell comes to stand in a section
---     Moving                  a table, and the one that the cell has entered
---     entry-, head-           its entries and heads by the numbers that they had
---     sets-entered            the sets, opened at the new cell's position
+--     head-alike, head-moved  an entry with the same before it in two tables is a head in both or in none
+--     sets-kept               two tables with the same sections have the same sets
+--     sets-entered            where a cell has entered, the sets of its input are opened at its position
+--     sets-arrived            the same by the record of the cell
 use Prim.Native.Nat.{ℕ, suc, _+_, _*_, _-_, _/_, _^_, _≤_, _<_}
 use mathlib.Core.Bool.{Bool, true, false, cond}
 use mathlib.Core.Path.{_≡_, refl, sym, _∙_, ap, ap₂, subst}
@@ -12,10 +13,9 @@ use mathlib.Core.Option.{some}
 use native.Mathlib.Omega.{arith}
 use borrow.Author.Tests.{eq-eqb, ne-eqb}
 use lib.Dec.{eqb}
-use lib.ListN.{length, take, drop, getD, set, length-append, length-drop, length-set, List·getD-append, List·getD-eq-default}
+use lib.ListN.{length, take, drop, getD, set, length-append, length-drop, length-set, List·getD-append}
 use lib.Pow.{pow-mono}
 use lib.Seq.{getD-append-add, getD-take, getD-drop, length-take-le, getD-set-same, getD-set-other}
-use Rattle.laws.specs.Lists.{none?}
 use Rattle.laws.proofs.Tests.{either, same, clash, and-i, and-l, and-r}
 use Rattle.laws.proofs.Lists.{none?-e, getD-mem}
 use Rattle.sets.specs.Sets.{setFrom, withOne, opened}
@@ -24,9 +24,9 @@ use Rattle.cell.specs.declared.Arrival.{Arrival}
 use Rattle.cell.specs.declared.Cell.{Cell}
 use Rattle.cell.specs.Cell.{accepted}
 use Rattle.cell.specs.Flow.{sameFlow}
-use Rattle.cell.specs.Limits.{cellLimit, portLimit}
+use Rattle.cell.specs.Limits.{cellLimit}
 use Rattle.cell.proofs.Flow.{flow-sym}
-use Rattle.cell.proofs.Order.{Compared, below, equal, above, compare}
+use Rattle.laws.proofs.Compared.{Compared, below, equal, above, compare}
 use Rattle.model.specs.State.{Entry, Place, isListed, isCrossed, isBuffered}
 use Rattle.model.specs.Crossbar.{inListOf, newEntry, enter}
 use Rattle.model.proofs.Bags.{getD-update-same, getD-update-other}
@@ -37,7 +37,7 @@ use Rattle.layout.proofs.Table.{stateOf-encode, decode-encode}
 use Rattle.places.specs.View.{waitingAt, waitingIn, InTable, placesIn}
 use Rattle.places.specs.Viewed.{isHead, listedSet, headSet, crossedSet, bufferedSet, SetsOf}
 use Rattle.places.proofs.Handed.{entry-port}
-use Rattle.places.proofs.Heads.{Listed, Earlier, head-unlisted, head-none, head-some}
+use Rattle.places.proofs.Heads.{Earlier, head-unlisted, head-none, head-some}
 use Rattle.places.proofs.Own.{own-kind, table-readable}
 use Rattle.places.proofs.Placed.{decode-count, inTable-number}
 use Rattle.arrival.specs.Arrival.{entered, enterPlace, MayEnter, openedWith}
@@ -140,17 +140,6 @@ record Ahead (t : List ℕ) (i y x : ℕ) : Type 0 where
   listed : isListed (entryAt t (cellLimit * i + y) .place) ≡ true
   flow : sameFlow (entryAt t (cellLimit * i + y) .cell) (entryAt t (cellLimit * i + x) .cell) ≡ true
 
--- an entry of a section has a position in it
-position-in : (t : List ℕ) (i y : ℕ) → y < 64 → InTable t (cellLimit * i + y) → y < countIn t i
-position-in t i y l h =
-    let at : (64 * i + y) / 64 ≡ i = omega arith in
-    omega (arith, subst (λ j. 64 * i + y < 64 * j + countIn t j) at (h .position))
-
-port-in : (t : List ℕ) (i y : ℕ) → y < 64 → InTable t (cellLimit * i + y) → i < portsIn t
-port-in t i y l h =
-    let at : (64 * i + y) / 64 ≡ i = omega arith in
-    subst (λ j. j < portsIn t) at (h .input)
-
 module _ (t : List ℕ) (g : IsTable t) (i x : ℕ) (few : x < 64) where
   ahead-earlier : (y : ℕ) → Ahead t i y x → Earlier t (placesIn t) (cellLimit * i + y) (cellLimit * i + x)
   ahead-earlier y a =
@@ -192,7 +181,10 @@ module _ {t0 t1 : List ℕ} (g0 : IsTable t0) (g1 : IsTable t1) (i x0 x1 : ℕ) 
       head-alike g0 g1 (cellLimit * i + x0) (cellLimit * i + x1)
       (ap isListed (own-kind t1 g1 (cellLimit * i + x1) in1 ∙ ap (λ e. e .place) alike ∙ sym (own-kind t0 g0 (cellLimit * i + x0) in0)))
       (λ a w. let y = earlier-ahead t0 g0 i x0 few0 a w in let z = to (y .0) (y .1) in (cellLimit * i + z .0, ahead-earlier t1 g1 i x1 few1 (z .0) (z .1)))
-      (λ l b w. let z = earlier-ahead t1 g1 i x1 few1 b w in let y = back (sym (ap isListed (own-kind t0 g0 (cellLimit * i + x0) in0)) ∙ l) (z .0) (z .1) in (cellLimit * i + y .0, ahead-earlier t0 g0 i x0 few0 (y .0) (y .1)))
+      (λ l b w.
+      let z = earlier-ahead t1 g1 i x1 few1 b w in
+      let y = back (sym (ap isListed (own-kind t0 g0 (cellLimit * i + x0) in0)) ∙ l) (z .0) (z .1) in
+      (cellLimit * i + y .0, ahead-earlier t0 g0 i x0 few0 (y .0) (y .1)))
 
   -- one that stands before it in both
   ahead-moved : (y0 y1 : ℕ) → y1 < x1 → InTable t1 (cellLimit * i + y1)

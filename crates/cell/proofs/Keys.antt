@@ -10,7 +10,7 @@ use Rattle.laws.proofs.Tests.{same, and-i, and-l, and-r, and-false-r, or-l, or-
 use Rattle.cell.specs.declared.Cell.{Cell}
 use Rattle.cell.specs.Order.{winsTie, over, key}
 use Rattle.cell.proofs.Order.{Over, by-rank, by-slot, by-input, over-i, over-e}
-use Rattle.cell.proofs.Order.{Compared, below, equal, above, compare}
+use Rattle.laws.proofs.Compared.{Compared, below, equal, above, compare}
 
 module _ (c d : Cell) (slot : c .slot < 2 ^ 32) (other : d .slot < 2 ^ 32) where
   -- the priority that the keys say

@@ -7,8 +7,9 @@ use native.Mathlib.Omega.{arith}
 use mathlib.Core.Bool.{Bool, true, false, _&&_, or-false}
 use mathlib.Core.Path.{_≡_, refl, sym, _∙_}
 use mathlib.Core.Logic.{_⊎_, inl, inr, _≢_}
-use borrow.Author.Tests.{ltb-true, ltb-false, eqb-true, eqb-false, lt-ltb, le-ltb, eq-eqb, ne-eqb}
-use lib.Dec.{ltb, eqb}
+use borrow.Author.Tests.{ltb-true, lt-ltb, le-ltb, eq-eqb, ne-eqb}
+use lib.Dec.{ltb}
+use Rattle.laws.proofs.Compared.{Compared, below, equal, above, compare}
 use Rattle.cell.specs.declared.Cell.{Cell}
 use Rattle.cell.specs.Order.{over}
 
@@ -29,23 +30,6 @@ module _ (c d : Cell) where
       let l : d .rank ≤ c .rank = omega arith in
       let m : d .slot ≤ c .slot = omega arith in
       simp (le-ltb _ _ l, eq-eqb _ _ h, le-ltb _ _ m, eq-eqb _ _ k)
-
--- a number is below another, equal to it, or above it
-pub data Compared (a b : ℕ) : Type 0 where
-  below : a < b → Compared a b
-  equal : a ≡ b → Compared a b
-  above : b < a → Compared a b
-
-pub compare : (a b : ℕ) → Compared a b
-compare a b = go (ltb a b) refl (eqb a b) refl
-  where
-    go : (s : Bool) → ltb a b ≡ s → (t : Bool) → eqb a b ≡ t → Compared a b
-    go true e t f = below (ltb-true a b e)
-    go false e true f = equal (eqb-true a b f)
-    go false e false f =
-        let h : b ≤ a = ltb-false a b e in
-        let k : a ≢ b = eqb-false a b f in
-        above (omega arith)
 
 -- what output priority says of the numbers
 pub data Over (c d : Cell) : Type 0 where

@@ -16,7 +16,8 @@ use Rattle.laws.proofs.Lists.{none?-i, keep-mem, mem-keep-in, mem-keep-passes}
 use Rattle.laws.proofs.Least.{Below, least-below, least-mem, mem-least-in, mem-least-first}
 use Rattle.cell.specs.Limits.{cellLimit}
 use Rattle.cell.specs.Order.{over}
-use Rattle.cell.proofs.Order.{Compared, below, equal, above, compare, over-irrefl, over-trans, over-total}
+use Rattle.laws.proofs.Compared.{Compared, below, equal, above, compare}
+use Rattle.cell.proofs.Order.{over-irrefl, over-trans, over-total}
 use Rattle.model.specs.Phase.{Waiting, beats}
 use Rattle.model.proofs.WaitingOrder.{beats-i, beats-output, beats-over, beats-strict}
 use Rattle.layout.proofs.Records.{entryAt-input}

@@ -22,7 +22,7 @@ use Rattle.laws.proofs.Pairwise.{pairwise-nil, pairwise-keep}
 use Rattle.sets.specs.Sets.{positions, has, members, firstOf, withOne}
 use Rattle.sets.proofs.Members.{has-setFrom, first-is, first-before, members-none, members-cons, members-with}
 use Rattle.cell.specs.Limits.{cellLimit}
-use Rattle.cell.proofs.Order.{Compared, below, equal, above, compare}
+use Rattle.laws.proofs.Compared.{Compared, below, equal, above, compare}
 use Rattle.model.specs.State.{isListed}
 use Rattle.model.specs.Phase.{Waiting, ahead, phase, lists}
 use Rattle.model.proofs.PhaseFacts.{lists-i, lists-all, lists-listed, head-listed, scheduled-head}

@@ -4,7 +4,7 @@ use native.Mathlib.Omega.{arith}
 use mathlib.Core.List.{List}
 use lib.ListN.{length, getD, set}
 use lib.Seq.{getD-set-same, getD-set-other}
-use Rattle.cell.proofs.Order.{Compared, below, equal, above, compare}
+use Rattle.laws.proofs.Compared.{Compared, below, equal, above, compare}
 
 -- what holds of the first n places holds of one more
 pub set-both : (P : ℕ → ℕ → ℕ → Type 0) (a b : List ℕ) (n x y : ℕ) → n < length a → n < length b

@@ -13,7 +13,7 @@ use borrow.Author.Tests.{lt-ltb, le-ltb}
 use lib.ListN.{length, getD, set, length-set}
 use Rattle.cell.specs.Order.{over, key}
 use Rattle.cell.specs.Limits.{fits32}
-use Rattle.cell.proofs.Order.{Compared, below, equal, above, compare}
+use Rattle.laws.proofs.Compared.{Compared, below, equal, above, compare}
 use Rattle.model.specs.Phase.{Waiting}
 use Rattle.layout.specs.Entry.{entryAt, portsIn}
 use Rattle.layout.specs.Records.{recordStart}

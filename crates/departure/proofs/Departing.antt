@@ -17,7 +17,7 @@ use Rattle.laws.specs.Lists.{keep, numbersFrom, upTo}
 use Rattle.laws.proofs.Numbers.{numbersFrom-at}
 use Rattle.laws.proofs.Lists.{keep-ext}
 use Rattle.cell.specs.Limits.{cellLimit, portLimit}
-use Rattle.cell.proofs.Order.{Compared, below, equal, above, compare}
+use Rattle.laws.proofs.Compared.{Compared, below, equal, above, compare}
 use Rattle.model.specs.State.{Entry, Switch}
 use Rattle.model.specs.Phase.{Waiting, numberFrom, waiting, among}
 use Rattle.model.specs.Crossbar.{leaving, without}

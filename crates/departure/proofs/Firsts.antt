@@ -7,7 +7,7 @@ use mathlib.Core.List.{List}
 use lib.ListN.{getD, set, replicate, length-set, getD-replicate}
 use lib.Seq.{getD-set-same, getD-set-other}
 use Rattle.cell.specs.Limits.{portLimit, cellLimit}
-use Rattle.cell.proofs.Order.{Compared, below, equal, above, compare}
+use Rattle.laws.proofs.Compared.{Compared, below, equal, above, compare}
 use Rattle.places.specs.Choices.{nowhere}
 use Rattle.departure.specs.Departing.{Firsts}
 

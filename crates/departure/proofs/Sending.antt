@@ -23,7 +23,8 @@ use Rattle.laws.proofs.Least.{least-mem}
 use Rattle.laws.proofs.Numbers.{numbersFrom-at}
 use Rattle.cell.specs.declared.Cell.{Cell}
 use Rattle.cell.specs.Order.{over}
-use Rattle.cell.proofs.Order.{Compared, below, equal, above, compare, over-trans, over-irrefl}
+use Rattle.laws.proofs.Compared.{Compared, below, equal, above, compare}
+use Rattle.cell.proofs.Order.{over-trans, over-irrefl}
 use Rattle.model.specs.State.{isBuffered}
 use Rattle.model.specs.Phase.{Waiting, waiting, beats, among}
 use Rattle.model.specs.Crossbar.{leaving, departuresOf}

@@ -1,6 +1,7 @@
-pub mod Tests
-pub mod Lists
+pub mod Compared
 pub mod Count
 pub mod Least
-pub mod Pairwise
+pub mod Lists
 pub mod Numbers
+pub mod Pairwise
+pub mod Tests

@@ -17,7 +17,7 @@ use lib.Seq.{getD-set-same, getD-set-other}
 use Rattle.sets.specs.Sets.{firstOf, restOf}
 use Rattle.cell.specs.Limits.{cellLimit}
 use Rattle.cell.specs.Order.{over, key}
-use Rattle.cell.proofs.Order.{Compared, below, equal, above, compare}
+use Rattle.laws.proofs.Compared.{Compared, below, equal, above, compare}
 use Rattle.model.specs.State.{isBuffered}
 use Rattle.model.specs.Phase.{beats}
 use Rattle.model.proofs.WaitingOrder.{beats-over, beats-total}

@@ -14,7 +14,7 @@ use Rattle.laws.proofs.Pairwise.{pairwise-e}
 use Rattle.sets.specs.Sets.{firstOf, restOf}
 use Rattle.cell.specs.Limits.{cellLimit}
 use Rattle.cell.specs.Order.{key}
-use Rattle.cell.proofs.Order.{Compared, below, equal, above, compare}
+use Rattle.laws.proofs.Compared.{Compared, below, equal, above, compare}
 use Rattle.model.specs.State.{isCrossed}
 use Rattle.model.specs.Phase.{Waiting}
 use Rattle.model.specs.Slackness.{apart}

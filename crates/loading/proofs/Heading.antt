@@ -15,7 +15,7 @@ use Rattle.sets.proofs.Members.{has-setFrom, has-withOne, setOf-lt}
 use Rattle.cell.specs.Flow.{sameFlow}
 use Rattle.cell.specs.Limits.{cellLimit}
 use Rattle.cell.proofs.Flow.{flow-i, flow-e}
-use Rattle.cell.proofs.Order.{Compared, below, equal, above, compare}
+use Rattle.laws.proofs.Compared.{Compared, below, equal, above, compare}
 use Rattle.model.specs.State.{isListed}
 use Rattle.layout.specs.Entry.{entryAt, portsIn, countIn}
 use Rattle.layout.specs.Table.{placeOf, IsTable}

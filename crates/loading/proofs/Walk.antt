@@ -16,7 +16,7 @@ use Rattle.sets.proofs.Digits.{has-past}
 use Rattle.sets.proofs.Members.{has-setFrom, has-withoutOne, first-position, first-member, first-before, rest-less}
 use Rattle.sets.proofs.Members.{setFrom-fits}
 use Rattle.cell.specs.Limits.{cellLimit}
-use Rattle.cell.proofs.Order.{Compared, below, equal, above, compare}
+use Rattle.laws.proofs.Compared.{Compared, below, equal, above, compare}
 use Rattle.layout.specs.Entry.{portsIn, countIn}
 use Rattle.layout.specs.Table.{stateOf, IsTable}
 use Rattle.places.specs.View.{InTable}

@@ -17,7 +17,8 @@ use Rattle.laws.proofs.Tests.{and-i, and-l, and-r, and-false-r, and-false-cases
 use Rattle.laws.proofs.Lists.{Passing, some?-i, some?-e}
 use Rattle.laws.proofs.Pairwise.{pairwise-e}
 use Rattle.cell.specs.Order.{over}
-use Rattle.cell.proofs.Order.{Compared, below, equal, above, compare, over-irrefl, over-trans, over-total}
+use Rattle.laws.proofs.Compared.{Compared, below, equal, above, compare}
+use Rattle.cell.proofs.Order.{over-irrefl, over-trans, over-total}
 use Rattle.model.specs.Phase.{Waiting, sameInput, sameOutput, sameCrosspoint, ahead, beats, among}
 use Rattle.model.specs.Slackness.{Orderly, otherNumber, otherArrival}
 

@@ -25,7 +25,7 @@ use Rattle.sets.proofs.Members.{first-before, first-trailing}
 use Rattle.cell.specs.Flow.{sameFlow}
 use Rattle.cell.specs.Limits.{cellLimit, portLimit}
 use Rattle.cell.proofs.Flow.{flow-input, flow-sym, flow-trans}
-use Rattle.cell.proofs.Order.{Compared, below, equal, above, compare}
+use Rattle.laws.proofs.Compared.{Compared, below, equal, above, compare}
 use Rattle.model.specs.State.{isListed}
 use Rattle.model.specs.Phase.{Waiting, ahead, lists, heads}
 use Rattle.model.proofs.WaitingOrder.{ahead-i, ahead-at}

@@ -11,7 +11,7 @@ use lib.ListN.{length, getD, set, replicate, length-append, length-set}
 use lib.Seq.{getD-set-same, getD-set-other, set-append-left}
 use Rattle.laws.specs.Lists.{numbersFrom, upTo}
 use Rattle.cell.specs.Limits.{cellLimit, portLimit}
-use Rattle.cell.proofs.Order.{Compared, below, equal, above, compare}
+use Rattle.laws.proofs.Compared.{Compared, below, equal, above, compare}
 use Rattle.model.specs.State.{Entry, Switch}
 use Rattle.layout.specs.Number.{bytesOf}
 use Rattle.layout.specs.Entry.{entryAt, portsIn, clockIn, countIn}

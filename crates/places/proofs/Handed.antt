@@ -13,7 +13,7 @@ use Rattle.sets.specs.Sets.{setFrom}
 use Rattle.sets.proofs.Members.{setFrom-ext}
 use Rattle.cell.specs.Flow.{sameFlow}
 use Rattle.cell.specs.Limits.{cellLimit}
-use Rattle.cell.proofs.Order.{Compared, below, equal, above, compare}
+use Rattle.laws.proofs.Compared.{Compared, below, equal, above, compare}
 use Rattle.model.specs.State.{Place, isListed, isCrossed, isBuffered}
 use Rattle.layout.specs.Entry.{entryAt, portsIn, countIn}
 use Rattle.layout.specs.Records.{between}

@@ -6,7 +6,7 @@ use mathlib.Core.Logic.{_≢_}
 use mathlib.Core.List.{List, []}
 use lib.ListN.{length, getD, set, replicate, length-set, getD-replicate}
 use lib.Seq.{getD-set-same, getD-set-other}
-use Rattle.cell.proofs.Order.{Compared, below, equal, above, compare}
+use Rattle.laws.proofs.Compared.{Compared, below, equal, above, compare}
 use Rattle.places.specs.View.{crosspointAt, Square}
 
 -- a number in a row and a column

@@ -20,7 +20,7 @@ use Rattle.laws.proofs.Lists.{keep-append, keep-all, keep-none, all?-i, none?-i
 use Rattle.laws.proofs.Numbers.{numbersFrom-mem, mem-numbersFrom}
 use Rattle.laws.proofs.Pairwise.{pairwise-nil, pairwise-cons, pairwise-map}
 use Rattle.cell.specs.Limits.{cellLimit}
-use Rattle.cell.proofs.Order.{Compared, below, equal, above, compare}
+use Rattle.laws.proofs.Compared.{Compared, below, equal, above, compare}
 use Rattle.model.specs.Phase.{Waiting, ahead, crosspoints}
 use Rattle.model.proofs.WaitingOrder.{ahead-i}
 use Rattle.model.proofs.PhaseFacts.{crosspoints-i, crosspoints-all, crosspoints-crossed}

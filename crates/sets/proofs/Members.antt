@@ -19,7 +19,7 @@ use Prim.Native.Nat.{ℕ, zero, suc, _+_, _-_, _*_, _/_, _%_, _^_, _≤_, _<_}
 use native.Mathlib.Nat.{pow-suc, add-zero, zero-add}
 use native.Mathlib.Numerals.{add-one}
 use native.Mathlib.Omega.{arith}
-use borrow.Author.Tests.{lt-ltb, le-ltb, ltb-true, ltb-false, eq-eqb, ne-eqb, eqb-true, eqb-false}
+use borrow.Author.Tests.{lt-ltb, le-ltb, ltb-true, ltb-false, eq-eqb, ne-eqb, eqb-true}
 use lib.Bits.{bitAnd, and-le-l, and-le-r}
 use lib.Count.{trailingZeros, trailing-le, ones, ones-step}
 use lib.Dec.{eqb, ltb, leb·suc-suc, leb·zero, leb·suc-zero}
@@ -29,6 +29,7 @@ use Rattle.laws.specs.Lists.{keep, all?, count, pairwise, numbersFrom, upTo}
 use Rattle.laws.proofs.Tests.{either as passes, same, by-pass, by-fail, and-i, and-false-l, and-false-r, or-r}
 use Rattle.laws.proofs.Lists.{keep-append, keep-pass, keep-fail, keep-all, keep-none, keep-ext, keep-map, keep-mem}
 use Rattle.laws.proofs.Lists.{mem-keep, none?-i, all?-i}
+use Rattle.laws.proofs.Compared.{Compared, below as lower, equal as alike, above as higher, compare}
 use Rattle.laws.proofs.Pairwise.{pairwise-keep}
 use Rattle.laws.proofs.Count.{count-cons, count-ext, count-map, length-keep-lt}
 use Rattle.laws.proofs.Numbers.{numbersFrom-add, numbersFrom-mem, mem-numbersFrom, length-numbersFrom}
@@ -159,23 +160,6 @@ module _ (set k j : ℕ) (position : j < positions) where
 pub withOne-lt : (set k : ℕ) → withOne set k < 2 ^ positions
 unfolding withOne
 withOne-lt set k = setOf-lt (λ j. has set j || eqb j k)
-
--- the three ways in which two positions can stand
-data Compared (a b : ℕ) : Type 0 where
-  lower : a < b → Compared a b
-  alike : a ≡ b → Compared a b
-  higher : b < a → Compared a b
-
-compare : (a b : ℕ) → Compared a b
-compare a b = go (ltb a b) refl (eqb a b) refl
-  where
-    go : (s : Bool) → ltb a b ≡ s → (t : Bool) → eqb a b ≡ t → Compared a b
-    go true e t f = lower (ltb-true a b e)
-    go false e true f = alike (eqb-true a b f)
-    go false e false f =
-        let h : b ≤ a = ltb-false a b e in
-        let k : a ≢ b = eqb-false a b f in
-        higher (omega arith)
 
 -- opened at a position: before it, at it, behind it
 module _ (set k : ℕ) where
