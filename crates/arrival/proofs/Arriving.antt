@@ -20,7 +20,7 @@ use Rattle.laws.proofs.Tests.{same, and-i, and-l, and-r}
 use Rattle.laws.proofs.Lists.{some?-i, some?-false}
 use Rattle.cell.specs.declared.Cell.{Cell}
 use Rattle.cell.specs.Flow.{sameFlow}
-use Rattle.cell.specs.Limits.{cellLimit, portLimit}
+use Rattle.cell.specs.Limits.{sectionRoom, portLimit}
 use Rattle.model.specs.State.{Entry, isListed}
 use Rattle.model.specs.Crossbar.{inListOf, newEntry, enter}
 use Rattle.model.proofs.SoundArrival.{Enters, front, behind, enters, length-enter}
@@ -126,7 +126,7 @@ module _ (bs : List ℕ) (t : IsTable bs) (c : Cell) (within : c .input < portsI
   abbrev es : List Entry
   es = sectionIn bs (c .input)
 
-  none-from : (q : ℕ) → ((j : ℕ) → cellLimit * c .input + q ≤ j → j < cellLimit * c .input + countIn bs (c .input)
+  none-from : (q : ℕ) → ((j : ℕ) → sectionRoom * c .input + q ≤ j → j < sectionRoom * c .input + countIn bs (c .input)
       → InFlow j ≡ false) → none? (inListOf c) (drop q es) ≡ true
   none-from q h =
       none?-at (inListOf c) (drop q es) (entryAt bs 0) (λ j b.
@@ -134,25 +134,25 @@ module _ (bs : List ℕ) (t : IsTable bs) (c : Cell) (within : c .input < portsI
       let few : q + j < countIn bs (c .input) = omega (arith, length-drop q es) in
       ap (inListOf c)
       (getD-drop q es j (entryAt bs 0) ∙ section-entry bs t (c .input) within (q + j) (entryAt bs 0) few)
-      ∙ h (cellLimit * c .input + (q + j)) (omega arith) (omega arith))
+      ∙ h (sectionRoom * c .input + (q + j)) (omega arith) (omega arith))
 
-  pub place-none : ((j : ℕ) → cellLimit * c .input ≤ j → j < cellLimit * c .input + countIn bs (c .input)
-      → InFlow j ≡ false) → cellLimit * c .input ≡ cellLimit * c .input + enterPlace c es
+  pub place-none : ((j : ℕ) → sectionRoom * c .input ≤ j → j < sectionRoom * c .input + countIn bs (c .input)
+      → InFlow j ≡ false) → sectionRoom * c .input ≡ sectionRoom * c .input + enterPlace c es
   place-none h =
       let none : _≡_ {A = ℕ} (enterPlace c es) 0 =
       place-front c es (none-from 0 (λ j a b. h j (omega arith) b)) in
       omega arith
 
-  pub place-found : (k : ℕ) → cellLimit * c .input < k → k ≤ cellLimit * c .input + countIn bs (c .input)
+  pub place-found : (k : ℕ) → sectionRoom * c .input < k → k ≤ sectionRoom * c .input + countIn bs (c .input)
       → InFlow (k - 1) ≡ true
-      → ((j : ℕ) → k ≤ j → j < cellLimit * c .input + countIn bs (c .input) → InFlow j ≡ false)
-      → k ≡ cellLimit * c .input + enterPlace c es
+      → ((j : ℕ) → k ≤ j → j < sectionRoom * c .input + countIn bs (c .input) → InFlow j ≡ false)
+      → k ≡ sectionRoom * c .input + enterPlace c es
   place-found k low high h later =
-      let q : ℕ = k - 1 - cellLimit * c .input in
+      let q : ℕ = k - 1 - sectionRoom * c .input in
       let size : length es ≡ countIn bs (c .input) = section-length bs t (c .input) within in
       let few : q < countIn bs (c .input) = omega arith in
       let inside : q < length es = omega arith in
-      let back : cellLimit * c .input + q ≡ k - 1 = omega arith in
+      let back : sectionRoom * c .input + q ≡ k - 1 = omega arith in
       let e : Entry = getD es q (entryAt bs 0) in
       let here : inListOf c e ≡ true =
       ap (inListOf c) (section-entry bs t (c .input) within q (entryAt bs 0) few ∙ ap (entryAt bs) back) ∙ h in
@@ -178,14 +178,14 @@ new-written k c bs = refl
 -- a cell enters
 
 module _ (bs : List ℕ) (t : IsTable bs) (c : Cell) (within : c .input < portsIn bs)
-    (room : countIn bs (c .input) < cellLimit) where
+    (room : countIn bs (c .input) < sectionRoom) where
   abbrev here : List Entry
   here = sectionIn bs (c .input)
 
   abbrev place : ℕ
   place = enterPlace c here
 
-  here-short : length here < cellLimit
+  here-short : length here < sectionRoom
   here-short = omega (arith, section-length bs t (c .input) within)
 
   around : Around (stateOf bs) (c .input)
@@ -224,7 +224,7 @@ module _ (bs : List ℕ) (t : IsTable bs) (c : Cell) (within : c .input < portsI
       ∙ ap₂ (λ k l. around .before ++ (bytesOf 1 k ++ (around .between ++ (l ++ around .after)))) raised
       (ap sectionBytes (enter-place c here) ∙ section-new here place here-short (newEntry c))
 
-  encode-enter : (at end : ℕ) → at ≡ cellLimit * c .input + place → end ≡ cellLimit * c .input + countIn bs (c .input)
+  encode-enter : (at end : ℕ) → at ≡ sectionRoom * c .input + place → end ≡ sectionRoom * c .input + countIn bs (c .input)
       → set (put (recordStart at) entrySize (entryBytes (newEntry c)) (movedUp (recordStart at) (recordStart end) entrySize bs))
       (16 + c .input) (countIn bs (c .input) + 1) ≡ encode (entered c (stateOf bs))
   encode-enter at end p q =
@@ -248,11 +248,11 @@ module _ (bs : List ℕ) (t : IsTable bs) (c : Cell) (within : c .input < portsI
 
   -- the entry is put where the others have been moved up, and the count is raised
   pub entered-bytes : (at count : ℕ) (moved new : List ℕ)
-      → at ≡ cellLimit * c .input + enterPlace c (sectionIn bs (c .input)) → count ≡ countIn bs (c .input)
-      → moved ≡ movedUp (recordStart at) (recordStart (cellLimit * c .input + count)) entrySize bs
+      → at ≡ sectionRoom * c .input + enterPlace c (sectionIn bs (c .input)) → count ≡ countIn bs (c .input)
+      → moved ≡ movedUp (recordStart at) (recordStart (sectionRoom * c .input + count)) entrySize bs
       → new ≡ put (recordStart at) entrySize (entryBytes (newEntry c)) moved
       → set new (16 + c .input) (count + 1) ≡ encode (entered c (stateOf bs))
   entered-bytes at count moved new p q m n =
       ap₂ (λ l k. set l (16 + c .input) (k + 1))
       (n ∙ ap (put (recordStart at) entrySize (entryBytes (newEntry c))) m) q
-      ∙ encode-enter at (cellLimit * c .input + count) p (ap (λ k. cellLimit * c .input + k) q)
+      ∙ encode-enter at (sectionRoom * c .input + count) p (ap (λ k. sectionRoom * c .input + k) q)

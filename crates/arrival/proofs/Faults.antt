@@ -28,7 +28,7 @@ use Rattle.laws.proofs.Count.{count-all, count-map}
 use Rattle.cell.specs.declared.Cell.{Cell}
 use Rattle.cell.specs.declared.Refusal.{Refusal}
 use Rattle.cell.specs.Flow.{sameFlow}
-use Rattle.cell.specs.Limits.{cellLimit, flowLimit, inputFull}
+use Rattle.cell.specs.Limits.{sectionRoom, flowLimit, inputFull}
 use Rattle.cell.proofs.Flow.{flow-input}
 use Rattle.model.specs.State.{Entry, cells}
 use Rattle.model.specs.Checks.{noSuchPort, noSuchFlow, outOfTurn, fallingRank, full, fault}
@@ -118,9 +118,9 @@ outranks-by c d same rank flow q = ap₂ _&&_ flow (ap (ltb (c .rank)) q)
 
 -- the entries of the record's section before k are looked at: one outranks the record, or none does
 pub record Fallen (bs : List ℕ) (c : Cell) (k : ℕ) (falling : Bool) : Type 0 where
-  pub start : cellLimit * c .input ≤ k
+  pub start : sectionRoom * c .input ≤ k
   pub found : falling ≡ true → fallingRank (cells (stateOf bs)) c ≡ true
-  pub missed : falling ≡ false → (j : ℕ) → j < k → cellLimit * c .input ≤ j → outranks c (entryAt bs j .cell) ≡ false
+  pub missed : falling ≡ false → (j : ℕ) → j < k → sectionRoom * c .input ≤ j → outranks c (entryAt bs j .cell) ≡ false
 
 module _ (bs : List ℕ) (t : IsTable bs) (c : Cell) where
   -- the cells of a flow have one input, and a cell stands in the section of its input
@@ -136,22 +136,22 @@ module _ (bs : List ℕ) (t : IsTable bs) (c : Cell) where
 
   module _ (within : c .input < portsIn bs) where
     -- entry k of the section
-    entry-of : (k : ℕ) → cellLimit * c .input ≤ k → k < cellLimit * c .input + countIn bs (c .input)
-        → (d : Entry) → getD (sectionIn bs (c .input)) (k - cellLimit * c .input) d ≡ entryAt bs k
+    entry-of : (k : ℕ) → sectionRoom * c .input ≤ k → k < sectionRoom * c .input + countIn bs (c .input)
+        → (d : Entry) → getD (sectionIn bs (c .input)) (k - sectionRoom * c .input) d ≡ entryAt bs k
     entry-of k a b d =
         let back : 64 * c .input + (k - 64 * c .input) ≡ k = omega arith in
-        section-entry bs t (c .input) within (k - cellLimit * c .input) d (omega arith) ∙ ap (entryAt bs) back
+        section-entry bs t (c .input) within (k - sectionRoom * c .input) d (omega arith) ∙ ap (entryAt bs) back
 
     -- 7: some entry of the section is of the flow and has a higher rank, or none is
-    rank-falls : (k : ℕ) → cellLimit * c .input ≤ k → k < cellLimit * c .input + countIn bs (c .input)
+    rank-falls : (k : ℕ) → sectionRoom * c .input ≤ k → k < sectionRoom * c .input + countIn bs (c .input)
         → outranks c (entryAt bs k .cell) ≡ true → fallingRank (cells (stateOf bs)) c ≡ true
     rank-falls k a b h =
         fallingRank-section
-        ∙ some?-at (λ e. outranks c (e .cell)) (sectionIn bs (c .input)) (k - cellLimit * c .input) (entryAt bs k)
+        ∙ some?-at (λ e. outranks c (e .cell)) (sectionIn bs (c .input)) (k - sectionRoom * c .input) (entryAt bs k)
         (omega (arith, section-length bs t (c .input) within))
         (ap (λ e. outranks c (e .cell)) (entry-of k a b (entryAt bs k)) ∙ h)
 
-    rank-holds : ((k : ℕ) → cellLimit * c .input ≤ k → k < cellLimit * c .input + countIn bs (c .input)
+    rank-holds : ((k : ℕ) → sectionRoom * c .input ≤ k → k < sectionRoom * c .input + countIn bs (c .input)
         → outranks c (entryAt bs k .cell) ≡ false) → fallingRank (cells (stateOf bs)) c ≡ false
     rank-holds h =
         fallingRank-section
@@ -160,17 +160,17 @@ module _ (bs : List ℕ) (t : IsTable bs) (c : Cell) where
         (λ j b.
         let few : j < countIn bs (c .input) = omega (arith, section-length bs t (c .input) within) in
         ap (λ e. outranks c (e .cell)) (section-entry bs t (c .input) within j (entryAt bs 0) few)
-        ∙ h (cellLimit * c .input + j) (omega arith) (omega arith)))
+        ∙ h (sectionRoom * c .input + j) (omega arith) (omega arith)))
 
-    pub fallen-start : Fallen bs c (cellLimit * c .input) false
+    pub fallen-start : Fallen bs c (sectionRoom * c .input) false
     fallen-start =
         record {
-          start = le-refl (cellLimit * c .input);
+          start = le-refl (sectionRoom * c .input);
           found = λ e. absurd (clash e refl);
           missed = λ _ j a b. absurd (omega arith);
         }
 
-    pub fallen-next : (k : ℕ) (falling more : Bool) → k < cellLimit * c .input + countIn bs (c .input)
+    pub fallen-next : (k : ℕ) (falling more : Bool) → k < sectionRoom * c .input + countIn bs (c .input)
         → more ≡ outranks c (entryAt bs k .cell) → Fallen bs c k falling → Fallen bs c (k + 1) (falling || more)
     fallen-next k falling more inside named f =
         record {
@@ -186,7 +186,7 @@ module _ (bs : List ℕ) (t : IsTable bs) (c : Cell) where
         go (inl e) = f .found e
         go (inr e) = rank-falls k (f .start) inside (sym named ∙ e)
 
-    pub fallen-end : (k : ℕ) (falling : Bool) → cellLimit * c .input + countIn bs (c .input) ≤ k → Fallen bs c k falling
+    pub fallen-end : (k : ℕ) (falling : Bool) → sectionRoom * c .input + countIn bs (c .input) ≤ k → Fallen bs c k falling
         → falling ≡ fallingRank (cells (stateOf bs)) c
     fallen-end k true past f = sym (f .found refl)
     fallen-end k false past f = sym (rank-holds (λ j a b. f .missed refl j (omega arith) a))

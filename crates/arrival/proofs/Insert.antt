@@ -12,7 +12,7 @@ use lib.ListN.{replicate-append-replicate}
 use lib.Seq.{take-at, drop-at, take-take, drop-drop, take-add, take-append-le, drop-append-le, length-take-le}
 use lib.Seq.{set-at}
 use Rattle.laws.specs.Lists.{update}
-use Rattle.cell.specs.Limits.{portLimit, cellLimit}
+use Rattle.cell.specs.Limits.{portLimit, sectionRoom}
 use Rattle.model.specs.State.{Entry, Switch}
 use Rattle.layout.specs.Number.{bytesOf}
 use Rattle.layout.specs.Table.{entrySize, sectionSize, layoutNumber, entryBytes, entriesBytes, sectionBytes}
@@ -146,7 +146,7 @@ record SectionsAround (n i : ℕ) (sections : List (List Entry)) : Type 0 where
       → sectionsBytes n (update i f sections) ≡ before ++ (sectionBytes (f (getD sections i [])) ++ after)
 
 sections-around : (n i : ℕ) (sections : List (List Entry)) → i < n → i < length sections
-    → ((k : ℕ) → length (getD sections k []) ≤ cellLimit) → SectionsAround n i sections
+    → ((k : ℕ) → length (getD sections k []) ≤ sectionRoom) → SectionsAround n i sections
 unfolding sectionsBytes update
 sections-around zero i sections h k few = absurd (omega arith)
 sections-around (suc n) i [] h k few = absurd (omega arith)
@@ -200,7 +200,7 @@ regroup : (h b c a p q r : List ℕ)
 regroup h b c a p q r = simp append-assoc
 
 pub encode-around : (s : Switch) (i : ℕ) → i < portLimit → i < length (s .sections)
-    → ((k : ℕ) → length (getD (s .sections) k []) ≤ cellLimit) → Around s i
+    → ((k : ℕ) → length (getD (s .sections) k []) ≤ sectionRoom) → Around s i
 unfolding changedAt header
 encode-around s i h k few =
     let es : List Entry = getD (s .sections) i [] in
@@ -229,7 +229,7 @@ encode-around s i h k few =
 zeros-more : (n a b : ℕ) → n ≡ a + b → replicate {A = ℕ} n 0 ≡ replicate a 0 ++ replicate b 0
 zeros-more n a b e = ap (λ k. replicate k 0) e ∙ sym (replicate-append-replicate a b 0)
 
-module _ (es : List Entry) (p : ℕ) (room : length es < cellLimit) where
+module _ (es : List Entry) (p : ℕ) (room : length es < sectionRoom) where
   -- the zeros behind the new entry
   abbrev pub zerosAfter : List ℕ
   zerosAfter = replicate (sectionSize - entrySize * (length es + 1)) 0

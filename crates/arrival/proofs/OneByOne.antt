@@ -23,7 +23,7 @@ use Rattle.cell.specs.declared.Arrival.{Arrival}
 use Rattle.cell.specs.declared.Cell.{Cell}
 use Rattle.cell.specs.declared.Refusal.{Refusal}
 use Rattle.cell.specs.Cell.{accepted, arrivalFits}
-use Rattle.cell.specs.Limits.{cellLimit, portLimit, flowLimit}
+use Rattle.cell.specs.Limits.{sectionRoom, portLimit, flowLimit}
 use Rattle.model.specs.State.{Entry, Switch, cells}
 use Rattle.model.specs.Checks.{fault, faultFrom, firstFault}
 use Rattle.model.specs.Crossbar.{enter, arrive}
@@ -198,7 +198,7 @@ module _ (table : List ℕ) (records : List Arrival) (g : Arriving table records
       among = subst (λ x. List·Memᴰ x cs) at-n (getD-mem cs n (accepted (s .clock) d) inside)
 
       -- its input has had no cell yet
-      room-left : length (getD (arrive (take n cs) (s .sections)) (c .input) []) < cellLimit
+      room-left : length (getD (arrive (take n cs) (s .sections)) (c .input) []) < sectionRoom
       unfolding cells
       room-left =
           go (arrive-at (take n cs) (s .sections) (λ d m. inputs d (earlier m))
@@ -218,7 +218,7 @@ module _ (table : List ℕ) (records : List Arrival) (g : Arriving table records
           turns = rw (take-append-drop n cs) (admit .turns)
 
           go : Arrived (take n cs) (s .sections) (c .input)
-              → length (getD (arrive (take n cs) (s .sections)) (c .input) []) < cellLimit
+              → length (getD (arrive (take n cs) (s .sections)) (c .input) []) < sectionRoom
           go (kept q) =
               rw q
               (arrival-room (s .ports) (s .clock) (s .sections) (sound-e s (table-sound table (g .sound)) .sections) c
@@ -274,7 +274,7 @@ module _ (table : List ℕ) (records : List Arrival) (g : Arriving table records
           inside-ports : a .input < portsIn cur
           inside-ports = rw (decode-ports cur (after n) here) (admit .inputs c among)
 
-          room-now : countIn cur (a .input) < cellLimit
+          room-now : countIn cur (a .input) < sectionRoom
           room-now =
               rw (decode-count cur (after n) here (a .input) (omega (arith, ports, admit .inputs c among)))
               (rw (first-cells n) at room-left)

@@ -24,7 +24,7 @@ use Rattle.cell.specs.declared.Arrival.{Arrival}
 use Rattle.cell.specs.declared.Cell.{Cell}
 use Rattle.cell.specs.Cell.{accepted}
 use Rattle.cell.specs.Flow.{sameFlow}
-use Rattle.cell.specs.Limits.{cellLimit}
+use Rattle.cell.specs.Limits.{sectionRoom}
 use Rattle.cell.proofs.Flow.{flow-sym}
 use Rattle.laws.proofs.Compared.{Compared, below, equal, above, compare}
 use Rattle.model.specs.State.{Entry, Place, isListed, isCrossed, isBuffered}
@@ -136,21 +136,21 @@ module _ {t0 t1 : List ℕ} (g0 : IsTable t0) (g1 : IsTable t1) (k0 k1 : ℕ) wh
 -- an entry is in a table and the list, and stands before another of its flow in a section
 record Ahead (t : List ℕ) (i y x : ℕ) : Type 0 where
   less : y < x
-  entry : InTable t (cellLimit * i + y)
-  listed : isListed (entryAt t (cellLimit * i + y) .place) ≡ true
-  flow : sameFlow (entryAt t (cellLimit * i + y) .cell) (entryAt t (cellLimit * i + x) .cell) ≡ true
+  entry : InTable t (sectionRoom * i + y)
+  listed : isListed (entryAt t (sectionRoom * i + y) .place) ≡ true
+  flow : sameFlow (entryAt t (sectionRoom * i + y) .cell) (entryAt t (sectionRoom * i + x) .cell) ≡ true
 
 module _ (t : List ℕ) (g : IsTable t) (i x : ℕ) (few : x < 64) where
-  ahead-earlier : (y : ℕ) → Ahead t i y x → Earlier t (placesIn t) (cellLimit * i + y) (cellLimit * i + x)
+  ahead-earlier : (y : ℕ) → Ahead t i y x → Earlier t (placesIn t) (sectionRoom * i + y) (sectionRoom * i + x)
   ahead-earlier y a =
       record {
-        listed = record { entry = a .entry; place = ap isListed (own-kind t g (cellLimit * i + y) (a .entry)) ∙ a .listed };
+        listed = record { entry = a .entry; place = ap isListed (own-kind t g (sectionRoom * i + y) (a .entry)) ∙ a .listed };
         input = omega (arith, a .less);
         before = omega (arith, a .less);
         flow = a .flow;
       }
 
-  earlier-ahead : (k : ℕ) → Earlier t (placesIn t) k (cellLimit * i + x) → (y : ℕ) × Ahead t i y x
+  earlier-ahead : (k : ℕ) → Earlier t (placesIn t) k (sectionRoom * i + x) → (y : ℕ) × Ahead t i y x
   earlier-ahead k w =
       let y : ℕ = k - 64 * i in
       let at : k ≡ 64 * i + y = omega (arith, w .input, w .before) in
@@ -162,7 +162,7 @@ module _ (t : List ℕ) (g : IsTable t) (i x : ℕ) (few : x < 64) where
           listed =
               subst (λ k. isListed (entryAt t k .place) ≡ true) at
               (sym (ap isListed (own-kind t g k (w .listed .entry))) ∙ w .listed .place);
-          flow = subst (λ k. sameFlow (entryAt t k .cell) (entryAt t (cellLimit * i + x) .cell) ≡ true) at (w .flow);
+          flow = subst (λ k. sameFlow (entryAt t k .cell) (entryAt t (sectionRoom * i + x) .cell) ≡ true) at (w .flow);
         },
       )
 
@@ -170,25 +170,25 @@ head : List ℕ → ℕ → Bool
 head t k = isHead (waitingIn t) (waitingAt t (placesIn t) k)
 
 module _ {t0 t1 : List ℕ} (g0 : IsTable t0) (g1 : IsTable t1) (i x0 x1 : ℕ) (few0 : x0 < 64) (few1 : x1 < 64)
-    (in0 : InTable t0 (cellLimit * i + x0)) (in1 : InTable t1 (cellLimit * i + x1))
-    (alike : entryAt t1 (cellLimit * i + x1) ≡ entryAt t0 (cellLimit * i + x0)) where
+    (in0 : InTable t0 (sectionRoom * i + x0)) (in1 : InTable t1 (sectionRoom * i + x1))
+    (alike : entryAt t1 (sectionRoom * i + x1) ≡ entryAt t0 (sectionRoom * i + x0)) where
   -- the same entry has the same before it
   head-moved : ((y : ℕ) → Ahead t0 i y x0 → (z : ℕ) × Ahead t1 i z x1)
-      → (isListed (entryAt t0 (cellLimit * i + x0) .place) ≡ true → (z : ℕ) → Ahead t1 i z x1 → (y : ℕ) × Ahead t0 i y x0)
-      → head t1 (cellLimit * i + x1) ≡ head t0 (cellLimit * i + x0)
+      → (isListed (entryAt t0 (sectionRoom * i + x0) .place) ≡ true → (z : ℕ) → Ahead t1 i z x1 → (y : ℕ) × Ahead t0 i y x0)
+      → head t1 (sectionRoom * i + x1) ≡ head t0 (sectionRoom * i + x0)
   unfolding head
   head-moved to back =
-      head-alike g0 g1 (cellLimit * i + x0) (cellLimit * i + x1)
-      (ap isListed (own-kind t1 g1 (cellLimit * i + x1) in1 ∙ ap (λ e. e .place) alike ∙ sym (own-kind t0 g0 (cellLimit * i + x0) in0)))
-      (λ a w. let y = earlier-ahead t0 g0 i x0 few0 a w in let z = to (y .0) (y .1) in (cellLimit * i + z .0, ahead-earlier t1 g1 i x1 few1 (z .0) (z .1)))
+      head-alike g0 g1 (sectionRoom * i + x0) (sectionRoom * i + x1)
+      (ap isListed (own-kind t1 g1 (sectionRoom * i + x1) in1 ∙ ap (λ e. e .place) alike ∙ sym (own-kind t0 g0 (sectionRoom * i + x0) in0)))
+      (λ a w. let y = earlier-ahead t0 g0 i x0 few0 a w in let z = to (y .0) (y .1) in (sectionRoom * i + z .0, ahead-earlier t1 g1 i x1 few1 (z .0) (z .1)))
       (λ l b w.
       let z = earlier-ahead t1 g1 i x1 few1 b w in
-      let y = back (sym (ap isListed (own-kind t0 g0 (cellLimit * i + x0) in0)) ∙ l) (z .0) (z .1) in
-      (cellLimit * i + y .0, ahead-earlier t0 g0 i x0 few0 (y .0) (y .1)))
+      let y = back (sym (ap isListed (own-kind t0 g0 (sectionRoom * i + x0) in0)) ∙ l) (z .0) (z .1) in
+      (sectionRoom * i + y .0, ahead-earlier t0 g0 i x0 few0 (y .0) (y .1)))
 
   -- one that stands before it in both
-  ahead-moved : (y0 y1 : ℕ) → y1 < x1 → InTable t1 (cellLimit * i + y1)
-      → entryAt t1 (cellLimit * i + y1) ≡ entryAt t0 (cellLimit * i + y0) → Ahead t0 i y0 x0 → Ahead t1 i y1 x1
+  ahead-moved : (y0 y1 : ℕ) → y1 < x1 → InTable t1 (sectionRoom * i + y1)
+      → entryAt t1 (sectionRoom * i + y1) ≡ entryAt t0 (sectionRoom * i + y0) → Ahead t0 i y0 x0 → Ahead t1 i y1 x1
   ahead-moved y0 y1 less entry same a =
       record {
         less = less;
@@ -213,13 +213,13 @@ module _ (t0 t1 : List ℕ) (g0 : IsTable t0) (g1 : IsTable t1) (same-ports : po
     is-port : i < portsIn t1
     is-port = omega (arith, was-port, same-ports)
 
-    was-in : InTable t0 (cellLimit * i + j)
-    was-in = inTable-number t0 (stateOf t0) g0 i (cellLimit * i + j) was-port (omega arith) (omega arith)
+    was-in : InTable t0 (sectionRoom * i + j)
+    was-in = inTable-number t0 (stateOf t0) g0 i (sectionRoom * i + j) was-port (omega arith) (omega arith)
 
-    is-in : InTable t1 (cellLimit * i + j)
-    is-in = inTable-number t1 (stateOf t1) g1 i (cellLimit * i + j) is-port (omega arith) (omega (arith, count-same))
+    is-in : InTable t1 (sectionRoom * i + j)
+    is-in = inTable-number t1 (stateOf t1) g1 i (sectionRoom * i + j) is-port (omega arith) (omega (arith, count-same))
 
-    entry-same : entryAt t1 (cellLimit * i + j) ≡ entryAt t0 (cellLimit * i + j)
+    entry-same : entryAt t1 (sectionRoom * i + j) ≡ entryAt t0 (sectionRoom * i + j)
     entry-same =
         let x = entryAt t0 0 in
         sym (section-entry t1 g1 i is-port j x (omega (arith, count-same)))
@@ -227,11 +227,11 @@ module _ (t0 t1 : List ℕ) (g0 : IsTable t0) (g1 : IsTable t1) (same-ports : po
         ∙ section-entry t0 g0 i was-port j x inside
 
     test-same : (f : Place → Bool)
-        → f (placeOf (getD (placesIn t1) (cellLimit * i + j) 0)) ≡ f (placeOf (getD (placesIn t0) (cellLimit * i + j) 0))
+        → f (placeOf (getD (placesIn t1) (sectionRoom * i + j) 0)) ≡ f (placeOf (getD (placesIn t0) (sectionRoom * i + j) 0))
     test-same f =
-        ap f (own-kind t1 g1 (cellLimit * i + j) is-in ∙ ap (λ e. e .place) entry-same ∙ sym (own-kind t0 g0 (cellLimit * i + j) was-in))
+        ap f (own-kind t1 g1 (sectionRoom * i + j) is-in ∙ ap (λ e. e .place) entry-same ∙ sym (own-kind t0 g0 (sectionRoom * i + j) was-in))
 
-  head-same : (j : ℕ) → j < countIn t0 i → head t1 (cellLimit * i + j) ≡ head t0 (cellLimit * i + j)
+  head-same : (j : ℕ) → j < countIn t0 i → head t1 (sectionRoom * i + j) ≡ head t0 (sectionRoom * i + j)
   head-same j l =
       let few : j < 64 = omega (arith, table-readable t0 g0 .counts i port) in
       head-moved g0 g1 i j j few few (was-in j l) (is-in j l) (entry-same j l)
@@ -242,10 +242,10 @@ module _ (t0 t1 : List ℕ) (g0 : IsTable t0) (g1 : IsTable t1) (same-ports : po
       let m : y < countIn t0 i = omega (arith, a .less) in
       (y, ahead-moved g1 g0 i j j few few (is-in j l) (was-in j l) (sym (entry-same j l)) y y (a .less) (was-in y m) (sym (entry-same y m)) a))
 
-  set-same : (q0 q1 : ℕ → Bool) → ((j : ℕ) → j < countIn t0 i → q1 (cellLimit * i + j) ≡ q0 (cellLimit * i + j))
-      → setFrom q1 (cellLimit * i) (countIn t1 i) ≡ setFrom q0 (cellLimit * i) (countIn t0 i)
+  set-same : (q0 q1 : ℕ → Bool) → ((j : ℕ) → j < countIn t0 i → q1 (sectionRoom * i + j) ≡ q0 (sectionRoom * i + j))
+      → setFrom q1 (sectionRoom * i) (countIn t1 i) ≡ setFrom q0 (sectionRoom * i) (countIn t0 i)
   set-same q0 q1 test =
-      ap (setFrom q1 (cellLimit * i)) count-same ∙ setFrom-ext q1 q0 (cellLimit * i) (countIn t0 i) test
+      ap (setFrom q1 (sectionRoom * i)) count-same ∙ setFrom-ext q1 q0 (sectionRoom * i) (countIn t0 i) test
 
   listed-same : listedSet t1 (placesIn t1) i ≡ listedSet t0 (placesIn t0) i
   unfolding listedSet
@@ -345,7 +345,7 @@ module _ (t0 t1 : List ℕ) (g0 : IsTable t0) (g1 : IsTable t1) (c : Cell) (step
   ----------------------------------------------------------------------
   -- entries
 
-  entry-before : (j : ℕ) → j < p → entryAt t1 (cellLimit * own + j) ≡ entryAt t0 (cellLimit * own + j)
+  entry-before : (j : ℕ) → j < p → entryAt t1 (sectionRoom * own + j) ≡ entryAt t0 (sectionRoom * own + j)
   entry-before j l =
       let x = entryAt t0 0 in
       sym (section-entry t1 g1 own (new-port own port) j x (omega (arith, count-own, stand .inside, old-size)))
@@ -353,14 +353,14 @@ module _ (t0 t1 : List ℕ) (g0 : IsTable t0) (g1 : IsTable t1) (c : Cell) (step
       ∙ put-before es p (stand .inside) (newEntry c) x j l
       ∙ section-entry t0 g0 own port j x (omega (arith, stand .inside, old-size))
 
-  entry-at : entryAt t1 (cellLimit * own + p) ≡ newEntry c
+  entry-at : entryAt t1 (sectionRoom * own + p) ≡ newEntry c
   entry-at =
       let x = entryAt t0 0 in
       sym (section-entry t1 g1 own (new-port own port) p x (omega (arith, count-own, stand .inside, old-size)))
       ∙ ap (λ s. getD s p x) section-own
       ∙ put-at es p (stand .inside) (newEntry c) x
 
-  entry-behind : (j : ℕ) → p ≤ j → j < n → entryAt t1 (cellLimit * own + suc j) ≡ entryAt t0 (cellLimit * own + j)
+  entry-behind : (j : ℕ) → p ≤ j → j < n → entryAt t1 (sectionRoom * own + suc j) ≡ entryAt t0 (sectionRoom * own + j)
   entry-behind j l h =
       let x = entryAt t0 0 in
       sym (section-entry t1 g1 own (new-port own port) (suc j) x (omega (arith, count-own)))
@@ -369,11 +369,11 @@ module _ (t0 t1 : List ℕ) (g0 : IsTable t0) (g1 : IsTable t1) (c : Cell) (step
       ∙ section-entry t0 g0 own port j x h
 
   -- numbers of entries
-  old-in : (i j : ℕ) → i < portsIn t0 → j < countIn t0 i → InTable t0 (cellLimit * i + j)
-  old-in i j h l = inTable-number t0 (stateOf t0) g0 i (cellLimit * i + j) h (omega arith) (omega arith)
+  old-in : (i j : ℕ) → i < portsIn t0 → j < countIn t0 i → InTable t0 (sectionRoom * i + j)
+  old-in i j h l = inTable-number t0 (stateOf t0) g0 i (sectionRoom * i + j) h (omega arith) (omega arith)
 
-  new-in : (i j : ℕ) → i < portsIn t0 → j < countIn t1 i → InTable t1 (cellLimit * i + j)
-  new-in i j h l = inTable-number t1 (stateOf t1) g1 i (cellLimit * i + j) (new-port i h) (omega arith) (omega arith)
+  new-in : (i j : ℕ) → i < portsIn t0 → j < countIn t1 i → InTable t1 (sectionRoom * i + j)
+  new-in i j h l = inTable-number t1 (stateOf t1) g1 i (sectionRoom * i + j) (new-port i h) (omega arith) (omega arith)
 
   -- a test of places at an entry of either table
   tested : (f : Place → Bool) (t : List ℕ) → IsTable t → (k : ℕ) → InTable t k
@@ -382,23 +382,23 @@ module _ (t0 t1 : List ℕ) (g0 : IsTable t0) (g1 : IsTable t1) (c : Cell) (step
 
   module _ (f : Place → Bool) where
     test-before : (j : ℕ) → j < p
-        → f (placeOf (getD (placesIn t1) (cellLimit * own + j) 0)) ≡ f (placeOf (getD (placesIn t0) (cellLimit * own + j) 0))
+        → f (placeOf (getD (placesIn t1) (sectionRoom * own + j) 0)) ≡ f (placeOf (getD (placesIn t0) (sectionRoom * own + j) 0))
     test-before j l =
-        tested f t1 g1 (cellLimit * own + j) (new-in own j port (omega (arith, count-own, stand .inside, old-size)))
+        tested f t1 g1 (sectionRoom * own + j) (new-in own j port (omega (arith, count-own, stand .inside, old-size)))
         ∙ ap (λ e. f (e .place)) (entry-before j l)
-        ∙ sym (tested f t0 g0 (cellLimit * own + j) (old-in own j port (omega (arith, stand .inside, old-size))))
+        ∙ sym (tested f t0 g0 (sectionRoom * own + j) (old-in own j port (omega (arith, stand .inside, old-size))))
 
-    test-at : f (placeOf (getD (placesIn t1) (cellLimit * own + p) 0)) ≡ f (newEntry c .place)
+    test-at : f (placeOf (getD (placesIn t1) (sectionRoom * own + p) 0)) ≡ f (newEntry c .place)
     test-at =
-        tested f t1 g1 (cellLimit * own + p) (new-in own p port (omega (arith, count-own, stand .inside, old-size)))
+        tested f t1 g1 (sectionRoom * own + p) (new-in own p port (omega (arith, count-own, stand .inside, old-size)))
         ∙ ap (λ e. f (e .place)) entry-at
 
     test-behind : (j : ℕ) → p ≤ j → j < n
-        → f (placeOf (getD (placesIn t1) (cellLimit * own + suc j) 0)) ≡ f (placeOf (getD (placesIn t0) (cellLimit * own + j) 0))
+        → f (placeOf (getD (placesIn t1) (sectionRoom * own + suc j) 0)) ≡ f (placeOf (getD (placesIn t0) (sectionRoom * own + j) 0))
     test-behind j l h =
-        tested f t1 g1 (cellLimit * own + suc j) (new-in own (suc j) port (omega (arith, count-own)))
+        tested f t1 g1 (sectionRoom * own + suc j) (new-in own (suc j) port (omega (arith, count-own)))
         ∙ ap (λ e. f (e .place)) (entry-behind j l h)
-        ∙ sym (tested f t0 g0 (cellLimit * own + j) (old-in own j port h))
+        ∙ sym (tested f t0 g0 (sectionRoom * own + j) (old-in own j port h))
 
   ----------------------------------------------------------------------
   -- heads
@@ -414,9 +414,9 @@ module _ (t0 t1 : List ℕ) (g0 : IsTable t0) (g1 : IsTable t1) (c : Cell) (step
     stays : x < p → x1 ≡ x → To x x1
     rises : p ≤ x → x1 ≡ suc x → To x x1
 
-  entry-to : (x x1 : ℕ) → x < n → To x x1 → entryAt t1 (cellLimit * own + x1) ≡ entryAt t0 (cellLimit * own + x)
-  entry-to x x1 l (stays h e) = ap (λ j. entryAt t1 (cellLimit * own + j)) e ∙ entry-before x h
-  entry-to x x1 l (rises h e) = ap (λ j. entryAt t1 (cellLimit * own + j)) e ∙ entry-behind x h l
+  entry-to : (x x1 : ℕ) → x < n → To x x1 → entryAt t1 (sectionRoom * own + x1) ≡ entryAt t0 (sectionRoom * own + x)
+  entry-to x x1 l (stays h e) = ap (λ j. entryAt t1 (sectionRoom * own + j)) e ∙ entry-before x h
+  entry-to x x1 l (rises h e) = ap (λ j. entryAt t1 (sectionRoom * own + j)) e ∙ entry-behind x h l
 
   to-small : (x x1 : ℕ) → x < n → To x x1 → x1 < suc n
   to-small x x1 l (stays h e) = omega arith
@@ -457,7 +457,7 @@ module _ (t0 t1 : List ℕ) (g0 : IsTable t0) (g1 : IsTable t1) (c : Cell) (step
           let back : x1 ≡ suc (x1 - 1) = omega arith in
           old (x1 - 1) (omega arith) (rises (omega arith) back)
 
-  head-old : (x x1 : ℕ) → x < n → To x x1 → head t1 (cellLimit * own + x1) ≡ head t0 (cellLimit * own + x)
+  head-old : (x x1 : ℕ) → x < n → To x x1 → head t1 (sectionRoom * own + x1) ≡ head t0 (sectionRoom * own + x)
   unfolding inListOf newEntry
   head-old x x1 l w =
       head-moved g0 g1 own x x1 few0 few1 in0 in1 alike to back
@@ -468,13 +468,13 @@ module _ (t0 t1 : List ℕ) (g0 : IsTable t0) (g1 : IsTable t1) (c : Cell) (step
       few1 : x1 < 64
       few1 = omega (arith, to-small x x1 l w, room)
 
-      in0 : InTable t0 (cellLimit * own + x)
+      in0 : InTable t0 (sectionRoom * own + x)
       in0 = old-in own x port l
 
-      in1 : InTable t1 (cellLimit * own + x1)
+      in1 : InTable t1 (sectionRoom * own + x1)
       in1 = new-in own x1 port (omega (arith, to-small x x1 l w, count-own))
 
-      alike : entryAt t1 (cellLimit * own + x1) ≡ entryAt t0 (cellLimit * own + x)
+      alike : entryAt t1 (sectionRoom * own + x1) ≡ entryAt t0 (sectionRoom * own + x)
       alike = entry-to x x1 l w
 
       to : (y : ℕ) → Ahead t0 own y x → (z : ℕ) × Ahead t1 own z x1
@@ -488,13 +488,13 @@ module _ (t0 t1 : List ℕ) (g0 : IsTable t0) (g1 : IsTable t1) (c : Cell) (step
           )
 
       -- the new cell is not before a listed one of its flow
-      never : isListed (entryAt t0 (cellLimit * own + x) .place) ≡ true → (z : ℕ) → z ≡ p → Ahead t1 own z x1 → ⊥
+      never : isListed (entryAt t0 (sectionRoom * own + x) .place) ≡ true → (z : ℕ) → z ≡ p → Ahead t1 own z x1 → ⊥
       never listed z e a = go w
         where
-          cell : entryAt t1 (cellLimit * own + z) ≡ newEntry c
-          cell = ap (λ j. entryAt t1 (cellLimit * own + j)) e ∙ entry-at
+          cell : entryAt t1 (sectionRoom * own + z) ≡ newEntry c
+          cell = ap (λ j. entryAt t1 (sectionRoom * own + j)) e ∙ entry-at
 
-          flow : sameFlow c (entryAt t0 (cellLimit * own + x) .cell) ≡ true
+          flow : sameFlow c (entryAt t0 (sectionRoom * own + x) .cell) ≡ true
           flow = sym (ap₂ (λ e f. sameFlow (e .cell) (f .cell)) cell alike) ∙ a .flow
 
           go : To x x1 → ⊥
@@ -503,10 +503,10 @@ module _ (t0 t1 : List ℕ) (g0 : IsTable t0) (g1 : IsTable t1) (c : Cell) (step
               let d = entryAt t0 0 in
               clash
               (ap (inListOf c) (section-entry t0 g0 own port x d l)
-              ∙ and-i _ _ listed (flow-sym c (entryAt t0 (cellLimit * own + x) .cell) flow))
+              ∙ and-i _ _ listed (flow-sym c (entryAt t0 (sectionRoom * own + x) .cell) flow))
               (stand .later x d h (omega (arith, old-size)))
 
-      back : isListed (entryAt t0 (cellLimit * own + x) .place) ≡ true → (z : ℕ) → Ahead t1 own z x1
+      back : isListed (entryAt t0 (sectionRoom * own + x) .place) ≡ true → (z : ℕ) → Ahead t1 own z x1
           → (y : ℕ) × Ahead t0 own y x
       back listed z a = go (at-from z (omega (arith, a .less, to-small x x1 l w)))
         where
@@ -519,46 +519,46 @@ module _ (t0 t1 : List ℕ) (g0 : IsTable t0) (g1 : IsTable t1) (c : Cell) (step
           )
 
   -- the new cell is a head exactly if it comes to the front
-  head-front : p ≡ 0 → head t1 (cellLimit * own + p) ≡ true
+  head-front : p ≡ 0 → head t1 (sectionRoom * own + p) ≡ true
   unfolding head newEntry isListed
   head-front e =
       let in1 = new-in own p port (omega (arith, count-own, stand .inside, old-size)) in
-      head-none t1 (placesIn t1) (table-readable t1 g1) (cellLimit * own + p) (test-at isListed)
+      head-none t1 (placesIn t1) (table-readable t1 g1) (sectionRoom * own + p) (test-at isListed)
       (λ k w. let y = earlier-ahead t1 g1 own p (omega (arith, room, stand .inside, old-size)) k w in omega (arith, y .1 .less))
 
-  head-behind : (q : ℕ) → p ≡ suc q → ((d : Entry) → inListOf c (getD es q d) ≡ true) → head t1 (cellLimit * own + p) ≡ false
+  head-behind : (q : ℕ) → p ≡ suc q → ((d : Entry) → inListOf c (getD es q d) ≡ true) → head t1 (sectionRoom * own + p) ≡ false
   unfolding head inListOf newEntry
   head-behind q e f =
       let d = entryAt t0 0 in
       let few : q < n = omega (arith, stand .inside, old-size) in
       let same = entry-before q (omega arith) in
       let in-list = sym (ap (inListOf c) (section-entry t0 g0 own port q d few)) ∙ f d in
-      head-some t1 (placesIn t1) (table-readable t1 g1) (cellLimit * own + p) (cellLimit * own + q)
+      head-some t1 (placesIn t1) (table-readable t1 g1) (sectionRoom * own + p) (sectionRoom * own + q)
       (ahead-earlier t1 g1 own p (omega (arith, room, stand .inside, old-size)) q
       (record {
         less = omega arith;
         entry = new-in own q port (omega (arith, count-own));
         listed = ap (λ e. isListed (e .place)) same ∙ and-l _ _ in-list;
-        flow = ap₂ (λ e f. sameFlow (e .cell) (f .cell)) same entry-at ∙ and-r (isListed (entryAt t0 (cellLimit * own + q) .place)) _ in-list;
+        flow = ap₂ (λ e f. sameFlow (e .cell) (f .cell)) same entry-at ∙ and-r (isListed (entryAt t0 (sectionRoom * own + q) .place)) _ in-list;
       }))
 
   ----------------------------------------------------------------------
   -- the sets
 
   module _ (q0 q1 : ℕ → Bool) where
-    module _ (before : (j : ℕ) → j < p → q1 (cellLimit * own + j) ≡ q0 (cellLimit * own + j))
-        (behind : (j : ℕ) → p ≤ j → j < n → q1 (cellLimit * own + suc j) ≡ q0 (cellLimit * own + j)) where
-      set-with : q1 (cellLimit * own + p) ≡ true
-          → setFrom q1 (cellLimit * own) (countIn t1 own) ≡ withOne (opened (setFrom q0 (cellLimit * own) n) p) p
+    module _ (before : (j : ℕ) → j < p → q1 (sectionRoom * own + j) ≡ q0 (sectionRoom * own + j))
+        (behind : (j : ℕ) → p ≤ j → j < n → q1 (sectionRoom * own + suc j) ≡ q0 (sectionRoom * own + j)) where
+      set-with : q1 (sectionRoom * own + p) ≡ true
+          → setFrom q1 (sectionRoom * own) (countIn t1 own) ≡ withOne (opened (setFrom q0 (sectionRoom * own) n) p) p
       set-with on =
-          ap (setFrom q1 (cellLimit * own)) count-own
-          ∙ open-with q0 q1 (cellLimit * own) n p room (omega (arith, stand .inside, old-size)) before behind on
+          ap (setFrom q1 (sectionRoom * own)) count-own
+          ∙ open-with q0 q1 (sectionRoom * own) n p room (omega (arith, stand .inside, old-size)) before behind on
 
-      set-without : q1 (cellLimit * own + p) ≡ false
-          → setFrom q1 (cellLimit * own) (countIn t1 own) ≡ opened (setFrom q0 (cellLimit * own) n) p
+      set-without : q1 (sectionRoom * own + p) ≡ false
+          → setFrom q1 (sectionRoom * own) (countIn t1 own) ≡ opened (setFrom q0 (sectionRoom * own) n) p
       set-without off =
-          ap (setFrom q1 (cellLimit * own)) count-own
-          ∙ open-without q0 q1 (cellLimit * own) n p room (omega (arith, stand .inside, old-size)) before behind off
+          ap (setFrom q1 (sectionRoom * own)) count-own
+          ∙ open-without q0 q1 (sectionRoom * own) n p room (omega (arith, stand .inside, old-size)) before behind off
 
   listed-own : listedSet t1 (placesIn t1) own ≡ withOne (opened (listedSet t0 (placesIn t0) own) p) p
   unfolding listedSet newEntry isListed
@@ -575,10 +575,10 @@ module _ (t0 t1 : List ℕ) (g0 : IsTable t0) (g1 : IsTable t1) (c : Cell) (step
   buffered-own =
       set-without _ _ (λ j l. test-before isBuffered j l) (λ j l h. test-behind isBuffered j l h) (test-at isBuffered)
 
-  head-before : (j : ℕ) → j < p → head t1 (cellLimit * own + j) ≡ head t0 (cellLimit * own + j)
+  head-before : (j : ℕ) → j < p → head t1 (sectionRoom * own + j) ≡ head t0 (sectionRoom * own + j)
   head-before j l = head-old j j (omega (arith, stand .inside, old-size)) (stays l refl)
 
-  head-later : (j : ℕ) → p ≤ j → j < n → head t1 (cellLimit * own + suc j) ≡ head t0 (cellLimit * own + j)
+  head-later : (j : ℕ) → p ≤ j → j < n → head t1 (sectionRoom * own + suc j) ≡ head t0 (sectionRoom * own + j)
   head-later j l h = head-old j (suc j) h (rises l refl)
 
   heads-own : headSet t1 (placesIn t1) own
@@ -670,10 +670,10 @@ module _ (t0 : List ℕ) (a : Arrival) (may : MayEnter a t0) where
   pub input-low : a .input < 16
   input-low = omega (arith, may .input, ports-below t0 (may .sound))
 
-  set-room : (q : ℕ → Bool) (s : ℕ) → s ≡ setFrom q (cellLimit * a .input) (countIn t0 (a .input)) → s < 2 ^ 63
+  set-room : (q : ℕ → Bool) (s : ℕ) → s ≡ setFrom q (sectionRoom * a .input) (countIn t0 (a .input)) → s < 2 ^ 63
   set-room q s e =
       let few : 2 ^ countIn t0 (a .input) ≤ 2 ^ 63 = pow-mono {i = countIn t0 (a .input)} {j = 63} (omega (arith, may .room)) in
-      omega (arith, setFrom-lt q (cellLimit * a .input) (countIn t0 (a .input)))
+      omega (arith, setFrom-lt q (sectionRoom * a .input) (countIn t0 (a .input)))
 
   module _ (listed heads crossed buffered : List ℕ) (w : SetsOf t0 (placesIn t0) listed heads crossed buffered) where
     pub sets-room : (getD listed (a .input) 0 < 2 ^ 63) × (getD heads (a .input) 0 < 2 ^ 63)

@@ -7,7 +7,7 @@ use mathlib.Core.Path.{_≡_, refl, sym, _∙_}
 use mathlib.Core.List.{List}
 use native.Mathlib.Omega.{arith}
 use lib.ListN.{length, getD}
-use Rattle.cell.specs.Limits.{cellLimit, portLimit}
+use Rattle.cell.specs.Limits.{sectionRoom, portLimit}
 use Rattle.model.specs.State.{Entry}
 use Rattle.model.specs.Sound.{sound}
 use Rattle.model.proofs.SoundLaws.{SoundSection, sound-e, sections-e}
@@ -56,14 +56,14 @@ module _ (bs : List ℕ) (t : IsTable bs) where
         let few : portsIn bs ≤ portLimit = ports-below in
         sym (decode-count bs (stateOf bs) t i (omega arith))
 
-    pub count-below : countIn bs i ≤ cellLimit
+    pub count-below : countIn bs i ≤ sectionRoom
     count-below =
         let few : portsIn bs ≤ portLimit = ports-below in
         decode-count-few bs (stateOf bs) t i (omega arith)
 
     -- and its entry j is the table's entry 64 i + j
     pub section-entry : (j : ℕ) (d : Entry) → j < countIn bs i
-        → getD (sectionIn bs i) j d ≡ entryAt bs (cellLimit * i + j)
+        → getD (sectionIn bs i) j d ≡ entryAt bs (sectionRoom * i + j)
     unfolding portsIn
     section-entry j d h =
         let few : word bs 4 ≤ portLimit = ports-below in

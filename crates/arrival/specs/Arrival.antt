@@ -10,7 +10,7 @@ use Rattle.sets.specs.Sets.{withOne, opened}
 use Rattle.cell.specs.declared.Arrival.{Arrival}
 use Rattle.cell.specs.declared.Cell.{Cell}
 use Rattle.cell.specs.Cell.{accepted}
-use Rattle.cell.specs.Limits.{cellLimit, clockEnd}
+use Rattle.cell.specs.Limits.{sectionRoom, clockEnd}
 use Rattle.model.specs.State.{Entry, Switch, cells}
 use Rattle.model.specs.Sound.{sound as soundSwitch}
 use Rattle.model.specs.Checks.{firstFault}
@@ -44,7 +44,7 @@ pub record MayEnter (a : Arrival) (table : List ℕ) : Type 0 where
   pub sound : IsTable table
   pub risen : 0 < clockIn table
   pub input : a .input < portsIn table
-  pub room : countIn table (a .input) < cellLimit
+  pub room : countIn table (a .input) < sectionRoom
   pub output : a .output < 256
   pub flow : a .flow < 256
   pub next : soundSwitch (entered (accepted (clockIn table - 1) a) (stateOf table)) ≡ true

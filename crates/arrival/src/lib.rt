@@ -8,13 +8,13 @@ ghost use lib.Dec.{eqb};
 ghost use lib.ListN.{length, getD};
 ghost use Rattle.cell.specs.declared.Cell.{Cell};
 ghost use Rattle.cell.specs.Cell.{accepted};
-ghost use Rattle.cell.specs.Limits.{clockEnd};
+ghost use Rattle.cell.specs.Limits.{clockEnd, sectionRoom, portLimit};
 ghost use Rattle.model.specs.State.{cells};
 ghost use Rattle.model.specs.Checks.{noSuchPort, noSuchFlow, outOfTurn, fallingRank, full, fault};
 ghost use Rattle.model.specs.Crossbar.{inListOf};
 ghost use Rattle.layout.specs.Entry.{entryAt, portsIn, clockIn, countIn};
 ghost use Rattle.layout.specs.Records.{recordStart, recordAt};
-ghost use Rattle.layout.specs.Table.{tableSize, entrySize, entryBytes, stateOf, encode, IsTable};
+ghost use Rattle.layout.specs.Table.{tableSize, entrySize, entryBytes, stateOf, encode, IsTable, entryLimit};
 ghost use Rattle.table.specs.Entries.{flowWord};
 ghost use Rattle.places.specs.View.{placesIn};
 ghost use Rattle.places.specs.Viewed.{SetsOf};
@@ -24,8 +24,8 @@ use cell::Arrival;
 use cell::Cell;
 use cell::Refusal;
 use cell::Switch;
-use table::entry::CELLS;
-use table::entry::PORTS;
+use layout::CELLS;
+use layout::PORTS;
 
 // What the checks of a slot's records find: nothing, or the first fault and its record's place, from 1.
 pub enum Fault {
@@ -126,7 +126,7 @@ fn falling_rank(table: &[u8], c: Cell) -> bool
     let end = places::end_of(table, input);
     let flow = table::entry::flow_word(c);
     let mut falling = false;
-    let mut k = 64 * input;
+    let mut k = CELLS * input;
     while k < end {
         falling = falling | outranked(table, k, c, flow);
         k += 1;
@@ -136,14 +136,14 @@ fn falling_rank(table: &[u8], c: Cell) -> bool
 
 // Whether an entry of the record's input is of the record's flow and has a higher rank.
 fn outranked(table: &[u8], k: usize, c: Cell, flow: u16) -> bool
-    requires { ⌜ (length (now table) ≡ tableSize) × (k < 1024) ⌝ }
-    requires { ⌜ (k / 64 ≡ c .input) × (flow ≡ flowWord c) × (c .output < 256) ⌝ }
+    requires { ⌜ (length (now table) ≡ tableSize) × (k < entryLimit) ⌝ }
+    requires { ⌜ (k / sectionRoom ≡ c .input) × (flow ≡ flowWord c) × (c .output < 256) ⌝ }
     ensures { λ r. ⌜ r ≡ outranks c (entryAt (now (table .entry)) k .cell) ⌝ }
 {
     (table::entry::flow_word_of(table, k) == flow) & (c.rank < table::entry::rank_of(table, k))
 }
 
-// 8: 64 cells from this input are in the switch. They are the entries of its section.
+// 8: as many cells from this input are in the switch as may be. They are the entries of its section.
 fn input_full(table: &[u8], c: Cell) -> bool
     requires { ⌜ IsTable (now table) ⌝ }
     requires { ⌜ c .input < portsIn (now table) ⌝ }
@@ -155,15 +155,15 @@ fn input_full(table: &[u8], c: Cell) -> bool
 // Lets a cell enter the list of its input, which has room for it. Gives the number of its entry.
 fn enter(table: &mut [u8], c: Cell) -> usize
     requires { ⌜ IsTable (now table) ⌝ }
-    requires { ⌜ (c .input < portsIn (now table)) × (countIn (now table) (c .input) < 64) ⌝ }
+    requires { ⌜ (c .input < portsIn (now table)) × (countIn (now table) (c .input) < sectionRoom) ⌝ }
     requires { ⌜ (c .output < 256) × (c .flow < 256) ⌝ }
     ensures { λ _. ⌜ now (table .exit) ≡ encode (entered c (stateOf (now (table .entry)))) ⌝ }
-    ensures { λ r. ⌜ r ≡ 64 * c .input + enterPlace c (sectionIn (now (table .entry)) (c .input)) ⌝ }
+    ensures { λ r. ⌜ r ≡ sectionRoom * c .input + enterPlace c (sectionIn (now (table .entry)) (c .input)) ⌝ }
 {
     let input = c.input as usize;
     let count = table::entry::count_of(table, input);
     let at = new_place(table, c);
-    move_up(table, at, 64 * input + count);
+    move_up(table, at, CELLS * input + count);
     table::entry::write_entry(table, at, c, table::entry::LISTED);
     table::entry::write_count(table, input, count + 1);
     at
@@ -179,7 +179,7 @@ fn open_sets(
     input: usize,
     position: usize,
 )
-    requires { ⌜ (input < 16) × (position < 64) ⌝ }
+    requires { ⌜ (input < portLimit) × (position < sectionRoom) ⌝ }
     requires { ⌜ (getD (now listed) input 0 < 2 ^ 63) × (getD (now heads) input 0 < 2 ^ 63)
         × (getD (now crossed) input 0 < 2 ^ 63) × (getD (now buffered) input 0 < 2 ^ 63) ⌝ }
     ensures { λ _. ⌜ now (listed .exit) ≡ openedWith true (now (listed .entry)) input position ⌝ }
@@ -199,10 +199,10 @@ fn new_place(table: &[u8], c: Cell) -> usize
     requires { ⌜ IsTable (now table) ⌝ }
     requires { ⌜ c .input < portsIn (now table) ⌝ }
     requires { ⌜ (c .output < 256) × (c .flow < 256) ⌝ }
-    ensures { λ r. ⌜ r ≡ 64 * c .input + enterPlace c (sectionIn (now (table .entry)) (c .input)) ⌝ }
+    ensures { λ r. ⌜ r ≡ sectionRoom * c .input + enterPlace c (sectionIn (now (table .entry)) (c .input)) ⌝ }
 {
     let input = c.input as usize;
-    let first = 64 * input;
+    let first = CELLS * input;
     let end = places::end_of(table, input);
     let flow = table::entry::flow_word(c);
     let mut k = end;
@@ -218,9 +218,9 @@ fn new_place(table: &[u8], c: Cell) -> usize
 // Whether an entry of the cell's input is in the list and of the cell's flow. The first four bytes of its record say
 // both, so that nothing branches on the place, which would be guessed badly.
 fn in_list(table: &[u8], k: usize, c: Cell, flow: u16) -> bool
-    requires { ⌜ (length (now table) ≡ tableSize) × (k < 1024) ⌝ }
+    requires { ⌜ (length (now table) ≡ tableSize) × (k < entryLimit) ⌝ }
     requires { ⌜ recordAt (now table) k ≡ entryBytes (entryAt (now table) k) ⌝ }
-    requires { ⌜ (k / 64 ≡ c .input) × (flow ≡ flowWord c) × (c .output < 256) ⌝ }
+    requires { ⌜ (k / sectionRoom ≡ c .input) × (flow ≡ flowWord c) × (c .output < 256) ⌝ }
     ensures { λ r. ⌜ r ≡ inListOf c (entryAt (now (table .entry)) k) ⌝ }
 {
     table::word::read_u32(table, table::entry::start_of(k)) == flow as u32 + 65536
@@ -228,7 +228,7 @@ fn in_list(table: &[u8], k: usize, c: Cell, flow: u16) -> bool
 
 // Moves the entries from `at` up to `end` one place up.
 fn move_up(table: &mut [u8], at: usize, end: usize)
-    requires { ⌜ (length (now table) ≡ tableSize) × (at ≤ end) × (end < 1024) ⌝ }
+    requires { ⌜ (length (now table) ≡ tableSize) × (at ≤ end) × (end < entryLimit) ⌝ }
     ensures { λ _. ⌜ now (table .exit) ≡ movedUp (recordStart at) (recordStart end) entrySize (now (table .entry)) ⌝ }
 {
     let mut k = end;

@@ -3,15 +3,20 @@ use Prim.Native.Nat.{ℕ}
 use mathlib.Core.Bool.{Bool, _&&_}
 use lib.Dec.{ltb, leb}
 
--- sixteen ports, eight flows, 64 cells of one input
+-- sixteen ports, eight flows
 abbrev pub portLimit : ℕ
 portLimit = 16
 
 abbrev pub flowLimit : ℕ
 flowLimit = 8
 
+-- an input that has so many cells in the switch accepts no more
 abbrev pub cellLimit : ℕ
 cellLimit = 64
+
+-- the cells of an input that a switch has room for, in whatever places: so far apart are the numbers of two inputs' entries
+abbrev pub sectionRoom : ℕ
+sectionRoom = 64
 
 -- the largest number of 32 bits, at which the clock ends
 abbrev pub clockEnd : ℕ

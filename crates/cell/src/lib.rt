@@ -77,7 +77,8 @@ impl Refusal {
     }
 }
 
-// The switch's size and its clock, the number of the next slot. Its limits are named here and nowhere else.
+// The switch's size and its clock, the number of the next slot; and its limits. What they make of a table's room and of
+// its bytes is in `layout`.
 pub struct Switch {
     pub ports: u32,
     pub clock: u32,
@@ -88,7 +89,11 @@ impl Switch {
 
     pub const FLOWS: u32 = 8;
 
-    pub const CELLS: u32 = 64;
+    // So many cells of an input may be in the switch. A table has room for `layout::CELLS` of them.
+    pub const CELL_LIMIT: u32 = 64;
+
+    // The clock at which no slot can run.
+    pub const CLOCK_END: u32 = 4294967295;
 
     // A switch of `ports` ports in which no slot has run.
     pub fn fresh(ports: u32, first: u32) -> Self
@@ -121,7 +126,7 @@ impl Switch {
     pub fn input_full(cells: u32) -> bool
         ensures { λ r. ⌜ r ≡ inputFull cells ⌝ }
     {
-        Switch::CELLS <= cells
+        Switch::CELL_LIMIT <= cells
     }
 }
 

@@ -14,7 +14,7 @@ use Rattle.laws.specs.Lists.{none?, least, first?}
 use Rattle.laws.proofs.Tests.{clash, by-fail}
 use Rattle.laws.proofs.Lists.{none?-i, keep-mem, mem-keep-in, mem-keep-passes}
 use Rattle.laws.proofs.Least.{Below, least-below, least-mem, mem-least-in, mem-least-first}
-use Rattle.cell.specs.Limits.{cellLimit}
+use Rattle.cell.specs.Limits.{sectionRoom}
 use Rattle.cell.specs.Order.{over}
 use Rattle.laws.proofs.Compared.{Compared, below, equal, above, compare}
 use Rattle.cell.proofs.Order.{over-irrefl, over-trans, over-total}
@@ -139,7 +139,7 @@ module _ (table : List ℕ) (cross : List (List ℕ)) (output : ℕ) where
     -- a cell at a crosspoint is of a port
     pub port : {e : Waiting} → List·Memᴰ e cells → e .cell .input < portsIn table
     port {e} m =
-        let i : e .at / cellLimit ≡ e .cell .input =
+        let i : e .at / sectionRoom ≡ e .cell .input =
         sym (ap (λ c. c .input) (h .cell e m) ∙ entryAt-input table (e .at)) in
         omega (arith, h .inside e m .input)
 

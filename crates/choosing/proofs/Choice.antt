@@ -21,7 +21,7 @@ use Rattle.laws.proofs.Least.{least-nil}
 use Rattle.laws.proofs.Pairwise.{pairwise-nil, pairwise-keep}
 use Rattle.sets.specs.Sets.{positions, has, members, firstOf, withOne}
 use Rattle.sets.proofs.Members.{has-setFrom, first-is, first-before, members-none, members-cons, members-with}
-use Rattle.cell.specs.Limits.{cellLimit}
+use Rattle.cell.specs.Limits.{sectionRoom}
 use Rattle.laws.proofs.Compared.{Compared, below, equal, above, compare}
 use Rattle.model.specs.State.{isListed}
 use Rattle.model.specs.Phase.{Waiting, ahead, phase, lists}
@@ -52,14 +52,14 @@ module _ (listed scheduled urgent : ℕ) where
   entered-nowhere h = rw (le-leb nowhere scheduled h)
 
   module _ (h : scheduled < nowhere) where
-    pub entered-behind : firstOf listed ≢ scheduled % cellLimit → urgent ≡ entered listed scheduled urgent
+    pub entered-behind : firstOf listed ≢ scheduled % sectionRoom → urgent ≡ entered listed scheduled urgent
     unfolding entered
-    entered-behind d = rw (lt-leb nowhere scheduled h, ne-eqb (firstOf listed) (scheduled % cellLimit) d)
+    entered-behind d = rw (lt-leb nowhere scheduled h, ne-eqb (firstOf listed) (scheduled % sectionRoom) d)
 
-    pub entered-first : firstOf listed ≡ scheduled % cellLimit
-        → withOne 0 (scheduled % cellLimit) ≡ entered listed scheduled urgent
+    pub entered-first : firstOf listed ≡ scheduled % sectionRoom
+        → withOne 0 (scheduled % sectionRoom) ≡ entered listed scheduled urgent
     unfolding entered
-    entered-first e = rw (lt-leb nowhere scheduled h, eq-eqb (firstOf listed) (scheduled % cellLimit) e)
+    entered-first e = rw (lt-leb nowhere scheduled h, eq-eqb (firstOf listed) (scheduled % sectionRoom) e)
 
 module _ (listed scheduled old : List ℕ) where
   pub entered-start : length old ≡ 16 → Entered listed scheduled old 0 old
@@ -144,11 +144,11 @@ module _ (table : List ℕ) where
           nil i (equal c) l =
               ap (urgentOf (phase all)) c
               ∙ sym e
-              ∙ ap (λ s. map (λ j. cellLimit * n + j) s) (ap members (eqb-true u 0 z) ∙ members-none)
+              ∙ ap (λ s. map (λ j. sectionRoom * n + j) s) (ap members (eqb-true u 0 z) ∙ members-none)
           nil i (above c) l = absurd (omega arith)
       go false z =
           let some : 0 < u = omega (arith, eqb-false u 0 z) in
-          some-urgent (urgent-member n (sym e ∙ ap (map (λ j. cellLimit * n + j)) (members-cons u some fits)) .1)
+          some-urgent (urgent-member n (sym e ∙ ap (map (λ j. sectionRoom * n + j)) (members-cons u some fits)) .1)
 
   -- what the walk found for the next input
   pub scanned-more : (n s u : ℕ) {scheduled urgent : List ℕ} {some : Bool} → n < 16 → Scanned table n s u
@@ -182,7 +182,7 @@ module _ (table : List ℕ) where
           scheduled-is = sym (ap (λ l. numberOf (first? l)) (scan-end-scheduled all input none) ∙ numberOf-nil);
           fits = omega arith;
           urgent-are =
-              ap (map (λ j. cellLimit * input + j)) members-none
+              ap (map (λ j. sectionRoom * input + j)) members-none
               ∙ sym (ap (map (λ e. e .at))
               (scan-end-urgent all input none ∙ ap (keep (isPressing all)) nil ∙ keep-nil (isPressing all)));
         }
@@ -287,17 +287,17 @@ module _ (table : List ℕ) where
       -- where a listed cell of the input stands
       record Stands (e : Waiting) : Type 0 where
         inside : InTable table (e .at)
-        place : e .at ≡ cellLimit * input + e .at % cellLimit
-        member : has listed (e .at % cellLimit) ≡ true
+        place : e .at ≡ sectionRoom * input + e .at % sectionRoom
+        member : has listed (e .at % sectionRoom) ≡ true
 
       stands : {e : Waiting} → List·Memᴰ e (lists all) → e .cell .input ≡ input → Stands e
       unfolding listedSet
       stands {e} m i =
           let w = inTable-e table places r (lists-all all m) in
-          let own : e .at / cellLimit ≡ input = sym (inTable-input table places r (lists-all all m)) ∙ i in
-          let place : e .at ≡ cellLimit * input + e .at % cellLimit = omega arith in
-          let count : e .at < cellLimit * input + countIn table input =
-          subst (λ i. e .at < cellLimit * i + countIn table i) own (w .1 .position) in
+          let own : e .at / sectionRoom ≡ input = sym (inTable-input table places r (lists-all all m)) ∙ i in
+          let place : e .at ≡ sectionRoom * input + e .at % sectionRoom = omega arith in
+          let count : e .at < sectionRoom * input + countIn table input =
+          subst (λ i. e .at < sectionRoom * i + countIn table i) own (w .1 .position) in
           let byte : isListed (placeOf (getD places (e .at) 0)) ≡ true =
           ap isListed (sym (waitingAt-place table places (e .at)))
           ∙ ap (λ w. isListed (w .place)) (sym (w .0))
@@ -305,18 +305,18 @@ module _ (table : List ℕ) where
           record {
             inside = w .1;
             place = place;
-            member = has-setFrom _ (cellLimit * input) (countIn table input) (e .at % cellLimit)
-                ∙ and-i _ _ (lt-ltb (e .at % cellLimit) (countIn table input) (omega arith))
+            member = has-setFrom _ (sectionRoom * input) (countIn table input) (e .at % sectionRoom)
+                ∙ and-i _ _ (lt-ltb (e .at % sectionRoom) (countIn table input) (omega arith))
                 (subst (λ k. isListed (placeOf (getD places k 0)) ≡ true) place byte);
           }
 
       -- a cell of the list
       listed-member : (j : ℕ) → has listed j ≡ true
-          → List·Memᴰ (waitingAt table places (cellLimit * input + j)) (lists all) × (j < cellLimit)
+          → List·Memᴰ (waitingAt table places (sectionRoom * input + j)) (lists all) × (j < sectionRoom)
       unfolding listedSet
       listed-member j t =
-          let k = cellLimit * input + j in
-          let both = sym (has-setFrom _ (cellLimit * input) (countIn table input) j) ∙ t in
+          let k = sectionRoom * input + j in
+          let both = sym (has-setFrom _ (sectionRoom * input) (countIn table input) j) ∙ t in
           let port : input < portsIn table =
           omega (
             arith,
@@ -324,53 +324,53 @@ module _ (table : List ℕ) where
             inTable-input table places r (lists-all all s-listed),
             stands s-listed s-input .inside .input,
           ) in
-          let few : countIn table input ≤ cellLimit = r .counts input (omega (arith, r .ports)) in
+          let few : countIn table input ≤ sectionRoom = r .counts input (omega (arith, r .ports)) in
           let inside : j < countIn table input = ltb-true _ _ (and-l (ltb j (countIn table input)) _ both) in
-          let own : k / cellLimit ≡ input = omega arith in (
+          let own : k / sectionRoom ≡ input = omega arith in (
             lists-i all
                 (inTable-i table places r k (record {
                   input = omega arith;
-                  position = subst (λ i. k < cellLimit * i + countIn table i) (sym own) (omega arith);
+                  position = subst (λ i. k < sectionRoom * i + countIn table i) (sym own) (omega arith);
                 }))
                 (ap isListed (waitingAt-place table places k) ∙ and-r (ltb j (countIn table input)) _ both),
             omega arith,
           )
 
-      stands-first : none? (λ f. ahead f s) (lists all) ≡ eqb (firstOf listed) (s .at % cellLimit)
-      stands-first = same (none? (λ f. ahead f s) (lists all)) (eqb (firstOf listed) (s .at % cellLimit)) out into
+      stands-first : none? (λ f. ahead f s) (lists all) ≡ eqb (firstOf listed) (s .at % sectionRoom)
+      stands-first = same (none? (λ f. ahead f s) (lists all)) (eqb (firstOf listed) (s .at % sectionRoom)) out into
         where
           at : Stands s
           at = stands s-listed s-input
 
-          out : none? (λ f. ahead f s) (lists all) ≡ true → eqb (firstOf listed) (s .at % cellLimit) ≡ true
+          out : none? (λ f. ahead f s) (lists all) ≡ true → eqb (firstOf listed) (s .at % sectionRoom) ≡ true
           out n =
-              eq-eqb _ _ (first-is listed (s .at % cellLimit) (omega arith)
+              eq-eqb _ _ (first-is listed (s .at % sectionRoom) (omega arith)
               (λ j l. by-fail (has listed j) (λ t. go j l (listed-member j t))) (λ l. at .member))
             where
-              go : (j : ℕ) → j < s .at % cellLimit
-                  → List·Memᴰ (waitingAt table places (cellLimit * input + j)) (lists all) × (j < cellLimit) → ⊥
+              go : (j : ℕ) → j < s .at % sectionRoom
+                  → List·Memᴰ (waitingAt table places (sectionRoom * input + j)) (lists all) × (j < sectionRoom) → ⊥
               go j l (m, b) =
-                  let k = cellLimit * input + j in
-                  let own : k / cellLimit ≡ input = omega arith in
+                  let k = sectionRoom * input + j in
+                  let own : k / sectionRoom ≡ input = omega arith in
                   none?-clash (λ f. ahead f s) n m
                   (ahead-i (waitingAt table places k) s
                   (waitingAt-input table places k ∙ own ∙ sym s-input)
                   (omega (arith, waitingAt-at table places k, at .place)))
 
-          into : eqb (firstOf listed) (s .at % cellLimit) ≡ true → none? (λ f. ahead f s) (lists all) ≡ true
+          into : eqb (firstOf listed) (s .at % sectionRoom) ≡ true → none? (λ f. ahead f s) (lists all) ≡ true
           into t = none?-i (λ f. ahead f s) (lists all) (λ f m. by-fail (ahead f s) (λ a. go f m a))
             where
               go : (f : Waiting) → List·Memᴰ f (lists all) → ahead f s ≡ true → ⊥
               go f m a =
                   let w = stands m (ahead-input f s a ∙ s-input) in
                   clash (w .member)
-                  (first-before listed (f .at % cellLimit)
-                  (omega (arith, eqb-true (firstOf listed) (s .at % cellLimit) t, ahead-at f s a, w .place, at .place)))
+                  (first-before listed (f .at % sectionRoom)
+                  (omega (arith, eqb-true (firstOf listed) (s .at % sectionRoom) t, ahead-at f s a, w .place, at .place)))
 
       s-small : s .at < 1024
       s-small = inTable-below r (stands s-listed s-input .inside)
 
-      s-place : s .at ≡ cellLimit * input + s .at % cellLimit
+      s-place : s .at ≡ sectionRoom * input + s .at % sectionRoom
       s-place = stands s-listed s-input .place
 
     ------------------------------------------------------------------------
@@ -397,7 +397,7 @@ module _ (table : List ℕ) where
             rw (le-leb nowhere s none)
             (f .urgent-are
             ∙ sym (candidates-urgent all unique input (some .1) (λ e m x. List·Memᴰ·not-nil (subst (List·Memᴰ e) h m))))
-        go (one e h) = tested (eqb (firstOf (listedSet table places input)) (s % cellLimit)) refl
+        go (one e h) = tested (eqb (firstOf (listedSet table places input)) (s % sectionRoom)) refl
           where
             number : s ≡ e .at
             number = f .scheduled-is ∙ scheduledOf-one input e h
@@ -406,20 +406,20 @@ module _ (table : List ℕ) where
             small = omega (arith, number, s-small input e h)
 
             first : none? (λ f. ahead f e) (lists all)
-                ≡ eqb (firstOf (listedSet table places input)) (s % cellLimit)
+                ≡ eqb (firstOf (listedSet table places input)) (s % sectionRoom)
             first =
                 stands-first input e h
-                ∙ ap (λ n. eqb (firstOf (listedSet table places input)) (n % cellLimit)) (sym number)
+                ∙ ap (λ n. eqb (firstOf (listedSet table places input)) (n % sectionRoom)) (sym number)
 
-            tested : (b : Bool) → eqb (firstOf (listedSet table places input)) (s % cellLimit) ≡ b
+            tested : (b : Bool) → eqb (firstOf (listedSet table places input)) (s % sectionRoom) ≡ b
                 → numbersAt input (entered (listedSet table places input) s u) ≡ candidatesOf (phase all) input
             tested true q =
-                let place : cellLimit * input + s % cellLimit ≡ e .at = omega (arith, number, s-place input e h) in
+                let place : sectionRoom * input + s % sectionRoom ≡ e .at = omega (arith, number, s-place input e h) in
                 rw (lt-leb nowhere s small, q)
-                (ap (map (λ j. cellLimit * input + j))
-                (members-with 0 (s % cellLimit) (omega arith)
+                (ap (map (λ j. sectionRoom * input + j))
+                (members-with 0 (s % sectionRoom) (omega arith)
                 (λ i m. absurd (List·Memᴰ·not-nil (subst (List·Memᴰ i) members-none m)))
-                ∙ ap (λ l. l ++ ((s % cellLimit) ∷ [])) members-none)
+                ∙ ap (λ l. l ++ ((s % sectionRoom) ∷ [])) members-none)
                 ∙ ap (λ k. k ∷ []) place
                 ∙ sym (candidates-first all unique input (some .1) e h (first ∙ q)))
             tested false q =

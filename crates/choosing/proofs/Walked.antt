@@ -20,7 +20,7 @@ use Rattle.sets.specs.Sets.{positions, members, firstOf, restOf, withOne}
 use Rattle.sets.proofs.Members.{has-setFrom, members-none, in-members, members-rising}
 use Rattle.sets.proofs.Members.{members-setFrom, Visited, visited-start, visited-cons, visited-next, visited-end}
 use Rattle.sets.proofs.Members.{first-position, members-with, withOne-lt}
-use Rattle.cell.specs.Limits.{cellLimit}
+use Rattle.cell.specs.Limits.{sectionRoom}
 use Rattle.model.specs.Phase.{Waiting, ahead, phase}
 use Rattle.layout.specs.Entry.{portsIn, countIn}
 use Rattle.places.specs.View.{placesIn, waitingIn, waitingAt, window}
@@ -42,7 +42,7 @@ module _ (table : List ℕ) (input : ℕ) where
 
   -- the cell at a position, and the positions of the heads
   abbrev here : ℕ → Waiting
-  here j = waitingAt table (placesIn table) (cellLimit * input + j)
+  here j = waitingAt table (placesIn table) (sectionRoom * input + j)
 
   abbrev heads : ℕ
   heads = headSet table (placesIn table) input
@@ -71,7 +71,7 @@ module _ (table : List ℕ) (input : ℕ) where
   }
 
   module _ (r : Readable table) (port : input < portsIn table) where
-    few : countIn table input ≤ cellLimit
+    few : countIn table input ≤ sectionRoom
     few = r .counts input (omega (arith, r .ports))
 
     heads-here : headsOf all input ≡ map here (members heads)
@@ -79,29 +79,29 @@ module _ (table : List ℕ) (input : ℕ) where
     heads-here =
         ap (keep (isHead all)) (ofInput-window table (placesIn table) r input port)
         ∙ keep-map (isHead all) at numbers
-        ∙ ap (map at) (sym (members-setFrom (λ k. isHead all (at k)) (cellLimit * input) (countIn table input) few))
-        ∙ map-map at (λ j. cellLimit * input + j) (members heads)
+        ∙ ap (map at) (sym (members-setFrom (λ k. isHead all (at k)) (sectionRoom * input) (countIn table input) few))
+        ∙ map-map at (λ j. sectionRoom * input + j) (members heads)
       where
         at : ℕ → Waiting
         at = waitingAt table (placesIn table)
 
         numbers : List ℕ
-        numbers = numbersFrom (cellLimit * input) (countIn table input)
+        numbers = numbersFrom (sectionRoom * input) (countIn table input)
 
-    pub head-here : {j : ℕ} → List·Memᴰ j (members heads) → HeadOf table input (cellLimit * input + j)
+    pub head-here : {j : ℕ} → List·Memᴰ j (members heads) → HeadOf table input (sectionRoom * input + j)
     unfolding headSet
     head-here {j} m =
-        let k = cellLimit * input + j in
+        let k = sectionRoom * input + j in
         let w = in-members heads m in
         let both =
-        sym (has-setFrom (λ k. isHead all (waitingAt table (placesIn table) k)) (cellLimit * input) (countIn table input) j)
+        sym (has-setFrom (λ k. isHead all (waitingAt table (placesIn table) k)) (sectionRoom * input) (countIn table input) j)
         ∙ w .1 in
         let inside : j < countIn table input = ltb-true _ _ (and-l (ltb j (countIn table input)) _ both) in
-        let own : k / cellLimit ≡ input = omega (arith, w .0) in
+        let own : k / sectionRoom ≡ input = omega (arith, w .0) in
         record {
           inside = record {
             input = omega (arith, own);
-            position = subst (λ i. k < cellLimit * i + countIn table i) (sym own) (omega arith);
+            position = subst (λ i. k < sectionRoom * i + countIn table i) (sym own) (omega arith);
           };
           own = own;
           head = and-r (ltb j (countIn table input)) _ both;
@@ -118,19 +118,19 @@ module _ (table : List ℕ) (input : ℕ) where
     -- the walk
 
     -- the numbers of the cells at some positions
-    numbers-here : (l : List ℕ) → map (λ e. e .at) (map here l) ≡ map (λ j. cellLimit * input + j) l
+    numbers-here : (l : List ℕ) → map (λ e. e .at) (map here l) ≡ map (λ j. sectionRoom * input + j) l
     unfolding waitingAt
     numbers-here l = map-map (λ e. e .at) here l
 
     module _ {urgent left : ℕ} (w : Walked urgent left) where
       -- the urgent cells, where they are the pressing ones of those passed
       gathered : ofInput input (phase all .urgent) ≡ keep (isPressing all) (map here (w .passed))
-          → map (λ j. cellLimit * input + j) (members urgent) ≡ urgentOf (phase all) input
+          → map (λ j. sectionRoom * input + j) (members urgent) ≡ urgentOf (phase all) input
       unfolding urgentOf
       gathered h =
           sym (ap (map (λ e. e .at)) (h ∙ keep-map (isPressing all) here (w .passed))
           ∙ numbers-here (keep pressing (w .passed))
-          ∙ ap (map (λ j. cellLimit * input + j)) (sym (w .urgents)))
+          ∙ ap (map (λ j. sectionRoom * input + j)) (sym (w .urgents)))
 
       -- none of the cells passed was ready
       none-here : none? (isReady all) (map here (w .passed)) ≡ true
@@ -158,13 +158,13 @@ module _ (table : List ℕ) (input : ℕ) where
         walked-position = first-position left some (w .visited .fits)
 
         -- at a ready cell
-        pub walked-stop : isReady all (here next) ≡ true → Scanned table input (cellLimit * input + next) urgent
+        pub walked-stop : isReady all (here next) ≡ true → Scanned table input (sectionRoom * input + next) urgent
         unfolding scheduledOf
         walked-stop t =
             record {
               scheduled-is = sym (ap (λ l. numberOf (first? l))
                   (scan-stop-scheduled all input front back e split heads-ordered none-here t)
-                  ∙ numberOf-one e ∙ waitingAt-at table (placesIn table) (cellLimit * input + next));
+                  ∙ numberOf-one e ∙ waitingAt-at table (placesIn table) (sectionRoom * input + next));
               fits = w .fits;
               urgent-are = gathered (scan-stop-urgent all input front back e split heads-ordered none-here t);
             }

@@ -3,6 +3,7 @@ use Prim.Native.Nat.{ℕ, _+_, _<_, _≤_, min}
 use mathlib.Core.Path.{_≡_}
 use mathlib.Core.List.{List, []}
 use lib.ListN.{length, getD}
+use Rattle.cell.specs.Limits.{portLimit}
 use Rattle.places.specs.View.{crosspointAt}
 use Rattle.places.specs.Choices.{nowhere}
 
@@ -16,8 +17,8 @@ leastOf row = min (min (leastOfFour row 0) (leastOfFour row 4)) (min (leastOfFou
 
 -- of the places of a row from one on the first with a number, if one has it
 pub record FirstWith (row : List ℕ) (v from r : ℕ) : Type 0 where
-  pub inside : r < 16
-  pub first : (i : ℕ) → from ≤ i → i < 16 → getD row i 0 ≡ v → (r ≤ i) × (getD row r 0 ≡ v)
+  pub inside : r < portLimit
+  pub first : (i : ℕ) → from ≤ i → i < portLimit → getD row i 0 ≡ v → (r ≤ i) × (getD row r 0 ≡ v)
 
 -- the key is the least of an output, and the number stands at the crosspoint of the first input that has it
 pub record Leading (cross keys : List (List ℕ)) (output number key : ℕ) : Type 0 where
@@ -28,6 +29,6 @@ pub record Leading (cross keys : List (List ℕ)) (output number key : ℕ) : Ty
 
 -- of the first n outputs
 pub record LeadingTo (cross keys : List (List ℕ)) (n : ℕ) (best least : List ℕ) : Type 0 where
-  pub best-size : length best ≡ 16
-  pub least-size : length least ≡ 16
+  pub best-size : length best ≡ portLimit
+  pub least-size : length least ≡ portLimit
   pub each : (output : ℕ) → output < n → Leading cross keys output (getD best output 0) (getD least output 0)

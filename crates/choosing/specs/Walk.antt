@@ -8,7 +8,7 @@ use lib.Dec.{eqb, leb}
 use lib.ListN.{length, getD}
 use Rattle.laws.specs.Lists.{keep, all?}
 use Rattle.sets.specs.Sets.{positions, members, firstOf, withOne}
-use Rattle.cell.specs.Limits.{portLimit, cellLimit}
+use Rattle.cell.specs.Limits.{portLimit, sectionRoom}
 use Rattle.model.specs.Phase.{Waiting, sameOutput, beats, blocked, crosspointEmpty, Phase, phase, crosspoints}
 use Rattle.places.specs.Choices.{nowhere, ofInput, scheduledOf, bestOf}
 use Rattle.places.specs.View.{placesIn, waitingIn, waitingAt, InTable, Agrees}
@@ -45,7 +45,7 @@ pub record BestKnown (table : List ℕ) (cross : List (List ℕ)) (best least : 
 -- the cell with number k is a head of an input
 pub record HeadOf (table : List ℕ) (input k : ℕ) : Type 0 where
   pub inside : InTable table k
-  pub own : k / cellLimit ≡ input
+  pub own : k / sectionRoom ≡ input
   pub head : isHead (waitingIn table) (waitingAt table (placesIn table) k) ≡ true
 
 ------------------------------------------------------------------------
@@ -53,7 +53,7 @@ pub record HeadOf (table : List ℕ) (input k : ℕ) : Type 0 where
 
 -- the numbers of the cells at a set of positions of an input
 abbrev pub numbersAt : ℕ → ℕ → List ℕ
-numbersAt input set = map (λ j. cellLimit * input + j) (members set)
+numbersAt input set = map (λ j. sectionRoom * input + j) (members set)
 
 -- the urgent cells of an input, in list order
 unfoldable pub urgentOf : Phase → ℕ → List ℕ
@@ -79,7 +79,7 @@ pub record ScannedAll (table scheduled urgent : List ℕ) (some : Bool) : Type 0
 unfoldable pub entered : ℕ → ℕ → ℕ → ℕ
 entered listed scheduled urgent =
     cond (leb nowhere scheduled) urgent
-    (cond (eqb (firstOf listed) (scheduled % cellLimit)) (withOne 0 (scheduled % cellLimit)) urgent)
+    (cond (eqb (firstOf listed) (scheduled % sectionRoom)) (withOne 0 (scheduled % sectionRoom)) urgent)
 
 -- of the first n inputs; the sets of the others are as before
 pub record Entered (listed scheduled old : List ℕ) (n : ℕ) (new : List ℕ) : Type 0 where

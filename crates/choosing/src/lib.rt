@@ -1,17 +1,19 @@
 // Scope 3.3 to 3.6, rules 1 to 4: which cells a phase schedules, which are urgent, and which are matched. Rule 6
 // goes on from the best crosspoint cells that rule 3 finds.
 // Entry k of a table is a cell of input k / 64. The view of the table is only read.
+use layout::CELLS;
+use layout::PORTS;
 use places::Choice;
 use places::NOWHERE;
-use table::entry::CELLS;
-use table::entry::PORTS;
 ghost use mathlib.Core.Path.{_≡_};
 ghost use mathlib.Core.List.{[]};
 ghost use Prim.Native.Nat.{ℕ, _+_, _≤_, _<_, min};
 ghost use lib.ListN.{length, getD, replicate};
 ghost use Rattle.cell.specs.Order.{over, key as cellKey};
-ghost use Rattle.layout.specs.Table.{tableSize};
+ghost use Rattle.cell.specs.Limits.{portLimit};
+ghost use Rattle.layout.specs.Table.{tableSize, entryLimit};
 ghost use Rattle.layout.specs.Entry.{entryAt, portsIn};
+ghost use Rattle.places.specs.Choices.{nowhere};
 ghost use Rattle.places.specs.View.{placesIn, waitingIn, waitingAt, Square, Agrees};
 ghost use Rattle.places.specs.Scan.{Readable};
 ghost use Rattle.places.specs.Viewed.{headSet, ListsOf, Keyed, Chosen};
@@ -35,10 +37,10 @@ struct Found {
 // Rules 1 to 4. Nothing is matched where no cell is urgent.
 pub fn choose(
     table: &[u8],
-    listed: &[u64; 16],
-    heads: &[u64; 16],
-    cross: &[[u16; 16]; 16],
-    keys: &[[u64; 16]; 16],
+    listed: &[u64; PORTS],
+    heads: &[u64; PORTS],
+    cross: &[[u16; PORTS]; PORTS],
+    keys: &[[u64; PORTS]; PORTS],
 ) -> Choice
     requires { ⌜ Readable (now table) ⌝ }
     requires { ⌜ ListsOf (now table) (placesIn (now table)) (now listed) (now heads) ⌝ }
@@ -72,13 +74,13 @@ pub fn choose(
 
 // The best crosspoint cell of each output, and its key. Of equal keys the one of the smallest input goes first.
 fn best_of_each(
-    cross: &[[u16; 16]; 16],
-    keys: &[[u64; 16]; 16],
-    best: &mut [u16; 16],
-    least: &mut [u64; 16],
+    cross: &[[u16; PORTS]; PORTS],
+    keys: &[[u64; PORTS]; PORTS],
+    best: &mut [u16; PORTS],
+    least: &mut [u64; PORTS],
 )
-    requires { ⌜ (length (now best) ≡ 16) × (length (now least) ≡ 16) ⌝ }
-    ensures { λ _. ⌜ LeadingTo (now (cross .entry)) (now (keys .entry)) 16 (now (best .exit)) (now (least .exit)) ⌝ }
+    requires { ⌜ (length (now best) ≡ portLimit) × (length (now least) ≡ portLimit) ⌝ }
+    ensures { λ _. ⌜ LeadingTo (now (cross .entry)) (now (keys .entry)) portLimit (now (best .exit)) (now (least .exit)) ⌝ }
 {
     let mut output = 0;
     while output < PORTS {
@@ -91,8 +93,8 @@ fn best_of_each(
 }
 
 // The least key of an output. A tree of minima is made without branches, and a longer chain is not.
-fn least_key(keys: &[[u64; 16]; 16], output: usize) -> u64
-    requires { ⌜ output < 16 ⌝ }
+fn least_key(keys: &[[u64; PORTS]; PORTS], output: usize) -> u64
+    requires { ⌜ output < portLimit ⌝ }
     ensures { λ r. ⌜ r ≡ leastOf (getD (now (keys .entry)) output []) ⌝ }
 {
     let a = least_of_four(keys, output, 0);
@@ -103,8 +105,8 @@ fn least_key(keys: &[[u64; 16]; 16], output: usize) -> u64
 }
 
 // The least of the keys of an output from an input on.
-fn least_of_four(keys: &[[u64; 16]; 16], output: usize, from: usize) -> u64
-    requires { ⌜ (output < 16) × (from + 4 ≤ 16) ⌝ }
+fn least_of_four(keys: &[[u64; PORTS]; PORTS], output: usize, from: usize) -> u64
+    requires { ⌜ (output < portLimit) × (from + 4 ≤ portLimit) ⌝ }
     ensures { λ r. ⌜ r ≡ leastOfFour (getD (now (keys .entry)) output []) from ⌝ }
 {
     lesser(
@@ -120,8 +122,8 @@ fn lesser(a: u64, b: u64) -> u64
 }
 
 // The first input with a key, if some input has it. Nothing branches on the keys, as that would be guessed badly.
-fn holder(keys: &[[u64; 16]; 16], output: usize, key: u64) -> usize
-    requires { ⌜ output < 16 ⌝ }
+fn holder(keys: &[[u64; PORTS]; PORTS], output: usize, key: u64) -> usize
+    requires { ⌜ output < portLimit ⌝ }
     ensures { λ r. ⌜ FirstWith (getD (now (keys .entry)) output []) key 0 r ⌝ }
 {
     let mut found = 0;
@@ -140,16 +142,16 @@ fn holder(keys: &[[u64; 16]; 16], output: usize, key: u64) -> usize
 // Rules 1 to 3 for each input, and whether some cell is urgent.
 fn scan_each(
     table: &[u8],
-    heads: &[u64; 16],
-    cross: &[[u16; 16]; 16],
-    best: &[u16; 16],
-    least: &[u64; 16],
-    scheduled: &mut [u16; 16],
-    urgent: &mut [u64; 16],
+    heads: &[u64; PORTS],
+    cross: &[[u16; PORTS]; PORTS],
+    best: &[u16; PORTS],
+    least: &[u64; PORTS],
+    scheduled: &mut [u16; PORTS],
+    urgent: &mut [u64; PORTS],
 ) -> bool
     requires { ⌜ BestKnown (now table) (now cross) (now best) (now least) ⌝ }
-    requires { ⌜ ((input : ℕ) → input < 16 → getD (now heads) input 0 ≡ headSet (now table) (placesIn (now table)) input) ⌝ }
-    requires { ⌜ (now scheduled ≡ replicate 16 1024) × (now urgent ≡ replicate 16 0) ⌝ }
+    requires { ⌜ ((input : ℕ) → input < portLimit → getD (now heads) input 0 ≡ headSet (now table) (placesIn (now table)) input) ⌝ }
+    requires { ⌜ (now scheduled ≡ replicate portLimit nowhere) × (now urgent ≡ replicate portLimit 0) ⌝ }
     ensures { λ r. ⌜ ScannedAll (now (table .entry)) (now (scheduled .exit)) (now (urgent .exit)) r ⌝ }
 {
     let mut some = false;
@@ -171,9 +173,9 @@ fn scan_each(
 fn scan(
     table: &[u8],
     heads: u64,
-    cross: &[[u16; 16]; 16],
-    best: &[u16; 16],
-    least: &[u64; 16],
+    cross: &[[u16; PORTS]; PORTS],
+    best: &[u16; PORTS],
+    least: &[u64; PORTS],
     input: usize,
 ) -> Found
     requires { ⌜ BestKnown (now table) (now cross) (now best) (now least) ⌝ }
@@ -204,9 +206,9 @@ fn scan(
 // Rules 2 and 3 for a head.
 fn kind_of(
     table: &[u8],
-    cross: &[[u16; 16]; 16],
-    best: &[u16; 16],
-    least: &[u64; 16],
+    cross: &[[u16; PORTS]; PORTS],
+    best: &[u16; PORTS],
+    least: &[u64; PORTS],
     input: usize,
     k: usize,
 ) -> Kind
@@ -233,7 +235,7 @@ fn kind_of(
 // Rule 3 for a head whose crosspoint is full, by the best cell in the crosspoints of its output and its key: the head is
 // blocked and over every cell there if it is over that one.
 fn is_pressing(table: &[u8], k: usize, best: u16, key: u64) -> bool
-    requires { ⌜ (length (now table) ≡ tableSize) × (k < 1024) × (best < 1024) ⌝ }
+    requires { ⌜ (length (now table) ≡ tableSize) × (k < entryLimit) × (best < entryLimit) ⌝ }
     requires { ⌜ key ≡ cellKey (entryAt (now table) best .cell) ⌝ }
     ensures { λ r. ⌜ r ≡ over (entryAt (now (table .entry)) k .cell) (entryAt (now (table .entry)) best .cell) ⌝ }
 {
@@ -241,9 +243,9 @@ fn is_pressing(table: &[u8], k: usize, best: u16, key: u64) -> bool
 }
 
 // Rule 4 for each input, where some cell is urgent.
-fn enter_scheduled(listed: &[u64; 16], scheduled: &[u16; 16], candidates: &mut [u64; 16])
-    requires { ⌜ length (now candidates) ≡ 16 ⌝ }
-    ensures { λ _. ⌜ Entered (now (listed .entry)) (now (scheduled .entry)) (now (candidates .entry)) 16 (now (candidates .exit)) ⌝ }
+fn enter_scheduled(listed: &[u64; PORTS], scheduled: &[u16; PORTS], candidates: &mut [u64; PORTS])
+    requires { ⌜ length (now candidates) ≡ portLimit ⌝ }
+    ensures { λ _. ⌜ Entered (now (listed .entry)) (now (scheduled .entry)) (now (candidates .entry)) portLimit (now (candidates .exit)) ⌝ }
 {
     let mut input = 0;
     while input < PORTS {

@@ -15,7 +15,7 @@ use Rattle.model.specs.Crossbar.{Course}
 use Rattle.model.specs.Emulation.{Within, SameWaiting}
 use Rattle.model.specs.Pifo.{Pifo, freshPifo, Sent, sentDepartures, slotPifo, pifoAfter}
 use Rattle.model.specs.State.{Switch}
-use Rattle.layout.specs.Answer.{departuresBytes, answerSize, departuresIn, answerRead}
+use Rattle.layout.specs.Answer.{departuresBytes, answerSize, departuresIn, answerRead, departuresSize}
 use Rattle.layout.specs.Arrivals.{recordsOf}
 use Rattle.layout.specs.Host.{resultOf, startCall, bufferAfter, slotCall, tableAfter, answerAfter}
 use Rattle.layout.specs.Table.{decode, tableSize}
@@ -47,7 +47,7 @@ pub record AnswersAlike (ports : ℕ) (answer : List ℕ) (o : Outcome Course) (
   -- done, it reads none at the outputs from N to 15, and the answer's bytes are the bytes of these departures
   pub outputs : resultOf o ≡ 0
       → departuresIn portLimit (answerAfter answer o) ≡ sentDepartures ports o′ ++ noDepartures (portLimit - ports)
-  pub bytes : resultOf o ≡ 0 → take 448 (answerAfter answer o) ≡ departuresBytes portLimit (sentDepartures ports o′)
+  pub bytes : resultOf o ≡ 0 → take departuresSize (answerAfter answer o) ≡ departuresBytes portLimit (sentDepartures ports o′)
   -- refused, the buffer is kept
   pub kept : (resultOf o ≡ 0 → ⊥) → answerAfter answer o ≡ answer
 

@@ -2,6 +2,8 @@
 use arrival::Fault;
 use cell::Refusal;
 use cell::Switch;
+use layout::TABLE_BYTES;
+use layout::TALLY_BYTES;
 ghost use mathlib.Core.Path.{_≡_};
 ghost use Prim.Native.Nat.{_≤_};
 ghost use lib.ListN.{length};
@@ -11,12 +13,6 @@ ghost use Rattle.crossbar.specs.Cleared.{cleared};
 ghost use Rattle.crossbar.specs.Lent.{faultResult};
 ghost use Rattle.layout.specs.Host.{checkCall, startCall, bufferAfter, resultOf, filled};
 ghost use Rattle.layout.specs.Host.{slotCall, tableAfter, answerAfter, tallyBytesAfter};
-
-// The bytes of a table.
-pub const TABLE_BYTES: usize = 16416;
-
-// The bytes of a tally.
-pub const TALLY_BYTES: usize = 32;
 
 // Writes the table of a fresh switch into the first bytes of the buffer: 0. Refuses with 1 a number of ports that is not
 // 1 to 16, then with 10 a buffer that is too short; a refusal writes nothing.

@@ -16,7 +16,7 @@ use lib.Seq.{set-at, getD-drop, getD-at, drop-nil, drop-length, append-snoc}
 use Rattle.laws.specs.Lists.{keep, numbersFrom, upTo}
 use Rattle.laws.proofs.Numbers.{numbersFrom-at}
 use Rattle.laws.proofs.Lists.{keep-ext}
-use Rattle.cell.specs.Limits.{cellLimit, portLimit}
+use Rattle.cell.specs.Limits.{sectionRoom, portLimit}
 use Rattle.laws.proofs.Compared.{Compared, below, equal, above, compare}
 use Rattle.model.specs.State.{Entry, Switch}
 use Rattle.model.specs.Phase.{Waiting, numberFrom, waiting, among}
@@ -53,7 +53,7 @@ mixed-short zero new old hn ho k = ho k
 mixed-short (suc i) [] old hn ho k = rw (getD-drop (suc i) old k []) (ho (suc i + k))
 mixed-short (suc i) (n ∷ new) old hn ho zero = hn 0
 mixed-short (suc i) (n ∷ new) [] hn ho (suc k) =
-    subst (λ l. length (getD (take i new ++ l) k []) ≤ cellLimit) (drop-nil i)
+    subst (λ l. length (getD (take i new ++ l) k []) ≤ sectionRoom) (drop-nil i)
     (mixed-short i new [] (λ k. hn (suc k)) ho k)
 mixed-short (suc i) (n ∷ new) (o ∷ old) hn ho (suc k) = mixed-short i new old (λ k. hn (suc k)) (λ k. ho (suc k)) k
 
@@ -126,14 +126,14 @@ module _ (table : List ℕ) (good : IsTable table) where
   readable = table-readable table good
 
   section-is : (i : ℕ) → i < portsIn table
-      → getD (old table) i [] ≡ map (entryAt table) (numbersFrom (cellLimit * i) (countIn table i))
+      → getD (old table) i [] ≡ map (entryAt table) (numbersFrom (sectionRoom * i) (countIn table i))
   unfolding upTo sectionAt entriesBetween between
   section-is i l =
-      let size : cellLimit * i + countIn table i - cellLimit * i ≡ countIn table i = omega arith in
+      let size : sectionRoom * i + countIn table i - sectionRoom * i ≡ countIn table i = omega arith in
       ap (λ l. getD l i []) (decode-sections table (stateOf table) good)
       ∙ numbersFrom-at (sectionAt table) 0 (portsIn table) i [] l
       ∙ ap (sectionAt table) (zero-add i)
-      ∙ ap (λ n. map (entryAt table) (numbersFrom (cellLimit * i) n)) size
+      ∙ ap (λ n. map (entryAt table) (numbersFrom (sectionRoom * i) n)) size
 
   length-old : length (old table) ≡ portsIn table
   unfolding upTo
@@ -159,7 +159,7 @@ module _ (table : List ℕ) (good : IsTable table) where
   module _ {numbers : List ℕ} (c : BestBuffered table (placesIn table) numbers) where
     -- what stays of an input
     staying-new : (i : ℕ) → i < portsIn table
-        → getD (after table) i [] ≡ staying table numbers (cellLimit * i) (countIn table i)
+        → getD (after table) i [] ≡ staying table numbers (sectionRoom * i) (countIn table i)
     unfolding staying stays
     staying-new i l =
         without-at (leaving (waiting (old table))) (old table) i
@@ -167,14 +167,14 @@ module _ (table : List ℕ) (good : IsTable table) where
         ∙ ap (map entryOf) (keep-ext stay (stays numbers) (map (waitsAt table) ks) agree)
       where
         ks : List ℕ
-        ks = numbersFrom (cellLimit * i) (countIn table i)
+        ks = numbersFrom (sectionRoom * i) (countIn table i)
 
         stay : Waiting → Bool
         stay e = not (among (leaving (waiting (old table))) e)
 
-        numbered : numberFrom (cellLimit * i) (getD (old table) i []) ≡ map (waitsAt table) ks
+        numbered : numberFrom (sectionRoom * i) (getD (old table) i []) ≡ map (waitsAt table) ks
         numbered =
-            ap (numberFrom (cellLimit * i)) (section-is i l) ∙ numbered-own table (cellLimit * i) (countIn table i)
+            ap (numberFrom (sectionRoom * i)) (section-is i l) ∙ numbered-own table (sectionRoom * i) (countIn table i)
 
         agree : (e : Waiting) → List·Memᴰ e (map (waitsAt table) ks) → stay e ≡ stays numbers e
         agree e m =
@@ -187,18 +187,18 @@ module _ (table : List ℕ) (good : IsTable table) where
     fresh-short : Short (after table)
     fresh-short i = go (compare i (portsIn table))
       where
-        past : portsIn table ≤ i → length (getD (after table) i []) ≤ cellLimit
+        past : portsIn table ≤ i → length (getD (after table) i []) ≤ sectionRoom
         past h =
             let none : getD (after table) i [] ≡ [] =
             List·getD-eq-default (after table) [] (omega (arith, lengths, length-old)) in
             rw none (omega arith)
 
-        go : Compared i (portsIn table) → length (getD (after table) i []) ≤ cellLimit
+        go : Compared i (portsIn table) → length (getD (after table) i []) ≤ sectionRoom
         go (below h) =
             omega (
               arith,
               ap length (staying-new i h),
-              length-staying table numbers (cellLimit * i) (countIn table i),
+              length-staying table numbers (sectionRoom * i) (countIn table i),
               readable .counts i (omega (arith, readable .ports)),
             )
         go (equal h) = past (omega arith)
@@ -245,35 +245,35 @@ module _ (table : List ℕ) (good : IsTable table) where
           ∙ ap (λ bs. countIn bs i) (encode-decode table (stateOf table) good)
 
       -- and so from each record of it on
-      rest-same : (k : ℕ) → cellLimit * i ≤ k → drop (recordStart k) now ≡ drop (recordStart k) table
+      rest-same : (k : ℕ) → sectionRoom * i ≤ k → drop (recordStart k) now ≡ drop (recordStart k) table
       rest-same k h =
-          let at : recordStart k ≡ headerSize + sectionSize * i + entrySize * (k - cellLimit * i) = omega arith in
+          let at : recordStart k ≡ headerSize + sectionSize * i + entrySize * (k - sectionRoom * i) = omega arith in
           ap (λ n. drop n now) at
-          ∙ sym (drop-drop (entrySize * (k - cellLimit * i)) (headerSize + sectionSize * i) now)
-          ∙ ap (drop (entrySize * (k - cellLimit * i))) tail-same
-          ∙ drop-drop (entrySize * (k - cellLimit * i)) (headerSize + sectionSize * i) table
+          ∙ sym (drop-drop (entrySize * (k - sectionRoom * i)) (headerSize + sectionSize * i) now)
+          ∙ ap (drop (entrySize * (k - sectionRoom * i))) tail-same
+          ∙ drop-drop (entrySize * (k - sectionRoom * i)) (headerSize + sectionSize * i) table
           ∙ ap (λ n. drop n table) (sym at)
 
-      entry-same : (k : ℕ) → cellLimit * i ≤ k → entryAt now k ≡ entryAt table k
+      entry-same : (k : ℕ) → sectionRoom * i ≤ k → entryAt now k ≡ entryAt table k
       entry-same k h = entryAt-same table now k (rest-same k h)
 
       -- the next section can close up
       module _ (size : length now ≡ tableSize) {firsts : List ℕ} (f : Firsts numbers 16 firsts) where
-        number : (k : ℕ) → cellLimit * i ≤ k → k < cellLimit * i + countIn now i → InTable table k
+        number : (k : ℕ) → sectionRoom * i ≤ k → k < sectionRoom * i + countIn now i → InTable table k
         number k low high = inTable-number table (stateOf table) good i k l low (omega (arith, count-same))
 
-        output : (k : ℕ) → cellLimit * i ≤ k → k < cellLimit * i + countIn now i → entryAt now k .cell .output < portLimit
+        output : (k : ℕ) → sectionRoom * i ≤ k → k < sectionRoom * i + countIn now i → entryAt now k .cell .output < portLimit
         output k low high =
             rw (entry-same k low) (omega (arith, readable .outputs k (number k low high), readable .ports))
 
         -- a cell before the first that leaves stays
-        early : (k : ℕ) → cellLimit * i ≤ k → k < cellLimit * i + countIn now i → k < getD firsts i 0
+        early : (k : ℕ) → sectionRoom * i ≤ k → k < sectionRoom * i + countIn now i → k < getD firsts i 0
             → stays numbers (waitsAt now k) ≡ true
         early k low high h =
             stays-i now numbers k k
             (λ q.
             let small : k < nowhere = inTable-below readable (number k low high) in
-            let own : getD numbers (entryAt now k .cell .output) 0 / cellLimit ≡ i =
+            let own : getD numbers (entryAt now k .cell .output) 0 / sectionRoom ≡ i =
             omega (arith, count-same, readable .counts i port) in
             omega (
               arith,
@@ -283,7 +283,7 @@ module _ (table : List ℕ) (good : IsTable table) where
 
         -- its first cell that leaves is one of its entries
         own-first : getD firsts i 0 < nowhere
-            → (cellLimit * i ≤ getD firsts i 0) × (getD firsts i 0 ≤ cellLimit * i + countIn now i)
+            → (sectionRoom * i ≤ getD firsts i 0) × (getD firsts i 0 ≤ sectionRoom * i + countIn now i)
         own-first h = go (f .real i port h)
           where
             entry : (o : ℕ) → getD numbers o 0 ≡ getD firsts i 0
@@ -291,10 +291,10 @@ module _ (table : List ℕ) (good : IsTable table) where
             entry o q (empty d g) = absurd (omega arith)
             entry o q (best s b) = subst (InTable table) q (b .own .entry)
 
-            go : (getD firsts i 0 / cellLimit ≡ i) × (o : ℕ) × (o < 16) × (getD numbers o 0 ≡ getD firsts i 0)
-                → (cellLimit * i ≤ getD firsts i 0) × (getD firsts i 0 ≤ cellLimit * i + countIn now i)
+            go : (getD firsts i 0 / sectionRoom ≡ i) × (o : ℕ) × (o < 16) × (getD numbers o 0 ≡ getD firsts i 0)
+                → (sectionRoom * i ≤ getD firsts i 0) × (getD firsts i 0 ≤ sectionRoom * i + countIn now i)
             go (at, o, s, q) =
-                let end : getD firsts i 0 < cellLimit * i + countIn table i =
+                let end : getD firsts i 0 < sectionRoom * i + countIn table i =
                 rw at at (entry o q (c .each o s) .position) in
                 (omega arith, omega (arith, count-same))
 
@@ -313,7 +313,7 @@ module _ (table : List ℕ) (good : IsTable table) where
                   ∙ decode-record table (stateOf table) good k (number k low high)
                   ∙ ap entryBytes (sym (entry-same k low));
               rest =
-                  ap₂ (λ n bs. drop (recordStart (cellLimit * i + n)) bs) count-own e
+                  ap₂ (λ n bs. drop (recordStart (sectionRoom * i + n)) bs) count-own e
                   ∙ encode-rest (partly table i) i short port
                   ∙ ap₂ (λ w bs. replicate w 0 ++ drop (headerSize + sectionSize * (i + 1)) bs) zeros (sym e);
             }
@@ -340,8 +340,8 @@ module _ (table : List ℕ) (good : IsTable table) where
           ∙ ap (λ l. encode (record { ports = stateOf table .ports; clock = stateOf table .clock; sections = l }))
           (mixed-next (after table) (old table) lengths i within)
         where
-          kept : staying now numbers (cellLimit * i) (countIn now i) ≡ getD (after table) i []
+          kept : staying now numbers (sectionRoom * i) (countIn now i) ≡ getD (after table) i []
           kept =
-              ap (staying now numbers (cellLimit * i)) count-same
-              ∙ staying-same table now numbers (cellLimit * i) (countIn table i) (λ k low high. entry-same k low)
+              ap (staying now numbers (sectionRoom * i)) count-same
+              ∙ staying-same table now numbers (sectionRoom * i) (countIn table i) (λ k low high. entry-same k low)
               ∙ sym (staying-new i l)

@@ -6,7 +6,7 @@ use mathlib.Core.Path.{_≡_, refl, sym, _∙_, ap, ap₂}
 use mathlib.Core.List.{List, [], _∷_, _++_, append-assoc}
 use lib.ListN.{length, set, take, drop, length-append}
 use lib.Seq.{take-append-add, drop-at, drop-append-add, set-append-left}
-use Rattle.cell.specs.Limits.{cellLimit, portLimit}
+use Rattle.cell.specs.Limits.{sectionRoom, portLimit}
 use Rattle.model.specs.State.{Entry, Switch}
 use Rattle.model.proofs.Numbering.{Short}
 use Rattle.layout.specs.Number.{bytesOf}
@@ -20,7 +20,7 @@ set-append-add (x ∷ xs) ys i a =
     ap (λ n. set (x ∷ (xs ++ ys)) n a) (suc-add (length xs) i) ∙ ap (λ l. x ∷ l) (set-append-add xs ys i a)
 
 countsBytes-set : (n i : ℕ) (sections : List (List Entry)) (es : List Entry) → i < n → i < length sections
-    → length es ≤ cellLimit → countsBytes n (set sections i es) ≡ set (countsBytes n sections) i (length es)
+    → length es ≤ sectionRoom → countsBytes n (set sections i es) ≡ set (countsBytes n sections) i (length es)
 unfolding countsBytes bytesOf
 countsBytes-set zero i sections es h l few = absurd (omega arith)
 countsBytes-set (suc n) i [] es h l few = absurd (omega arith)
@@ -94,7 +94,7 @@ abbrev pub withSection : Switch → ℕ → List Entry → Switch
 withSection s i es = record { ports = s .ports; clock = s .clock; sections = set (s .sections) i es }
 
 pub encode-set : (s : Switch) (i : ℕ) (es : List Entry) → Short (s .sections) → i < portLimit → i < length (s .sections)
-    → length es ≤ cellLimit
+    → length es ≤ sectionRoom
     → encode (withSection s i es)
     ≡ set
     (take (headerSize + sectionSize * i) (encode s)

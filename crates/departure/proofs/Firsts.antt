@@ -6,7 +6,7 @@ use mathlib.Core.Logic.{_≢_}
 use mathlib.Core.List.{List}
 use lib.ListN.{getD, set, replicate, length-set, getD-replicate}
 use lib.Seq.{getD-set-same, getD-set-other}
-use Rattle.cell.specs.Limits.{portLimit, cellLimit}
+use Rattle.cell.specs.Limits.{portLimit, sectionRoom}
 use Rattle.laws.proofs.Compared.{Compared, below, equal, above, compare}
 use Rattle.places.specs.Choices.{nowhere}
 use Rattle.departure.specs.Departing.{Firsts}
@@ -25,10 +25,10 @@ module _ (numbers : List ℕ) where
     n = getD numbers o 0
 
     abbrev i : ℕ
-    i = getD numbers o 0 / cellLimit
+    i = getD numbers o 0 / sectionRoom
 
     -- the output has no cell, or one that is no earlier
-    pub firsts-same : (getD numbers o 0 < nowhere → getD firsts (getD numbers o 0 / cellLimit) 0 ≤ getD numbers o 0)
+    pub firsts-same : (getD numbers o 0 < nowhere → getD firsts (getD numbers o 0 / sectionRoom) 0 ≤ getD numbers o 0)
         → Firsts numbers (o + 1) firsts
     firsts-same h =
         record {
@@ -38,14 +38,14 @@ module _ (numbers : List ℕ) where
         }
       where
         go : (p : ℕ) → p < o + 1 → getD numbers p 0 < nowhere → Compared p o
-            → getD firsts (getD numbers p 0 / cellLimit) 0 ≤ getD numbers p 0
+            → getD firsts (getD numbers p 0 / sectionRoom) 0 ≤ getD numbers p 0
         go p l s (below d) = f .least p d s
         go p l s (equal d) = rw d (h (rw d at s))
         go p l s (above d) = absurd (omega arith)
 
     -- its cell is earlier
     module _ (small : getD numbers o 0 < nowhere)
-        (earlier : getD numbers o 0 < getD firsts (getD numbers o 0 / cellLimit) 0) where
+        (earlier : getD numbers o 0 < getD firsts (getD numbers o 0 / sectionRoom) 0) where
       abbrev new : List ℕ
       new = set firsts i n
 
@@ -60,7 +60,7 @@ module _ (numbers : List ℕ) where
       lower j (equal d) = omega (arith, same j d, ap (λ k. getD firsts k 0) d)
       lower j (above d) = omega (arith, other j (omega arith))
 
-      pub firsts-lower : Firsts numbers (o + 1) (set firsts (getD numbers o 0 / cellLimit) (getD numbers o 0))
+      pub firsts-lower : Firsts numbers (o + 1) (set firsts (getD numbers o 0 / sectionRoom) (getD numbers o 0))
       firsts-lower =
           record {
             size = length-set firsts i n ∙ f .size;
@@ -69,22 +69,22 @@ module _ (numbers : List ℕ) where
           }
         where
           go : (p : ℕ) → p < o + 1 → getD numbers p 0 < nowhere → Compared p o
-              → getD new (getD numbers p 0 / cellLimit) 0 ≤ getD numbers p 0
-          go p l s (below d) = omega (arith, lower _ (compare (getD numbers p 0 / cellLimit) i), f .least p d s)
+              → getD new (getD numbers p 0 / sectionRoom) 0 ≤ getD numbers p 0
+          go p l s (below d) = omega (arith, lower _ (compare (getD numbers p 0 / sectionRoom) i), f .least p d s)
           go p l s (equal d) =
               let at : getD numbers p 0 ≡ n = ap (λ q. getD numbers q 0) d in
-              omega (arith, same _ (ap (λ m. m / cellLimit) at))
+              omega (arith, same _ (ap (λ m. m / sectionRoom) at))
           go p l s (above d) = absurd (omega arith)
 
           kept : (j : ℕ) → j < portLimit → getD new j 0 < nowhere → j ≢ i
-              → (getD new j 0 / cellLimit ≡ j) × (p : ℕ) × (p < o + 1) × (getD numbers p 0 ≡ getD new j 0)
+              → (getD new j 0 / sectionRoom ≡ j) × (p : ℕ) × (p < o + 1) × (getD numbers p 0 ≡ getD new j 0)
           kept j l s d =
               let x = f .real j l (omega (arith, other j d)) in
-              (ap (λ m. m / cellLimit) (other j d) ∙ x .0, x .1, omega (arith, x .2), x .3 ∙ sym (other j d))
+              (ap (λ m. m / sectionRoom) (other j d) ∙ x .0, x .1, omega (arith, x .2), x .3 ∙ sym (other j d))
 
           own : (j : ℕ) → j < portLimit → getD new j 0 < nowhere → Compared j i
-              → (getD new j 0 / cellLimit ≡ j) × (p : ℕ) × (p < o + 1) × (getD numbers p 0 ≡ getD new j 0)
+              → (getD new j 0 / sectionRoom ≡ j) × (p : ℕ) × (p < o + 1) × (getD numbers p 0 ≡ getD new j 0)
           own j l s (below d) = kept j l s (omega arith)
           own j l s (equal d) =
-              (ap (λ m. m / cellLimit) (same j d) ∙ sym d, o, omega arith, sym (same j d))
+              (ap (λ m. m / sectionRoom) (same j d) ∙ sym d, o, omega arith, sym (same j d))
           own j l s (above d) = kept j l s (omega arith)

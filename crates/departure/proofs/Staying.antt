@@ -19,7 +19,7 @@ use Rattle.laws.proofs.Tests.{cond-pass, cond-fail}
 use Rattle.laws.proofs.Lists.{keep-append, keep-pass, keep-fail, keep-nil}
 use Rattle.laws.proofs.Count.{length-keep, count-le-length}
 use Rattle.laws.proofs.Numbers.{length-numbersFrom, numbersFrom-add}
-use Rattle.cell.specs.Limits.{cellLimit}
+use Rattle.cell.specs.Limits.{sectionRoom}
 use Rattle.model.specs.State.{Entry}
 use Rattle.model.specs.Phase.{Waiting}
 use Rattle.model.proofs.Numbering
@@ -109,7 +109,7 @@ module _ (table numbers : List ℕ) (k free : ℕ) where
 pub entryAt-same : (old new : List ℕ) (k : ℕ) → drop (recordStart k) new ≡ drop (recordStart k) old
     → entryAt new k ≡ entryAt old k
 unfolding entryAt
-entryAt-same old new k h = ap (λ bs. entryOf (k / cellLimit) (take entrySize bs)) h
+entryAt-same old new k h = ap (λ bs. entryOf (k / sectionRoom) (take entrySize bs)) h
 
 pub recordAt-same : (old new : List ℕ) (k : ℕ) → drop (recordStart k) new ≡ drop (recordStart k) old
     → recordAt new k ≡ recordAt old k
@@ -194,13 +194,13 @@ module _ (table numbers : List ℕ) (first : ℕ) where
 
 module _ (table numbers : List ℕ) {input from : ℕ} (r : Removable table numbers input from) where
   abbrev first : ℕ
-  first = cellLimit * input
+  first = sectionRoom * input
 
   abbrev count : ℕ
   count = countIn table input
 
-  module _ {k free : ℕ} {now : List ℕ} (c : Closing table numbers (cellLimit * input) k free now)
-      (l : k < cellLimit * input + countIn table input) where
+  module _ {k free : ℕ} {now : List ℕ} (c : Closing table numbers (sectionRoom * input) k free now)
+      (l : k < sectionRoom * input + countIn table input) where
     abbrev kept : List Entry
     kept = staying table numbers first (k - first)
 
@@ -241,7 +241,7 @@ module _ (table numbers : List ℕ) {input from : ℕ} (r : Removable table numb
     stays-same = ap (λ e. stays numbers (record { at = k; cell = e .cell; place = e .place })) closing-entry
 
     pub closing-more : (next : ℕ) (new : List ℕ) → next ≡ freeAfter now numbers k free
-        → new ≡ closedOne now numbers k free → Closing table numbers (cellLimit * input) (k + 1) next new
+        → new ≡ closedOne now numbers k free → Closing table numbers (sectionRoom * input) (k + 1) next new
     unfolding freeAfter closedOne
     closing-more next new e d = go (stays numbers (waitsAt table k)) refl
       where
@@ -305,13 +305,13 @@ module _ (table numbers : List ℕ) {input from : ℕ} (r : Removable table numb
       (closing-more (closed-before n j refl (omega arith) (omega arith)) (omega arith) (j + 1) table
       (free-stay table numbers j j stay) (copied-self j table ∙ closed-stay table numbers j j stay))
 
-  pub closing-from : from < nowhere → Closing table numbers (cellLimit * input) from from table
+  pub closing-from : from < nowhere → Closing table numbers (sectionRoom * input) from from table
   closing-from h =
       closed-before (from - first) from (omega (arith, r .own h)) (omega arith) (omega (arith, r .own h))
 
   pub closing-all : nowhere ≤ from
-      → Closing table numbers (cellLimit * input) (cellLimit * input + countIn table input)
-      (cellLimit * input + countIn table input) table
+      → Closing table numbers (sectionRoom * input) (sectionRoom * input + countIn table input)
+      (sectionRoom * input + countIn table input) table
   closing-all h = closed-before count (first + count) refl (omega (arith, r .count, r .port)) (omega arith)
 
 ------------------------------------------------------------------------
@@ -329,7 +329,7 @@ zeros-join a b c m z n e =
 
 module _ (table numbers : List ℕ) {input from : ℕ} (r : Removable table numbers input from) where
   abbrev start : ℕ
-  start = cellLimit * input
+  start = sectionRoom * input
 
   abbrev entries : ℕ
   entries = countIn table input
@@ -338,17 +338,17 @@ module _ (table numbers : List ℕ) {input from : ℕ} (r : Removable table numb
   left = staying table numbers start entries
 
   module _ {free : ℕ} {mid : List ℕ}
-      (c : Closing table numbers (cellLimit * input) (cellLimit * input + countIn table input) free mid) where
+      (c : Closing table numbers (sectionRoom * input) (sectionRoom * input + countIn table input) free mid) where
     all : start + entries - start ≡ entries
     all = omega arith
 
     free-is : free ≡ start + length left
     free-is = c .next ∙ ap (λ n. start + length (staying table numbers start n)) all
 
-    pub closed-low : cellLimit * input ≤ free
+    pub closed-low : sectionRoom * input ≤ free
     closed-low = omega (arith, free-is)
 
-    pub closed-high : free ≤ cellLimit * input + countIn table input
+    pub closed-high : free ≤ sectionRoom * input + countIn table input
     closed-high = omega (arith, free-is, length-staying table numbers start entries)
 
     closed-cleared : (new : List ℕ) → new ≡ cleared mid free (start + entries - free)
@@ -372,8 +372,8 @@ module _ (table numbers : List ℕ) {input from : ℕ} (r : Removable table numb
         ∙ ap (λ w. put (recordStart start) w (entriesBytes left ++ replicate (entrySize * m) 0) table) whole
 
     -- with zeros up to the next section the bytes are the section's
-    pub removed-section : (new : List ℕ) → new ≡ cleared mid free (cellLimit * input + countIn table input - free)
-        → set new (16 + input) (free - cellLimit * input) ≡ removed table numbers input
+    pub removed-section : (new : List ℕ) → new ≡ cleared mid free (sectionRoom * input + countIn table input - free)
+        → set new (16 + input) (free - sectionRoom * input) ≡ removed table numbers input
     unfolding removed sectionBytes
     removed-section new e =
         let rest : List ℕ = drop (headerSize + sectionSize * (input + 1)) table in

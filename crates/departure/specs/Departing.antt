@@ -14,7 +14,7 @@ use lib.Dec.{eqb, leb}
 use lib.ListN.{length, getD, set, take, drop, replicate}
 use Rattle.laws.specs.Lists.{keep, numbersFrom}
 use Rattle.cell.specs.declared.Cell.{Cell}
-use Rattle.cell.specs.Limits.{portLimit, cellLimit}
+use Rattle.cell.specs.Limits.{portLimit, sectionRoom}
 use Rattle.model.specs.State.{Entry, Switch}
 use Rattle.model.specs.Phase.{Waiting, waiting}
 use Rattle.model.specs.Crossbar.{leaving, without}
@@ -58,9 +58,9 @@ noCell = record { input = 0; output = 0; flow = 0; rank = 0; tag = 0; slot = 0 }
 pub record Firsts (numbers : List ℕ) (end : ℕ) (firsts : List ℕ) : Type 0 where
   pub size : length firsts ≡ portLimit
   pub least : (o : ℕ) → o < end → getD numbers o 0 < nowhere
-      → getD firsts (getD numbers o 0 / cellLimit) 0 ≤ getD numbers o 0
+      → getD firsts (getD numbers o 0 / sectionRoom) 0 ≤ getD numbers o 0
   pub real : (i : ℕ) → i < portLimit → getD firsts i 0 < nowhere
-      → (getD firsts i 0 / cellLimit ≡ i) × (o : ℕ) × (o < end) × (getD numbers o 0 ≡ getD firsts i 0)
+      → (getD firsts i 0 / sectionRoom ≡ i) × (o : ℕ) × (o < end) × (getD numbers o 0 ≡ getD firsts i 0)
 
 -- the entry with a number as it waits
 unfoldable pub waitsAt : List ℕ → ℕ → Waiting
@@ -96,22 +96,22 @@ cleared table first n =
 pub record Removable (table numbers : List ℕ) (input from : ℕ) : Type 0 where
   pub size : length table ≡ tableSize
   pub port : input < portLimit
-  pub count : countIn table input ≤ cellLimit
-  pub own : from < nowhere → (cellLimit * input ≤ from) × (from ≤ cellLimit * input + countIn table input)
-  pub before : (k : ℕ) → cellLimit * input ≤ k → k < cellLimit * input + countIn table input → k < from
+  pub count : countIn table input ≤ sectionRoom
+  pub own : from < nowhere → (sectionRoom * input ≤ from) × (from ≤ sectionRoom * input + countIn table input)
+  pub before : (k : ℕ) → sectionRoom * input ≤ k → k < sectionRoom * input + countIn table input → k < from
       → stays numbers (waitsAt table k) ≡ true
-  pub outputs : (k : ℕ) → cellLimit * input ≤ k → k < cellLimit * input + countIn table input
+  pub outputs : (k : ℕ) → sectionRoom * input ≤ k → k < sectionRoom * input + countIn table input
       → entryAt table k .cell .output < portLimit
-  pub bytes : (k : ℕ) → cellLimit * input ≤ k → k < cellLimit * input + countIn table input
+  pub bytes : (k : ℕ) → sectionRoom * input ≤ k → k < sectionRoom * input + countIn table input
       → recordAt table k ≡ entryBytes (entryAt table k)
-  pub rest : drop (recordStart (cellLimit * input + countIn table input)) table
+  pub rest : drop (recordStart (sectionRoom * input + countIn table input)) table
       ≡ replicate (sectionSize - entrySize * countIn table input) 0
       ++ drop (headerSize + sectionSize * (input + 1)) table
 
 -- the table without the cells of an input that leave
 unfoldable pub removed : List ℕ → List ℕ → ℕ → List ℕ
 removed table numbers input =
-    let es = staying table numbers (cellLimit * input) (countIn table input) in
+    let es = staying table numbers (sectionRoom * input) (countIn table input) in
     set
     (take (headerSize + sectionSize * input) table
     ++ (sectionBytes es ++ drop (headerSize + sectionSize * (input + 1)) table))

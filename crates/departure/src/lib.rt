@@ -1,16 +1,18 @@
 // Scope 3.9, departure: each output sends the cell of highest output priority in its buffer, if it has one. The view of
 // the table has these cells. They go into the answer, and the sections that lose one close up.
 use cell::Cell;
+use layout::CELLS;
+use layout::DEPARTURE_BYTES;
+use layout::PORTS;
 use places::NOWHERE;
-use table::entry::CELLS;
-use table::entry::PORTS;
 ghost use mathlib.Core.Path.{_≡_};
 ghost use mathlib.Core.List.{_++_, map};
 ghost use Prim.Native.Nat.{_+_, _*_, _-_, _<_, _≤_};
 ghost use lib.ListN.{length, take, drop, replicate};
+ghost use Rattle.cell.specs.Limits.{portLimit};
 ghost use Rattle.model.specs.Phase.{waiting};
 ghost use Rattle.model.specs.Crossbar.{leaving, departuresOf};
-ghost use Rattle.layout.specs.Table.{tableSize, stateOf, encode, IsTable};
+ghost use Rattle.layout.specs.Table.{tableSize, stateOf, encode, IsTable, entryLimit, entrySize};
 ghost use Rattle.layout.specs.Records.{recordStart};
 ghost use Rattle.layout.specs.Answer.{departureSize, answerSize, departureBytes, departuresBytes};
 ghost use Rattle.layout.specs.Host.{filled};
@@ -20,16 +22,13 @@ ghost use Rattle.places.specs.Viewed.{BestBuffered};
 ghost use Rattle.departure.specs.Departing.{departed, departureAt, noCell, sevenBytes, Firsts, freeAfter, closedOne};
 ghost use Rattle.departure.specs.Departing.{cleared, Removable, removed};
 
-// The bytes of a departure in the answer.
-const DEPARTURE_BYTES: usize = 28;
-
-// Fills the first 448 bytes of the answer, and takes the cells that leave out of the table. `best` has the best buffered
+// Fills the departures of the answer, and takes the cells that leave out of the table. `best` has the best buffered
 // cell of each output.
 pub fn depart(table: &mut [u8], best: &[u16; PORTS], answer: &mut [u8])
     requires { ⌜ IsTable (now table) × BestBuffered (now table) (placesIn (now table)) (now best) ⌝ }
     requires { ⌜ answerSize ≤ length (now answer) ⌝ }
     ensures { λ _. ⌜ now (table .exit) ≡ encode (departed (stateOf (now (table .entry)))) ⌝ }
-    ensures { λ _. ⌜ now (answer .exit) ≡ filled (departuresBytes 16 (departuresOf (portsIn (now (table .entry))) (leaving (waiting (stateOf (now (table .entry)) .sections))))) (now (answer .entry)) ⌝ }
+    ensures { λ _. ⌜ now (answer .exit) ≡ filled (departuresBytes portLimit (departuresOf (portsIn (now (table .entry))) (leaving (waiting (stateOf (now (table .entry)) .sections))))) (now (answer .entry)) ⌝ }
 {
     send(table, best, answer);
     remove(table, best);
@@ -37,8 +36,8 @@ pub fn depart(table: &mut [u8], best: &[u16; PORTS], answer: &mut [u8])
 
 // The departures of the sixteen outputs.
 fn send(table: &[u8], best: &[u16; PORTS], answer: &mut [u8])
-    requires { ⌜ (length (now table) ≡ tableSize) × (length (now best) ≡ 16) × (departureSize * 16 ≤ length (now answer)) ⌝ }
-    ensures { λ _. ⌜ now (answer .exit) ≡ filled (departuresBytes 16 (map (departureAt (now (table .entry))) (now (best .entry)))) (now (answer .entry)) ⌝ }
+    requires { ⌜ (length (now table) ≡ tableSize) × (length (now best) ≡ portLimit) × (departureSize * portLimit ≤ length (now answer)) ⌝ }
+    ensures { λ _. ⌜ now (answer .exit) ≡ filled (departuresBytes portLimit (map (departureAt (now (table .entry))) (now (best .entry)))) (now (answer .entry)) ⌝ }
 {
     let mut output = 0;
     while output < PORTS {
@@ -101,9 +100,9 @@ fn remove(table: &mut [u8], best: &[u16; PORTS])
     }
 }
 
-// The number of the first cell of each input that leaves; 1,024 where none does.
+// The number of the first cell of each input that leaves; `NOWHERE` where none does.
 fn first_leaving(best: &[u16; PORTS]) -> [u16; PORTS]
-    ensures { λ r. ⌜ Firsts (now (best .entry)) 16 r ⌝ }
+    ensures { λ r. ⌜ Firsts (now (best .entry)) portLimit r ⌝ }
 {
     let mut firsts = [NOWHERE; PORTS];
     let mut output = 0;
@@ -116,7 +115,7 @@ fn first_leaving(best: &[u16; PORTS]) -> [u16; PORTS]
 
 // The cell of one output.
 fn note_leaving(best: &[u16; PORTS], firsts: &mut [u16; PORTS], output: usize)
-    requires { ⌜ (output < 16) × Firsts (now best) output (now firsts) ⌝ }
+    requires { ⌜ (output < portLimit) × Firsts (now best) output (now firsts) ⌝ }
     ensures { λ _. ⌜ Firsts (now (best .entry)) (output + 1) (now (firsts .exit)) ⌝ }
 {
     let number = best[output];
@@ -152,8 +151,8 @@ fn remove_from(table: &mut [u8], best: &[u16; PORTS], input: usize, from: u16)
 
 // One entry: it leaves, or it goes to the free record. Gives the record that is free then.
 fn close_one(table: &mut [u8], best: &[u16; PORTS], k: usize, free: usize) -> usize
-    requires { ⌜ (length (now table) ≡ tableSize) × (k < 1024) × (free ≤ k) ⌝ }
-    requires { ⌜ entryAt (now table) k .cell .output < 16 ⌝ }
+    requires { ⌜ (length (now table) ≡ tableSize) × (k < entryLimit) × (free ≤ k) ⌝ }
+    requires { ⌜ entryAt (now table) k .cell .output < portLimit ⌝ }
     ensures { λ r. ⌜ r ≡ freeAfter (now (table .entry)) (now (best .entry)) k free ⌝ }
     ensures { λ r. ⌜ now (table .exit) ≡ closedOne (now (table .entry)) (now (best .entry)) k free ⌝ }
 {
@@ -166,7 +165,7 @@ fn close_one(table: &mut [u8], best: &[u16; PORTS], k: usize, free: usize) -> us
 
 // Clears the records from one up to another.
 fn clear(table: &mut [u8], from: usize, to: usize)
-    requires { ⌜ (length (now table) ≡ tableSize) × (from ≤ to) × (to ≤ 1024) ⌝ }
+    requires { ⌜ (length (now table) ≡ tableSize) × (from ≤ to) × (to ≤ entryLimit) ⌝ }
     ensures { λ _. ⌜ now (table .exit) ≡ cleared (now (table .entry)) from (to - from) ⌝ }
 {
     let mut k = from;
@@ -177,8 +176,8 @@ fn clear(table: &mut [u8], from: usize, to: usize)
 }
 
 fn clear_one(table: &mut [u8], k: usize)
-    requires { ⌜ (length (now table) ≡ tableSize) × (k < 1024) ⌝ }
-    ensures { λ _. ⌜ now (table .exit) ≡ take (recordStart k) (now (table .entry)) ++ (replicate 16 0 ++ drop (recordStart k + 16) (now (table .entry))) ⌝ }
+    requires { ⌜ (length (now table) ≡ tableSize) × (k < entryLimit) ⌝ }
+    ensures { λ _. ⌜ now (table .exit) ≡ take (recordStart k) (now (table .entry)) ++ (replicate entrySize 0 ++ drop (recordStart k + entrySize) (now (table .entry))) ⌝ }
 {
     let at = table::entry::start_of(k);
     table::word::write_u64(table, at, 0);

@@ -14,7 +14,7 @@ use Rattle.laws.proofs.Lists.{keep-nil, keep-append, keep-comm, keep-keep, keep
 use Rattle.laws.proofs.Lists.{flatten-map-append}
 use Rattle.laws.proofs.Numbers.{mem-numbersFrom, numbersFrom-add}
 use Rattle.sets.specs.Sets.{members}
-use Rattle.cell.specs.Limits.{cellLimit, portLimit}
+use Rattle.cell.specs.Limits.{sectionRoom, portLimit}
 use Rattle.matching.specs.Matching.{matched, proposals}
 use Rattle.matching.proofs.Renaming.{matched-map, proposals-map, Agree, matched-ext, proposals-ext}
 use Rattle.model.specs.State.{isListed}
@@ -128,7 +128,7 @@ module _ {table : List ℕ} (r : Readable table) (places : List ℕ) where
   self-map (e ∷ l) h = ap₂ _∷_ (h e (List·Memᴰ·head refl)) (self-map l (λ f m. h f (List·Memᴰ·tail m)))
 
   module _ (sets : List ℕ)
-      (are : (input : ℕ) → input < portLimit → map (λ j. cellLimit * input + j) (members (getD sets input 0))
+      (are : (input : ℕ) → input < portLimit → map (λ j. sectionRoom * input + j) (members (getD sets input 0))
       ≡ candidatesOf (phase all) input) where
     pub candidates-numbers : map (waitingAt table places) (numbersOf sets) ≡ phase all .candidates
     unfolding numbersOf numbersIn upTo ofInput candidatesOf

@@ -14,7 +14,7 @@ use lib.ListN.{length, getD}
 use Rattle.laws.specs.Lists.{keep}
 use Rattle.laws.proofs.Tests.{either, clash}
 use Rattle.laws.proofs.Lists.{keep-mem, mem-keep-in, mem-keep-passes, getD-any}
-use Rattle.cell.specs.Limits.{cellLimit, portLimit}
+use Rattle.cell.specs.Limits.{sectionRoom, portLimit}
 use Rattle.model.specs.Phase.{Waiting, phase, blocked, crosspoints}
 use Rattle.model.specs.Slackness.{Orderly}
 use Rattle.model.proofs.WaitingOrder.{at-same}
@@ -113,7 +113,7 @@ module _ {table : List ℕ} (r : Readable table) (o : Orderly (waitingIn table))
       go (inl t) = case (either (eqb k (getD scheduled i 0)))
         where
           i : ℕ
-          i = k / cellLimit
+          i = k / sectionRoom
 
           small : k < nowhere
           small = ltb-true _ _ t

@@ -1,10 +1,10 @@
 // Scope 3.2, scheduling: one phase. Its choices are in choosing, its matching in proposing, its moves in moving.
 use choosing::choose;
+use layout::PORTS;
 use moving::move_cells;
 use places::NOWHERE;
 use proposing::Matched;
 use proposing::find_matching;
-use table::entry::PORTS;
 ghost use mathlib.Core.Bool.{false};
 ghost use mathlib.Core.List.{[]};
 ghost use mathlib.Core.Path.{_≡_};

@@ -1,10 +1,12 @@
 // Scope 3, one slot, on the table of a sound state from where its cells have arrived: the two phases and departure.
 use crate::phase::phase;
 use departure::depart;
+use layout::FIRST_PROPOSALS;
+use layout::PORTS;
+use layout::SECOND_PROPOSALS;
 use loading::load;
 use places::NO_KEY;
 use places::NOWHERE;
-use table::entry::PORTS;
 ghost use mathlib.Core.Path.{_≡_};
 ghost use Prim.Native.Nat.{_≤_};
 ghost use mathlib.Core.List.{_++_};
@@ -12,7 +14,7 @@ ghost use lib.ListN.{length, take, drop, replicate};
 ghost use Rattle.cell.specs.Limits.{portLimit};
 ghost use Rattle.places.specs.Choices.{nowhere};
 ghost use Rattle.model.specs.Crossbar.{answerOf};
-ghost use Rattle.layout.specs.Answer.{answerBytes, answerSize};
+ghost use Rattle.layout.specs.Answer.{answerBytes, answerSize, departuresSize};
 ghost use Rattle.layout.specs.Host.{filled};
 ghost use Rattle.layout.specs.Number.{bytesOf};
 ghost use Rattle.layout.specs.Table.{IsTable, encode, stateOf};
@@ -80,8 +82,8 @@ fn schedule(
 // The answer's last eight bytes.
 fn write_proposals(answer: &mut [u8], proposals: Proposals)
     requires { ⌜ answerSize ≤ length (now answer) ⌝ }
-    ensures { λ _. ⌜ now (answer .exit) ≡ take 448 (now (answer .entry)) ++ ((bytesOf 4 (proposals .first) ++ bytesOf 4 (proposals .second)) ++ drop 456 (now (answer .entry))) ⌝ }
+    ensures { λ _. ⌜ now (answer .exit) ≡ take departuresSize (now (answer .entry)) ++ ((bytesOf 4 (proposals .first) ++ bytesOf 4 (proposals .second)) ++ drop answerSize (now (answer .entry))) ⌝ }
 {
-    table::word::write_u32(answer, 448, proposals.first);
-    table::word::write_u32(answer, 452, proposals.second);
+    table::word::write_u32(answer, FIRST_PROPOSALS, proposals.first);
+    table::word::write_u32(answer, SECOND_PROPOSALS, proposals.second);
 }

@@ -19,7 +19,7 @@ use Rattle.laws.proofs.Tests.{either, and-l, and-r}
 use Rattle.laws.proofs.Lists.{all?-map}
 use Rattle.laws.proofs.Numbers.{mem-numbersFrom, numbersFrom-add, numbersFrom-at}
 pub use Rattle.laws.proofs.Numbers.{length-numbersFrom}
-use Rattle.cell.specs.Limits.{cellLimit}
+use Rattle.cell.specs.Limits.{sectionRoom}
 use Rattle.model.specs.State.{Entry}
 use Rattle.model.specs.Sound.{soundSection, soundSections, sound}
 use Rattle.layout.specs.Number.{numberOf, numberAt, word}
@@ -182,13 +182,13 @@ entriesBetween-each p bs from to k h low high =
 -- the entries of a state by their numbers
 
 -- so many entries of an input, from a record of its section on
-entriesOf-from : (bs : List ℕ) (i k n room : ℕ) → firstRecord i ≤ k → k + n ≤ firstRecord i + cellLimit
+entriesOf-from : (bs : List ℕ) (i k n room : ℕ) → firstRecord i ≤ k → k + n ≤ firstRecord i + sectionRoom
     → entrySize * n ≤ room → entriesOf i n (take room (drop (recordStart k) bs)) ≡ map (entryAt bs) (numbersFrom k n)
 unfolding entriesOf numbersFrom entryAt recordAt
 entriesOf-from bs i k zero room low high fits = refl
 entriesOf-from bs i k (suc n) room low high fits =
     let one : entrySize ≤ room = omega arith in
-    let input : i ≡ k / cellLimit = omega arith in
+    let input : i ≡ k / sectionRoom = omega arith in
     let split : room ≡ entrySize + (room - entrySize) = omega arith in
     let next : recordStart k + entrySize ≡ recordStart (k + 1) = omega arith in
     ap₂ _∷_
@@ -209,7 +209,7 @@ abbrev sectionStart : ℕ → ℕ
 sectionStart i = headerSize + sectionSize * i
 
 module _ (bs : List ℕ) where
-  entriesOf-section : (i : ℕ) → countIn bs i ≤ cellLimit
+  entriesOf-section : (i : ℕ) → countIn bs i ≤ sectionRoom
       → entriesOf i (countIn bs i) (take sectionSize (drop (sectionStart i) bs)) ≡ sectionAt bs i
   unfolding sectionAt entriesBetween between
   entriesOf-section i few =
@@ -239,7 +239,7 @@ module _ (bs : List ℕ) where
       (drop-drop sectionSize (sectionStart i) bs ∙ ap (λ m. drop m bs) section))
 
   -- so many sections, none with too many entries
-  sectionsOf-records : (i n : ℕ) → ((j : ℕ) → i ≤ j → j < i + n → countIn bs j ≤ cellLimit)
+  sectionsOf-records : (i n : ℕ) → ((j : ℕ) → i ≤ j → j < i + n → countIn bs j ≤ sectionRoom)
       → sectionsOf i n (drop (16 + i) bs) (drop (sectionStart i) bs) ≡ map (sectionAt bs) (numbersFrom i n)
   unfolding sectionsOf numbersFrom
   sectionsOf-records i zero few = refl
@@ -251,7 +251,7 @@ module _ (bs : List ℕ) where
   -- a sound section has not too many entries
   soundSections-few : (ports clock n i : ℕ)
       → soundSections ports clock i (sectionsOf i n (drop (16 + i) bs) (drop (sectionStart i) bs)) ≡ true
-      → (j : ℕ) → i ≤ j → j < i + n → countIn bs j ≤ cellLimit
+      → (j : ℕ) → i ≤ j → j < i + n → countIn bs j ≤ sectionRoom
   unfolding soundSections
   soundSections-few ports clock zero i sounds j low high = absurd (omega arith)
   soundSections-few ports clock (suc n) i sounds j low high =
@@ -259,31 +259,31 @@ module _ (bs : List ℕ) where
       let others = sectionsOf (i + 1) n (drop (16 + (i + 1)) bs) (drop (sectionStart (i + 1)) bs) in
       let all : (soundSection ports clock i es && soundSections ports clock (i + 1) others) ≡ true =
       ap (soundSections ports clock i) (sym (sectionsOf-cons i n)) ∙ sounds in
-      let here : length es ≤ cellLimit = soundSection-size ports clock i es (and-l _ _ all) in
+      let here : length es ≤ sectionRoom = soundSection-size ports clock i es (and-l _ _ all) in
       go (omega (arith, length-entriesOf i (countIn bs i) (take sectionSize (drop (sectionStart i) bs))))
       (λ after.
       soundSections-few ports clock n (i + 1) (and-r (soundSection ports clock i es) _ all) j after (omega arith))
       (either (eqb i j))
     where
-      go : countIn bs i ≤ cellLimit → (i + 1 ≤ j → countIn bs j ≤ cellLimit) → (eqb i j ≡ true) ⊎ (eqb i j ≡ false)
-          → countIn bs j ≤ cellLimit
-      go here later (inl e) = subst (λ k. countIn bs k ≤ cellLimit) (eqb-true i j e) here
+      go : countIn bs i ≤ sectionRoom → (i + 1 ≤ j → countIn bs j ≤ sectionRoom) → (eqb i j ≡ true) ⊎ (eqb i j ≡ false)
+          → countIn bs j ≤ sectionRoom
+      go here later (inl e) = subst (λ k. countIn bs k ≤ sectionRoom) (eqb-true i j e) here
       go here later (inr e) = later (omega (arith, eqb-false))
 
   -- the sections of the state that the bytes would stand for
-  pub stateOf-sections : ((i : ℕ) → i < word bs 4 → countIn bs i ≤ cellLimit)
+  pub stateOf-sections : ((i : ℕ) → i < word bs 4 → countIn bs i ≤ sectionRoom)
       → stateOf bs .sections ≡ map (sectionAt bs) (upTo (word bs 4))
   unfolding stateOf upTo
   stateOf-sections few = sectionsOf-records 0 (word bs 4) (λ j low high. few j (omega arith))
 
-  pub stateOf-few : sound (stateOf bs) ≡ true → (i : ℕ) → i < word bs 4 → countIn bs i ≤ cellLimit
+  pub stateOf-few : sound (stateOf bs) ≡ true → (i : ℕ) → i < word bs 4 → countIn bs i ≤ sectionRoom
   unfolding stateOf
   stateOf-few good i port =
       soundSections-few (word bs 4) (word bs 8) (word bs 4) 0 (sound-sections (stateOf bs) good) i (omega arith)
       (omega arith)
 
   -- and their entries, one by one
-  pub stateOf-entry : (i j : ℕ) (e : Entry) → ((i : ℕ) → i < word bs 4 → countIn bs i ≤ cellLimit) → i < word bs 4
+  pub stateOf-entry : (i j : ℕ) (e : Entry) → ((i : ℕ) → i < word bs 4 → countIn bs i ≤ sectionRoom) → i < word bs 4
       → j < countIn bs i → getD (getD (stateOf bs .sections) i []) j e ≡ entryAt bs (firstRecord i + j)
   unfolding sectionAt entriesBetween between upTo
   stateOf-entry i j e few port within =

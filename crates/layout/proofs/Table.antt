@@ -13,7 +13,7 @@ use lib.ListN.{length, drop, replicate, length-append, length-replicate}
 use lib.Seq.{take-at, drop-at}
 use Rattle.laws.specs.Lists.{all?}
 use Rattle.laws.proofs.Tests.{and-i, and-l, and-r}
-use Rattle.cell.specs.Limits.{fits32, portsInRange, portLimit, cellLimit}
+use Rattle.cell.specs.Limits.{fits32, portsInRange, portLimit, sectionRoom}
 use Rattle.model.specs.State.{Place, listed, crossed, buffered, Entry, Switch}
 use Rattle.model.specs.Sound.{soundEntry, soundSection, soundSections, sound}
 use Rattle.layout.specs.Number.{bytesOf, numberAt, numberOf, word, sameBytes}
@@ -83,7 +83,7 @@ entriesBytes-bytes (e ∷ es) =
 ------------------------------------------------------------------------
 -- a section
 
-pub length-sectionBytes : (es : List Entry) → length es ≤ cellLimit → length (sectionBytes es) ≡ sectionSize
+pub length-sectionBytes : (es : List Entry) → length es ≤ sectionRoom → length (sectionBytes es) ≡ sectionSize
 unfolding sectionBytes
 length-sectionBytes es h =
     let size : length (entriesBytes es) ≡ entrySize * length es = length-entriesBytes es in
@@ -99,9 +99,9 @@ sectionBytes-bytes es =
 
 -- what a sound section says here: it has at most 64 entries, and each is sound
 module _ (ports clock input : ℕ) (es : List Entry) (h : soundSection ports clock input es ≡ true) where
-  pub soundSection-size : length es ≤ cellLimit
+  pub soundSection-size : length es ≤ sectionRoom
   unfolding soundSection
-  soundSection-size = leb-true (length es) cellLimit (search and-l)
+  soundSection-size = leb-true (length es) sectionRoom (search and-l)
 
   pub soundSection-entries : all? (soundEntry ports clock input) es ≡ true
   unfolding soundSection
@@ -157,7 +157,7 @@ sectionsBytes-bytes (suc n) (es ∷ sections) =
     bytes?-append (sectionBytes es) (sectionsBytes n sections) (sectionBytes-bytes es) (sectionsBytes-bytes n sections)
 
 -- the count of the first section
-count-first : (es : List Entry) (counts bs : List ℕ) → length es ≤ cellLimit
+count-first : (es : List Entry) (counts bs : List ℕ) → length es ≤ sectionRoom
     → numberAt 1 0 (bytesOf 1 (length es) ++ counts ++ bs) ≡ length es
 count-first es counts bs h =
     let small : length es < 256 ^ 1 = omega arith in
@@ -224,7 +224,7 @@ module _ (ports clock : ℕ) (few : ports ≤ portLimit) (early : fits32 clock �
   sectionsOf-sectionsBytes input (suc n) (es ∷ sections) bs h room =
       let here : soundSection ports clock input es ≡ true = search and-l in
       let later : soundSections ports clock (input + 1) sections ≡ true = search and-r in
-      let few : length es ≤ cellLimit = soundSection-size ports clock input es here in
+      let few : length es ≤ sectionRoom = soundSection-size ports clock input es here in
       let less : length sections ≤ n = omega arith in
       ap₂ _∷_
       (ap₂ (entriesOf input)

@@ -1,6 +1,6 @@
 -- The bytes of a slot's answer: for each of sixteen outputs 1 and its departure's six fields, or seven zeros where it
 -- sends none; then the proposals of the first phase and of the second. Every number has 32 bits.
-use Prim.Native.Nat.{ℕ, zero, suc}
+use Prim.Native.Nat.{ℕ, zero, suc, _+_, _*_}
 use mathlib.Core.List.{List, [], _∷_, _++_}
 use mathlib.Core.Option.{Option, none, some}
 use lib.Dec.{eqb}
@@ -14,8 +14,11 @@ use Rattle.layout.specs.Number.{bytesOf, word}
 abbrev pub departureSize : ℕ
 departureSize = 28
 
+abbrev pub departuresSize : ℕ
+departuresSize = portLimit * departureSize
+
 abbrev pub answerSize : ℕ
-answerSize = 456
+answerSize = departuresSize + 8
 
 unfoldable pub departureBytes : Option Cell → List ℕ
 departureBytes none = replicate departureSize 0
@@ -56,7 +59,7 @@ departuresIn (suc n) bs = departureIn (take departureSize bs) ∷ departuresIn n
 
 -- the answer of a switch of so many ports that bytes stand for
 unfoldable pub answerIn : ℕ → List ℕ → Answer
-answerIn ports bs = record { departures = departuresIn ports bs; first = word bs 448; second = word bs 452 }
+answerIn ports bs = record { departures = departuresIn ports bs; first = word bs departuresSize; second = word bs (departuresSize + 4) }
 
 -- the answer that a host reads by the result of its slot call: from the bytes where it is 0; a refused slot's is not
 -- written

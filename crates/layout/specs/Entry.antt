@@ -2,13 +2,13 @@
 use Prim.Native.Nat.{ℕ, _+_, _*_, _/_}
 use mathlib.Core.List.{List}
 use lib.ListN.{take, drop, getD}
-use Rattle.cell.specs.Limits.{cellLimit}
+use Rattle.cell.specs.Limits.{sectionRoom}
 use Rattle.model.specs.State.{Entry}
 use Rattle.layout.specs.Number.{word}
 use Rattle.layout.specs.Table.{entryOf, entrySize, headerSize}
 
 unfoldable pub entryAt : List ℕ → ℕ → Entry
-entryAt bs k = entryOf (k / cellLimit) (take entrySize (drop (headerSize + entrySize * k) bs))
+entryAt bs k = entryOf (k / sectionRoom) (take entrySize (drop (headerSize + entrySize * k) bs))
 
 unfoldable pub portsIn : List ℕ → ℕ
 portsIn bs = word bs 4

@@ -3,7 +3,7 @@ use Prim.Native.Nat.{ℕ, _+_, _*_, _-_}
 use mathlib.Core.List.{List, map}
 use lib.ListN.{take, drop}
 use Rattle.laws.specs.Lists.{numbersFrom}
-use Rattle.cell.specs.Limits.{cellLimit}
+use Rattle.cell.specs.Limits.{sectionRoom}
 use Rattle.model.specs.State.{Entry}
 use Rattle.layout.specs.Number.{numberAt}
 use Rattle.layout.specs.Table.{headerSize, entrySize}
@@ -31,7 +31,7 @@ entriesBetween bs from to = map (entryAt bs) (between from to)
 
 -- the first record of an input, and its section
 abbrev pub firstRecord : ℕ → ℕ
-firstRecord input = cellLimit * input
+firstRecord input = sectionRoom * input
 
 unfoldable pub sectionAt : List ℕ → ℕ → List Entry
 sectionAt bs input = entriesBetween bs (firstRecord input) (firstRecord input + countIn bs input)

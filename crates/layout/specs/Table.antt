@@ -9,7 +9,7 @@ use mathlib.Core.Option.{Option, none, some}
 use lib.Dec.{eqb}
 use lib.ListN.{length, take, drop, replicate}
 use Rattle.cell.specs.declared.Cell.{Cell}
-use Rattle.cell.specs.Limits.{portLimit, cellLimit}
+use Rattle.cell.specs.Limits.{portLimit, sectionRoom}
 use Rattle.model.specs.State.{Place, listed, crossed, buffered, Entry, Switch}
 use Rattle.model.specs.Sound.{sound}
 use Rattle.layout.specs.Number.{bytesOf, numberAt, word, sameBytes}
@@ -23,11 +23,15 @@ headerSize = 32
 abbrev pub entrySize : ℕ
 entrySize = 16
 
+-- how many entries a table has room for
+abbrev pub entryLimit : ℕ
+entryLimit = portLimit * sectionRoom
+
 abbrev pub sectionSize : ℕ
-sectionSize = 1024
+sectionSize = sectionRoom * entrySize
 
 abbrev pub tableSize : ℕ
-tableSize = 16416
+tableSize = headerSize + portLimit * sectionSize
 
 -- 1 in a list, 2 at a crosspoint, 3 in an output buffer
 unfoldable pub placeByte : Place → ℕ

@@ -1,1 +1,39 @@
-// The bytes of the table, of the arrivals, of the answer and of the tally: definitions in specs/ and laws in proofs/.
+// The bytes of the table, of the arrivals, of the answer and of the tally: definitions in specs/ and laws in proofs/. Here
+// are their sizes, for all code that reads or writes them, each made of the others.
+use cell::Switch;
+
+// The ports of the switch, as an index.
+pub const PORTS: usize = Switch::PORTS as usize;
+
+// The room of a section: so many cells of an input. The number of an entry is CELLS times its input and its position.
+pub const CELLS: usize = 64;
+
+// The room of a table. It is also the number of no entry.
+pub const ENTRIES: usize = PORTS * CELLS;
+
+// The bytes of a table: a header, and a record for each entry.
+pub const HEADER_BYTES: usize = 32;
+
+pub const ENTRY_BYTES: usize = 16;
+
+pub const TABLE_BYTES: usize = HEADER_BYTES + ENTRIES * ENTRY_BYTES;
+
+// The bytes of an answer: a departure for each output, then the proposals of both phases, where they stand.
+pub const DEPARTURE_BYTES: usize = 28;
+
+pub const DEPARTURES_BYTES: usize = PORTS * DEPARTURE_BYTES;
+
+pub const FIRST_PROPOSALS: usize = DEPARTURES_BYTES;
+
+pub const SECOND_PROPOSALS: usize = FIRST_PROPOSALS + 4;
+
+pub const ANSWER_BYTES: usize = SECOND_PROPOSALS + 4;
+
+// The bytes of an arrival's record, and how many records are looked at: the inputs of a list rise, so that one more than
+// there are ports has a fault or stands behind one.
+pub const ARRIVAL_BYTES: usize = 20;
+
+pub const HELD: usize = PORTS + 1;
+
+// The bytes of a tally.
+pub const TALLY_BYTES: usize = 32;

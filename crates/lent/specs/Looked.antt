@@ -25,6 +25,10 @@ use Rattle.lent.specs.declared.records.Checked.{Checked}
 unfoldable pub recordsSlot : List ℕ → ℕ → List Arrival → Outcome Course
 recordsSlot table room records = slotOf (decode table) (some records) room tallySize
 
+-- so many records are looked at
+abbrev pub heldLimit : ℕ
+heldLimit = portLimit + 1
+
 -- 2, 10 and 3 are not found
 pub record Open (table : List ℕ) (room : ℕ) : Type 0 where
   pub sound : IsTable table

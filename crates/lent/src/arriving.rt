@@ -5,7 +5,8 @@ use arrival::Fault;
 use arrival::arrive;
 use arrival::raise_clock;
 use cell::Arrival;
-use table::entry::PORTS;
+use layout::HELD;
+use layout::PORTS;
 ghost use mathlib.Core.Path.{_≡_};
 ghost use Prim.Native.Nat.{ℕ, _≤_, _<_};
 ghost use lib.ListN.{take};
@@ -14,7 +15,7 @@ ghost use Rattle.layout.specs.Entry.{clockIn};
 ghost use Rattle.layout.specs.Table.{IsTable};
 ghost use Rattle.arrival.specs.declared.Fault.the-variants.{Clear};
 ghost use Rattle.arrival.specs.Arrival.{Arriving};
-ghost use Rattle.lent.specs.Looked.{Looked};
+ghost use Rattle.lent.specs.Looked.{Looked, heldLimit};
 ghost use Rattle.lent.specs.Taken.{Begun, Entered, SetsIf, Taken};
 
 // Looks at the first of the held records, after what was found before them, and lets their cells arrive. Behind a fault
@@ -26,10 +27,10 @@ pub fn take_held(
     crossed: &mut [u64; PORTS],
     buffered: &mut [u64; PORTS],
     before: Checked,
-    records: [Arrival; 17],
+    records: [Arrival; HELD],
     many: usize,
 ) -> Fault
-    requires { ⌜ (many ≤ 17) × ((room : ℕ) × Looked (now table) room (take many records) 0 before) ⌝ }
+    requires { ⌜ (many ≤ heldLimit) × ((room : ℕ) × Looked (now table) room (take many records) 0 before) ⌝ }
     requires { ⌜ SetsIf (now table) (now listed) (now heads) (now crossed) (now buffered) ⌝ }
     ensures { λ r. ⌜ ((room : ℕ) → Looked (now (table .entry)) room (take many records) 0 before
         → Taken (now (table .entry)) room (take many records) r (now (table .exit))) ⌝ }
@@ -58,10 +59,10 @@ fn arrive_records(
     crossed: &mut [u64; PORTS],
     buffered: &mut [u64; PORTS],
     fault: Fault,
-    records: [Arrival; 17],
+    records: [Arrival; HELD],
     many: usize,
 )
-    requires { ⌜ (many ≤ 17) × (fault ≡ Clear → Arriving (now table) (take many records)) ⌝ }
+    requires { ⌜ (many ≤ heldLimit) × (fault ≡ Clear → Arriving (now table) (take many records)) ⌝ }
     requires { ⌜ SetsIf (now table) (now listed) (now heads) (now crossed) (now buffered) ⌝ }
     ensures { λ _. ⌜ Entered (now (table .entry)) (take many records) fault (now (table .exit)) ⌝ }
     ensures { λ _. ⌜ SetsIf (now (table .exit)) (now (listed .exit)) (now (heads .exit))

@@ -8,6 +8,8 @@ use arrival::Fault;
 use arriving::take_held;
 use cell::Arrival;
 use cell::Tally;
+use layout::HELD;
+use layout::PORTS;
 use loading::fill_sets;
 use records::before_records;
 use records::clock_refusal;
@@ -15,7 +17,6 @@ use records::few;
 use records::none_checked;
 use running::Ended;
 use running::run_taken;
-use table::entry::PORTS;
 use tally::count;
 ghost use mathlib.Core.Path.{_≡_};
 ghost use Prim.Native.Nat.{_≤_, min};
@@ -26,7 +27,7 @@ ghost use Rattle.layout.specs.Host.{tableAfter, answerAfter};
 ghost use Rattle.layout.specs.Table.{IsTable};
 ghost use Rattle.fabric.specs.Slot.{refusalOf};
 ghost use Rattle.lent.specs.Ended.{endedOf};
-ghost use Rattle.lent.specs.Looked.{recordsSlot};
+ghost use Rattle.lent.specs.Looked.{recordsSlot, heldLimit};
 
 // Takes a slot on the lent table with the lent records. The table is then the one after the slot, the first bytes of the
 // answer's buffer are its answer, and the tally counts it. A refusal is the first one of: 2, the table is broken; 10, the
@@ -39,7 +40,7 @@ pub fn slot(table: &mut [u8], records: &[Arrival], answer: &mut [u8], tally: &mu
     ensures { λ _. ⌜ now (tally .exit) ≡ tallyAfter (length (now (records .entry))) (recordsSlot (now (table .entry)) (length (now (answer .entry))) (now (records .entry))) (now (tally .entry)) ⌝ }
 {
     let many: usize = records.len();
-    let held: [Arrival; 17] = hold(records);
+    let held: [Arrival; HELD] = hold(records);
     let ended: Ended = run_held(table, held, few(many), answer);
     count(tally, ended.ran, many as u64, ended.departures);
     ended.fault
@@ -47,8 +48,8 @@ pub fn slot(table: &mut [u8], records: &[Arrival], answer: &mut [u8], tally: &mu
 
 // The first of the lent records, those that are looked at, each copied out of the slice: whoever looks at them needs no
 // reference to a struct.
-fn hold(records: &[Arrival]) -> [Arrival; 17]
-    ensures { λ r. ⌜ take (min (length (now (records .entry))) 17) r ≡ take 17 (now (records .entry)) ⌝ }
+fn hold(records: &[Arrival]) -> [Arrival; HELD]
+    ensures { λ r. ⌜ take (min (length (now (records .entry))) heldLimit) r ≡ take heldLimit (now (records .entry)) ⌝ }
 {
     let none: Arrival = Arrival {
         input: 0,
@@ -57,7 +58,7 @@ fn hold(records: &[Arrival]) -> [Arrival; 17]
         rank: 0,
         tag: 0,
     };
-    let mut held: [Arrival; 17] = [none; 17];
+    let mut held: [Arrival; HELD] = [none; HELD];
     let end: usize = few(records.len());
     let mut n: usize = 0;
     while n < end {
@@ -69,8 +70,8 @@ fn hold(records: &[Arrival]) -> [Arrival; 17]
 }
 
 // The slot with the first of the held records, and what came of it; the tally is not counted in.
-fn run_held(table: &mut [u8], held: [Arrival; 17], number: usize, answer: &mut [u8]) -> Ended
-    requires { ⌜ number ≤ 17 ⌝ }
+fn run_held(table: &mut [u8], held: [Arrival; HELD], number: usize, answer: &mut [u8]) -> Ended
+    requires { ⌜ number ≤ heldLimit ⌝ }
     ensures { λ r. ⌜ r ≡ endedOf (recordsSlot (now (table .entry)) (length (now (answer .entry))) (take number held)) ⌝ }
     ensures { λ _. ⌜ now (table .exit) ≡ tableAfter (now (table .entry)) (recordsSlot (now (table .entry)) (length (now (answer .entry))) (take number held)) ⌝ }
     ensures { λ _. ⌜ now (answer .exit) ≡ answerAfter (now (answer .entry)) (recordsSlot (now (table .entry)) (length (now (answer .entry))) (take number held)) ⌝ }
@@ -118,12 +119,12 @@ pub struct Called {
 // a struct.
 pub fn slot_of(
     table: &mut [u8],
-    records: [Arrival; 17],
+    records: [Arrival; HELD],
     many: usize,
     answer: &mut [u8],
     tally: Tally,
 ) -> Called
-    requires { ⌜ many ≤ 17 ⌝ }
+    requires { ⌜ many ≤ heldLimit ⌝ }
     ensures { λ r. ⌜ r .fault ≡ refusalOf (recordsSlot (now (table .entry)) (length (now (answer .entry))) (take many records)) ⌝ }
     ensures { λ r. ⌜ r .tally ≡ tallyAfter many (recordsSlot (now (table .entry)) (length (now (answer .entry))) (take many records)) tally ⌝ }
     ensures { λ _. ⌜ now (table .exit) ≡ tableAfter (now (table .entry)) (recordsSlot (now (table .entry)) (length (now (answer .entry))) (take many records)) ⌝ }
@@ -138,10 +139,15 @@ pub fn slot_of(
 }
 
 // The same for a caller that keeps a sound table, has room for the answer and counts nothing.
-pub fn sound_slot(table: &mut [u8], records: [Arrival; 17], many: usize, answer: &mut [u8]) -> Fault
+pub fn sound_slot(
+    table: &mut [u8],
+    records: [Arrival; HELD],
+    many: usize,
+    answer: &mut [u8],
+) -> Fault
     requires { ⌜ IsTable (now table) ⌝ }
     requires { ⌜ answerSize ≤ length (now answer) ⌝ }
-    requires { ⌜ many ≤ 17 ⌝ }
+    requires { ⌜ many ≤ heldLimit ⌝ }
     ensures { λ r. ⌜ r ≡ refusalOf (recordsSlot (now (table .entry)) (length (now (answer .entry))) (take many records)) ⌝ }
     ensures { λ _. ⌜ now (table .exit) ≡ tableAfter (now (table .entry)) (recordsSlot (now (table .entry)) (length (now (answer .entry))) (take many records)) ⌝ }
     ensures { λ _. ⌜ now (answer .exit) ≡ answerAfter (now (answer .entry)) (recordsSlot (now (table .entry)) (length (now (answer .entry))) (take many records)) ⌝ }

@@ -4,7 +4,10 @@ use arrival::cell_of;
 use arrival::check_record;
 use cell::Arrival;
 use cell::Refusal;
-use table::entry::PORTS;
+use cell::Switch;
+use layout::ANSWER_BYTES;
+use layout::HELD;
+use layout::PORTS;
 ghost use mathlib.Core.Path.{_≡_};
 ghost use mathlib.Core.List.{List, _∷_};
 ghost use Prim.Native.Nat.{ℕ, _+_, _≤_, min};
@@ -12,14 +15,8 @@ ghost use lib.ListN.{take, drop};
 ghost use Rattle.cell.specs.declared.Arrival.{Arrival};
 ghost use Rattle.layout.specs.Answer.{answerSize};
 ghost use Rattle.layout.specs.Table.{IsTable};
-ghost use Rattle.lent.specs.Looked.{Before, Looked, Standing, Found};
+ghost use Rattle.lent.specs.Looked.{Before, Looked, Standing, Found, heldLimit};
 ghost use Rattle.lent.specs.Taken.{SetsIf};
-
-// The bytes of an answer.
-const ANSWER_BYTES: usize = 456;
-
-// The number of no slot.
-const CLOCK_END: u32 = 4294967295;
 
 // The records looked at so far: what was found, and the lowest input whose turn it is.
 pub struct Checked {
@@ -28,8 +25,13 @@ pub struct Checked {
 }
 
 // Looks at the first of the held records one by one, after what was found before them.
-pub fn check_records(table: &[u8], before: Checked, records: [Arrival; 17], many: usize) -> Checked
-    requires { ⌜ (many ≤ 17) × ((room : ℕ) × Looked (now table) room (take many records) 0 before) ⌝ }
+pub fn check_records(
+    table: &[u8],
+    before: Checked,
+    records: [Arrival; HELD],
+    many: usize,
+) -> Checked
+    requires { ⌜ (many ≤ heldLimit) × ((room : ℕ) × Looked (now table) room (take many records) 0 before) ⌝ }
     ensures { λ r. ⌜ ((room : ℕ) → Looked (now (table .entry)) room (take many records) 0 before
         → Found (now (table .entry)) room (take many records) r) ⌝ }
 {
@@ -46,12 +48,12 @@ pub fn check_records(table: &[u8], before: Checked, records: [Arrival; 17], many
 // How many of so many records are looked at. Inputs rise and are below 16, so that the seventeenth record, if there is
 // one, has a fault or stands behind one.
 pub fn few(count: usize) -> usize
-    ensures { λ r. ⌜ r ≡ min count 17 ⌝ }
+    ensures { λ r. ⌜ r ≡ min count heldLimit ⌝ }
 {
-    if count < 17 {
+    if count < HELD {
         return count;
     }
-    17
+    HELD
 }
 
 // What is found before any record is looked at. The check of the table sorts its cells by place.
@@ -104,7 +106,7 @@ pub fn clock_refusal(table: &[u8]) -> Fault
     requires { ⌜ IsTable (now table) ⌝ }
     ensures { λ r. ⌜ ((room : ℕ) → answerSize ≤ room → Before (now (table .entry)) room r) ⌝ }
 {
-    if table::entry::clock_of(table) == CLOCK_END {
+    if table::entry::clock_of(table) == Switch::CLOCK_END {
         return Fault::At(Refusal::ClockEnd, 0);
     }
     Fault::Clear

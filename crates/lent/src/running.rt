@@ -1,7 +1,8 @@
 // The course of a slot whose records have been taken.
 use arrival::Fault;
 use fabric::slot::run;
-use table::entry::PORTS;
+use layout::DEPARTURE_BYTES;
+use layout::PORTS;
 ghost use mathlib.Core.Path.{_≡_};
 ghost use Prim.Native.Nat.{_≤_};
 ghost use lib.ListN.{length};
@@ -58,8 +59,8 @@ fn departures_in(answer: &[u8]) -> u64
 {
     let mut count: u64 = 0;
     let mut output: usize = 0;
-    while output < 16 {
-        if table::word::read_u32(answer, 28 * output) != 0 {
+    while output < PORTS {
+        if table::word::read_u32(answer, DEPARTURE_BYTES * output) != 0 {
             count += 1;
         }
         output += 1;

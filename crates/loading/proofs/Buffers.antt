@@ -15,7 +15,7 @@ use lib.Dec.{ltb}
 use lib.ListN.{getD, set, replicate, length-set, getD-replicate}
 use lib.Seq.{getD-set-same, getD-set-other}
 use Rattle.sets.specs.Sets.{firstOf, restOf}
-use Rattle.cell.specs.Limits.{cellLimit}
+use Rattle.cell.specs.Limits.{sectionRoom}
 use Rattle.cell.specs.Order.{over, key}
 use Rattle.laws.proofs.Compared.{Compared, below, equal, above, compare}
 use Rattle.model.specs.State.{isBuffered}
@@ -250,7 +250,7 @@ picked-came {A} {B} {first} {n} {x} {y} holds fails (inr (a, e)) = e ∙ sym (ap
 -- those passed are looked at for their outputs
 abbrev pub Choosing : List ℕ → ℕ → List ℕ → List ℕ → ℕ → Type 0
 Choosing table input numbers rivals left =
-    Passing (bufferedSet table (placesIn table) input) (cellLimit * input) left
+    Passing (bufferedSet table (placesIn table) input) (sectionRoom * input) left
     (λ end. BestBelow table (placesIn table) end numbers rivals)
 
 module _ (table : List ℕ) (good : IsTable table) (input : ℕ) (port : input < portsIn table) where
@@ -264,20 +264,20 @@ module _ (table : List ℕ) (good : IsTable table) (input : ℕ) (port : input <
   wider numbers rivals end later l none = best-wider l (λ o k low high b. none k low high (b .entry) (b .place))
 
   pub choosing-start : (numbers rivals : List ℕ)
-      → BestBelow table (placesIn table) (cellLimit * input) numbers rivals
+      → BestBelow table (placesIn table) (sectionRoom * input) numbers rivals
       → Choosing table input numbers rivals (bufferedSet table (placesIn table) input)
   unfolding bufferedSet isAt
   choosing-start numbers rivals c = passing-start table good input port isAt c
 
   module _ (numbers rivals : List ℕ) (left : ℕ) (w : Choosing table input numbers rivals left) where
-    pub choosing-end : left ≡ 0 → BestBelow table (placesIn table) (cellLimit * (input + 1)) numbers rivals
+    pub choosing-end : left ≡ 0 → BestBelow table (placesIn table) (sectionRoom * (input + 1)) numbers rivals
     unfolding bufferedSet isAt
     choosing-end done = passing-end table good input port isAt (wider numbers rivals) w done
 
     module _ (some : 0 < left) where
-      pub choosing-this : Buffered table (placesIn table) (entryAt table (cellLimit * input + firstOf left) .cell .output)
-          (cellLimit * input + firstOf left)
-          × BestBelow table (placesIn table) (cellLimit * input + firstOf left) numbers rivals
+      pub choosing-this : Buffered table (placesIn table) (entryAt table (sectionRoom * input + firstOf left) .cell .output)
+          (sectionRoom * input + firstOf left)
+          × BestBelow table (placesIn table) (sectionRoom * input + firstOf left) numbers rivals
       unfolding bufferedSet isAt
       choosing-this =
           let this = passing-this table good input port isAt (wider numbers rivals) w some in (
@@ -286,7 +286,7 @@ module _ (table : List ℕ) (good : IsTable table) (input : ℕ) (port : input <
           )
 
       pub choosing-next : (numbers′ rivals′ : List ℕ)
-          → BestBelow table (placesIn table) (cellLimit * input + firstOf left + 1) numbers′ rivals′
+          → BestBelow table (placesIn table) (sectionRoom * input + firstOf left + 1) numbers′ rivals′
           → Choosing table input numbers′ rivals′ (restOf left)
       unfolding bufferedSet isAt
       choosing-next numbers′ rivals′ c = passing-next table good input port isAt (wider numbers rivals) w some c

@@ -12,7 +12,7 @@ use borrow.Author.Tests.{lt-ltb, le-ltb}
 use lib.ListN.{getD, replicate}
 use Rattle.laws.proofs.Pairwise.{pairwise-e}
 use Rattle.sets.specs.Sets.{firstOf, restOf}
-use Rattle.cell.specs.Limits.{cellLimit}
+use Rattle.cell.specs.Limits.{sectionRoom}
 use Rattle.cell.specs.Order.{key}
 use Rattle.laws.proofs.Compared.{Compared, below, equal, above, compare}
 use Rattle.model.specs.State.{isCrossed}
@@ -66,7 +66,7 @@ crossed-wider {table} {places} {end} {later} {cross} {keys} none c =
     record { square = c .square; keyed = c .keyed; filled = λ k l h. go k l h (compare k end); real = c .real }
   where
     go : (k : ℕ) → k < later → Crossed table places k → Compared k end
-        → crosspointAt cross (k / cellLimit) (entryAt table k .cell .output) ≡ k
+        → crosspointAt cross (k / sectionRoom) (entryAt table k .cell .output) ≡ k
     go k l h (below d) = c .filled k d h
     go k l h (equal d) = absurd (none k (omega arith) l h)
     go k l h (above d) = absurd (none k (omega arith) l h)
@@ -74,7 +74,7 @@ crossed-wider {table} {places} {end} {later} {cross} {keys} none c =
 module _ (table : List ℕ) (good : IsTable table) where
   -- no crosspoint has two cells
   crossed-once : (k j : ℕ) → Crossed table (placesIn table) k → Crossed table (placesIn table) j
-      → k / cellLimit ≡ j / cellLimit → entryAt table k .cell .output ≡ entryAt table j .cell .output → k ≡ j
+      → k / sectionRoom ≡ j / sectionRoom → entryAt table k .cell .output ≡ entryAt table j .cell .output → k ≡ j
   unfolding waitingAt
   crossed-once k j h g input output =
       go (pairwise-e apart (waitingIn table) (waitingIn-single table good) (inTable-i table (placesIn table) readable k (h .entry)) (inTable-i table (placesIn table) readable j (g .entry)))
@@ -97,7 +97,7 @@ module _ (table : List ℕ) (good : IsTable table) where
       (named : number ≡ key (entryAt table k .cell)) (cross keys : List (List ℕ))
       (c : CrossedBelow table (placesIn table) k cross keys) where
     input : ℕ
-    input = k / cellLimit
+    input = k / sectionRoom
 
     small : k < 1024
     small = inTable-below (table-readable table good) (h .entry)
@@ -132,8 +132,8 @@ module _ (table : List ℕ) (good : IsTable table) where
     new-keys : List (List ℕ)
     new-keys = put keys output input number
 
-    pub crossed-put : CrossedBelow table (placesIn table) (k + 1) (put cross (k / cellLimit) output k)
-        (put keys output (k / cellLimit) number)
+    pub crossed-put : CrossedBelow table (placesIn table) (k + 1) (put cross (k / sectionRoom) output k)
+        (put keys output (k / sectionRoom) number)
     unfolding input new new-keys crosspointAt
     crossed-put =
         record {
@@ -161,20 +161,20 @@ module _ (table : List ℕ) (good : IsTable table) where
             ∙ ap (keyAt table) (sym (put-other cross (c .square) input output k port i o d))
 
         filled : (j : ℕ) → j < k + 1 → Crossed table (placesIn table) j → Compared j k
-            → crosspointAt new (j / cellLimit) (entryAt table j .cell .output) ≡ j
+            → crosspointAt new (j / sectionRoom) (entryAt table j .cell .output) ≡ j
         filled j l g (below d) =
-            put-other cross (c .square) input output k port (j / cellLimit) (entryAt table j .cell .output)
+            put-other cross (c .square) input output k port (j / sectionRoom) (entryAt table j .cell .output)
             (λ p q. omega (arith, crossed-once j k g h p (q ∙ own)))
             ∙ c .filled j d g
         filled j l g (equal d) =
-            ap₂ (crosspointAt new) (ap (λ n. n / cellLimit) d) (ap (λ n. entryAt table n .cell .output) d ∙ sym own)
+            ap₂ (crosspointAt new) (ap (λ n. n / sectionRoom) d) (ap (λ n. entryAt table n .cell .output) d ∙ sym own)
             ∙ put-same cross (c .square) input output k port column
             ∙ sym d
         filled j l g (above d) = absurd (omega arith)
 
         Real : ℕ → ℕ → ℕ → Type 0
         Real i o n =
-            Crossed table (placesIn table) n × (n / cellLimit ≡ i) × (entryAt table n .cell .output ≡ o)
+            Crossed table (placesIn table) n × (n / sectionRoom ≡ i) × (entryAt table n .cell .output ≡ o)
 
         real : (i o : ℕ) → i < 16 → o < 16 → At i o → crosspointAt new i o < 1024 → Real i o (crosspointAt new i o)
         real i o li lo (here p q) l =
@@ -191,7 +191,7 @@ module _ (table : List ℕ) (good : IsTable table) where
 -- those passed are at their crosspoints
 abbrev pub Crossing : List ℕ → ℕ → List (List ℕ) → List (List ℕ) → ℕ → Type 0
 Crossing table input cross keys left =
-    Passing (crossedSet table (placesIn table) input) (cellLimit * input) left
+    Passing (crossedSet table (placesIn table) input) (sectionRoom * input) left
     (λ end. CrossedBelow table (placesIn table) end cross keys)
 
 module _ (table : List ℕ) (good : IsTable table) (input : ℕ) (port : input < portsIn table) where
@@ -205,19 +205,19 @@ module _ (table : List ℕ) (good : IsTable table) (input : ℕ) (port : input <
   wider cross keys end later l none = crossed-wider (λ k low high c. none k low high (c .entry) (c .place))
 
   pub crossing-start : (cross keys : List (List ℕ))
-      → CrossedBelow table (placesIn table) (cellLimit * input) cross keys
+      → CrossedBelow table (placesIn table) (sectionRoom * input) cross keys
       → Crossing table input cross keys (crossedSet table (placesIn table) input)
   unfolding crossedSet isAt
   crossing-start cross keys c = passing-start table good input port isAt c
 
   module _ (cross keys : List (List ℕ)) (left : ℕ) (w : Crossing table input cross keys left) where
-    pub crossing-end : left ≡ 0 → CrossedBelow table (placesIn table) (cellLimit * (input + 1)) cross keys
+    pub crossing-end : left ≡ 0 → CrossedBelow table (placesIn table) (sectionRoom * (input + 1)) cross keys
     unfolding crossedSet isAt
     crossing-end done = passing-end table good input port isAt (wider cross keys) w done
 
     module _ (some : 0 < left) where
-      pub crossing-this : Crossed table (placesIn table) (cellLimit * input + firstOf left)
-          × CrossedBelow table (placesIn table) (cellLimit * input + firstOf left) cross keys
+      pub crossing-this : Crossed table (placesIn table) (sectionRoom * input + firstOf left)
+          × CrossedBelow table (placesIn table) (sectionRoom * input + firstOf left) cross keys
       unfolding crossedSet isAt
       crossing-this =
           let this = passing-this table good input port isAt (wider cross keys) w some in (
@@ -226,7 +226,7 @@ module _ (table : List ℕ) (good : IsTable table) (input : ℕ) (port : input <
           )
 
       pub crossing-next : (cross′ keys′ : List (List ℕ))
-          → CrossedBelow table (placesIn table) (cellLimit * input + firstOf left + 1) cross′ keys′
+          → CrossedBelow table (placesIn table) (sectionRoom * input + firstOf left + 1) cross′ keys′
           → Crossing table input cross′ keys′ (restOf left)
       unfolding crossedSet isAt
       crossing-next cross′ keys′ c = passing-next table good input port isAt (wider cross keys) w some c

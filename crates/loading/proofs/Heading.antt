@@ -13,7 +13,7 @@ use Rattle.sets.specs.Sets.{positions, has, withOne, firstOf, restOf}
 use Rattle.sets.proofs.Digits.{has-past, same-members}
 use Rattle.sets.proofs.Members.{has-setFrom, has-withOne, setOf-lt}
 use Rattle.cell.specs.Flow.{sameFlow}
-use Rattle.cell.specs.Limits.{cellLimit}
+use Rattle.cell.specs.Limits.{sectionRoom}
 use Rattle.cell.proofs.Flow.{flow-i, flow-e}
 use Rattle.laws.proofs.Compared.{Compared, below, equal, above, compare}
 use Rattle.model.specs.State.{isListed}
@@ -37,8 +37,8 @@ noFlow = 65535
 -- the listed cell right before the bound: none, or one whose flow word is `last`
 pub data Before (table : List ℕ) (input bound last : ℕ) : Type 0 where
   none : bound ≡ 0 → last ≡ noFlow → Before table input bound last
-  one : (b : ℕ) → bound ≡ b + 1 → Listed table (placesIn table) (cellLimit * input + b)
-      → last ≡ flowWord (entryAt table (cellLimit * input + b) .cell) → Before table input bound last
+  one : (b : ℕ) → bound ≡ b + 1 → Listed table (placesIn table) (sectionRoom * input + b)
+      → last ≡ flowWord (entryAt table (sectionRoom * input + b) .cell) → Before table input bound last
 
 -- the heads below the bound are found
 pub record Heading (table : List ℕ) (input heads last left : ℕ) : Type 0 where
@@ -86,12 +86,12 @@ module _ (table : List ℕ) (good : IsTable table) (input : ℕ) (port : input <
 
     -- a head is an entry of the list
     head-in : (j : ℕ) → has (headSet table (placesIn table) input) j ≡ true
-        → InTable table (cellLimit * input + j) × (isListed (placeOf (getD (placesIn table) (cellLimit * input + j) 0)) ≡ true)
+        → InTable table (sectionRoom * input + j) × (isListed (placeOf (getD (placesIn table) (sectionRoom * input + j) 0)) ≡ true)
     unfolding headSet head
     head-in j t =
         let m = section-member table good input port head j t in (
           m .0,
-          by-pass _ (λ f. clash (m .1) (head-unlisted table (placesIn table) readable (cellLimit * input + j) f)),
+          by-pass _ (λ f. clash (m .1) (head-unlisted table (placesIn table) readable (sectionRoom * input + j) f)),
         )
 
     pub heading-end : left ≡ 0 → heads ≡ headSet table (placesIn table) input
@@ -107,7 +107,7 @@ module _ (table : List ℕ) (good : IsTable table) (input : ℕ) (port : input <
             let no : has (headSet table (placesIn table) input) j ≡ false =
             by-fail _ (λ t.
             let m = head-in j t in
-            section-end table good input port isIn (w .walk) done (cellLimit * input + j) (omega arith) (omega arith)
+            section-end table good input port isIn (w .walk) done (sectionRoom * input + j) (omega arith) (omega arith)
             (m .0) (m .1)) in
             and-false-r (ltb j (w .bound)) _ no ∙ sym no
 
@@ -123,13 +123,13 @@ module _ (table : List ℕ) (good : IsTable table) (input : ℕ) (port : input <
       j = firstOf left
 
       k : ℕ
-      k = cellLimit * input + firstOf left
+      k = sectionRoom * input + firstOf left
 
       position : j < 64
       unfolding j
       position = walk-position (w .walk) some
 
-      own : k / cellLimit ≡ input
+      own : k / sectionRoom ≡ input
       unfolding j k
       own = omega (arith, position)
 
@@ -140,19 +140,19 @@ module _ (table : List ℕ) (good : IsTable table) (input : ℕ) (port : input <
           record { entry = m .0; place = m .1 }
 
       -- the listed cells before it are passed
-      passed : (a : ℕ) → Listed table (placesIn table) a → a < k → a < cellLimit * input + w .bound
+      passed : (a : ℕ) → Listed table (placesIn table) a → a < k → a < sectionRoom * input + w .bound
       unfolding listedSet isIn k
-      passed a l before = go (compare a (cellLimit * input + w .bound))
+      passed a l before = go (compare a (sectionRoom * input + w .bound))
         where
-          late : cellLimit * input + w .bound ≤ a → ⊥
+          late : sectionRoom * input + w .bound ≤ a → ⊥
           late low = section-none table good input port isIn (w .walk) some a low before (l .entry) (l .place)
 
-          go : Compared a (cellLimit * input + w .bound) → a < cellLimit * input + w .bound
+          go : Compared a (sectionRoom * input + w .bound) → a < sectionRoom * input + w .bound
           go (below d) = d
           go (equal d) = absurd (late (omega arith))
           go (above d) = absurd (late (omega arith))
 
-      module _ (flow : ℕ) (is : flow ≡ flowWord (entryAt table (cellLimit * input + firstOf left) .cell)) where
+      module _ (flow : ℕ) (is : flow ≡ flowWord (entryAt table (sectionRoom * input + firstOf left) .cell)) where
         small : flow < noFlow
         unfolding k
         small =
@@ -178,15 +178,15 @@ module _ (table : List ℕ) (good : IsTable table) (input : ℕ) (port : input <
             go (one b next listed word) = by-flow (either (eqb flow last))
               where
                 x : ℕ
-                x = cellLimit * input + b
+                x = sectionRoom * input + b
 
                 before : x < k
                 before = omega (arith, walk-member (w .walk) some .1, next)
 
-                alike : x / cellLimit ≡ k / cellLimit
+                alike : x / sectionRoom ≡ k / sectionRoom
                 alike = omega (arith, own, before, position)
 
-                last-one : (a : ℕ) → Listed table (placesIn table) a → a / cellLimit ≡ k / cellLimit → a < k → a ≤ x
+                last-one : (a : ℕ) → Listed table (placesIn table) a → a / sectionRoom ≡ k / sectionRoom → a < k → a ≤ x
                 last-one a l _ h = omega (arith, passed a l h, next)
 
                 same-words : flow ≡ last → sameFlow (entryAt table x .cell) (entryAt table k .cell) ≡ true
@@ -270,7 +270,7 @@ module _ (table : List ℕ) (good : IsTable table) (input : ℕ) (port : input <
                     let no : H i ≡ false =
                     by-fail _ (λ t.
                     let m = head-in i t in
-                    let early = passed (cellLimit * input + i) (record { entry = m .0; place = m .1 }) (omega arith) in
+                    let early = passed (sectionRoom * input + i) (record { entry = m .0; place = m .1 }) (omega arith) in
                     omega arith) in
                     and-false-r (ltb i (w .bound)) (H i) no ∙ sym no
 
@@ -283,9 +283,9 @@ module _ (table : List ℕ) (good : IsTable table) (input : ℕ) (port : input <
             in-set : head k ≡ H (firstOf left)
             in-set =
                 let small : firstOf left < countIn table input =
-                omega (arith, mathlib.Core.Path.subst (λ i. k < cellLimit * i + countIn table i) own (here .entry .position)) in
+                omega (arith, mathlib.Core.Path.subst (λ i. k < sectionRoom * i + countIn table i) own (here .entry .position)) in
                 sym
-                (has-setFrom head (cellLimit * input) (countIn table input) (firstOf left)
+                (has-setFrom head (sectionRoom * input) (countIn table input) (firstOf left)
                 ∙ ap (λ b. b && head k) (lt-ltb (firstOf left) (countIn table input) small))
 
             found : (i : ℕ) → i < positions → Compared i (firstOf left)

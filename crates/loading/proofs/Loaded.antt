@@ -9,7 +9,7 @@ use mathlib.Core.List.{List, [], List·Memᴰ}
 use lib.ListN.{length, getD, set, replicate, length-set, getD-replicate, List·getD-eq-default}
 use lib.Seq.{getD-set-same, getD-set-other}
 use Rattle.sets.specs.Sets.{setFrom}
-use Rattle.cell.specs.Limits.{cellLimit}
+use Rattle.cell.specs.Limits.{sectionRoom}
 use Rattle.laws.proofs.Compared.{Compared, below, equal, above, compare}
 use Rattle.model.specs.State.{Switch, isCrossed}
 use Rattle.model.specs.Phase.{Waiting}
@@ -101,17 +101,17 @@ module _ (table : List ℕ) (good : IsTable table) where
       decode-count table s good input h ∙ ap length (List·getD-eq-default (s .sections) [] past)
 
   no-set : (p : ℕ → Bool) (input : ℕ) → portsIn table ≤ input → input < 16
-      → setFrom p (cellLimit * input) (countIn table input) ≡ 0
+      → setFrom p (sectionRoom * input) (countIn table input) ≡ 0
   unfolding setFrom
-  no-set p input l h = ap (setFrom p (cellLimit * input)) (no-entries input l h)
+  no-set p input l h = ap (setFrom p (sectionRoom * input)) (no-entries input l h)
 
   -- an array of sets
   all-filled : (p : ℕ → Bool) {l : List ℕ}
-      → FilledBelow (λ input. setFrom p (cellLimit * input) (countIn table input)) (portsIn table) l
-      → (input : ℕ) → input < 16 → getD l input 0 ≡ setFrom p (cellLimit * input) (countIn table input)
+      → FilledBelow (λ input. setFrom p (sectionRoom * input) (countIn table input)) (portsIn table) l
+      → (input : ℕ) → input < 16 → getD l input 0 ≡ setFrom p (sectionRoom * input) (countIn table input)
   all-filled p {l} w i h = go (compare i (portsIn table))
     where
-      go : Compared i (portsIn table) → getD l i 0 ≡ setFrom p (cellLimit * i) (countIn table i)
+      go : Compared i (portsIn table) → getD l i 0 ≡ setFrom p (sectionRoom * i) (countIn table i)
       go (below d) = w .at i d
       go (equal d) = w .rest i (omega arith) h ∙ sym (no-set p i (omega arith) h)
       go (above d) = w .rest i (omega arith) h ∙ sym (no-set p i (omega arith) h)

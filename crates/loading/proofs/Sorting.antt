@@ -10,7 +10,7 @@ use lib.ListN.{getD}
 use lib.Pow.{pow-mono}
 use Rattle.sets.specs.Sets.{setFrom, pushed, minus, both}
 use Rattle.sets.proofs.Members.{setFrom-lt, setFrom-ext}
-use Rattle.cell.specs.Limits.{cellLimit}
+use Rattle.cell.specs.Limits.{sectionRoom}
 use Rattle.model.specs.State.{Place, isListed, isCrossed, isBuffered}
 use Rattle.layout.specs.Entry.{entryAt, portsIn, countIn}
 use Rattle.layout.specs.Records.{placeByteAt}
@@ -45,7 +45,7 @@ module _ (table : List ℕ) (first end : ℕ) where
       }
 
   module _ (low high k : ℕ) (w : Sorting table first end low high k) (more : first < k) where
-    pub sorting-room : end ≤ first + cellLimit → (low < 2 ^ 63) × (high < 2 ^ 63)
+    pub sorting-room : end ≤ first + sectionRoom → (low < 2 ^ 63) × (high < 2 ^ 63)
     sorting-room few =
         let few-left : end - k ≤ 63 = omega arith in
         let most : 2 ^ (end - k) ≤ 2 ^ 63 = pow-mono few-left in (
@@ -69,37 +69,37 @@ module _ (table : List ℕ) (first end : ℕ) where
         }
 
 module _ (table : List ℕ) (good : IsTable table) (input : ℕ) (port : input < portsIn table) where
-  pub section-few : countIn table input ≤ cellLimit
+  pub section-few : countIn table input ≤ sectionRoom
   section-few = table-readable table good .counts input (omega (arith, table-readable table good .ports))
 
-  inside : (j : ℕ) → j < countIn table input → InTable table (cellLimit * input + j)
+  inside : (j : ℕ) → j < countIn table input → InTable table (sectionRoom * input + j)
   inside j h =
-      inTable-number table (stateOf table) good input (cellLimit * input + j) port (omega arith) (omega arith)
+      inTable-number table (stateOf table) good input (sectionRoom * input + j) port (omega arith) (omega arith)
 
   -- a test of the places, by the column or by the entries
   by-column : (test : Place → Bool)
-      → setFrom (λ k. test (entryAt table k .place)) (cellLimit * input) (countIn table input)
-      ≡ setFrom (λ k. test (placeOf (getD (placesIn table) k 0))) (cellLimit * input) (countIn table input)
+      → setFrom (λ k. test (entryAt table k .place)) (sectionRoom * input) (countIn table input)
+      ≡ setFrom (λ k. test (placeOf (getD (placesIn table) k 0))) (sectionRoom * input) (countIn table input)
   by-column test =
       setFrom-ext (λ k. test (entryAt table k .place)) (λ k. test (placeOf (getD (placesIn table) k 0)))
-      (cellLimit * input) (countIn table input)
+      (sectionRoom * input) (countIn table input)
       (λ j h.
       ap test
-      (entryAt-place table (cellLimit * input + j)
-      ∙ ap placeOf (sym (own-place table good (cellLimit * input + j) (inside j h)))))
+      (entryAt-place table (sectionRoom * input + j)
+      ∙ ap placeOf (sym (own-place table good (sectionRoom * input + j) (inside j h)))))
 
   places : (j : ℕ) → j < countIn table input
-      → (1 ≤ placeByteAt table (cellLimit * input + j)) × (placeByteAt table (cellLimit * input + j) ≤ 3)
+      → (1 ≤ placeByteAt table (sectionRoom * input + j)) × (placeByteAt table (sectionRoom * input + j) ≤ 3)
   places j h =
-      rw (own-place table good (cellLimit * input + j) (inside j h)) at
-      (own-in-place table good (cellLimit * input + j) (inside j h))
+      rw (own-place table good (sectionRoom * input + j) (inside j h)) at
+      (own-in-place table good (sectionRoom * input + j) (inside j h))
 
-  pub sorting-end : (end low high k : ℕ) → end ≡ cellLimit * input + countIn table input
-      → Sorting table (cellLimit * input) end low high k → k ≤ cellLimit * input
+  pub sorting-end : (end low high k : ℕ) → end ≡ sectionRoom * input + countIn table input
+      → Sorting table (sectionRoom * input) end low high k → k ≤ sectionRoom * input
       → Sorted table (placesIn table) input (minus low high) (minus high low) (both low high)
   unfolding listedSet crossedSet bufferedSet
   sorting-end end low high k last w done =
-      let first : ℕ = cellLimit * input in
+      let first : ℕ = sectionRoom * input in
       let n : ℕ = countIn table input in
       let at : k ≡ first = omega (arith, w .start) in
       let size : end - k ≡ n = omega arith in

@@ -15,7 +15,7 @@ use Rattle.sets.specs.Sets.{positions, has, setFrom, firstOf, restOf}
 use Rattle.sets.proofs.Digits.{has-past}
 use Rattle.sets.proofs.Members.{has-setFrom, has-withoutOne, first-position, first-member, first-before, rest-less}
 use Rattle.sets.proofs.Members.{setFrom-fits}
-use Rattle.cell.specs.Limits.{cellLimit}
+use Rattle.cell.specs.Limits.{sectionRoom}
 use Rattle.laws.proofs.Compared.{Compared, below, equal, above, compare}
 use Rattle.layout.specs.Entry.{portsIn, countIn}
 use Rattle.layout.specs.Table.{stateOf, IsTable}
@@ -89,46 +89,46 @@ walk-end {set} {bound} {left} w none j l t =
 -- by the numbers of the entries
 
 module _ (table : List ℕ) (good : IsTable table) (input : ℕ) (port : input < portsIn table) (p : ℕ → Bool) where
-  few : countIn table input ≤ cellLimit
+  few : countIn table input ≤ sectionRoom
   few = table-readable table good .counts input (omega (arith, table-readable table good .ports))
 
-  pub section-fits : setFrom p (cellLimit * input) (countIn table input) < 2 ^ positions
-  section-fits = setFrom-fits p (cellLimit * input) (countIn table input) few
+  pub section-fits : setFrom p (sectionRoom * input) (countIn table input) < 2 ^ positions
+  section-fits = setFrom-fits p (sectionRoom * input) (countIn table input) few
 
   -- a member is the position of an entry that passes
-  pub section-member : (j : ℕ) → has (setFrom p (cellLimit * input) (countIn table input)) j ≡ true
-      → InTable table (cellLimit * input + j) × (p (cellLimit * input + j) ≡ true)
+  pub section-member : (j : ℕ) → has (setFrom p (sectionRoom * input) (countIn table input)) j ≡ true
+      → InTable table (sectionRoom * input + j) × (p (sectionRoom * input + j) ≡ true)
   section-member j t =
-      let both = sym (has-setFrom p (cellLimit * input) (countIn table input) j) ∙ t in
-      let small = ltb-true j (countIn table input) (and-l _ (p (cellLimit * input + j)) both) in (
-        inTable-number table (stateOf table) good input (cellLimit * input + j) port (omega arith) (omega arith),
-        and-r (ltb j (countIn table input)) (p (cellLimit * input + j)) both,
+      let both = sym (has-setFrom p (sectionRoom * input) (countIn table input) j) ∙ t in
+      let small = ltb-true j (countIn table input) (and-l _ (p (sectionRoom * input + j)) both) in (
+        inTable-number table (stateOf table) good input (sectionRoom * input + j) port (omega arith) (omega arith),
+        and-r (ltb j (countIn table input)) (p (sectionRoom * input + j)) both,
       )
 
   -- and the position of such an entry is a member
-  section-has : (k : ℕ) → InTable table k → p k ≡ true → k / cellLimit ≡ input
-      → has (setFrom p (cellLimit * input) (countIn table input)) (k - cellLimit * input) ≡ true
+  section-has : (k : ℕ) → InTable table k → p k ≡ true → k / sectionRoom ≡ input
+      → has (setFrom p (sectionRoom * input) (countIn table input)) (k - sectionRoom * input) ≡ true
   section-has k t pass own =
-      let at : cellLimit * input + (k - cellLimit * input) ≡ k = omega arith in
-      let end : k < cellLimit * input + countIn table input =
-      subst (λ i. k < cellLimit * i + countIn table i) own (t .position) in
-      has-setFrom p (cellLimit * input) (countIn table input) (k - cellLimit * input)
-      ∙ and-i (ltb (k - cellLimit * input) (countIn table input)) _
-      (lt-ltb (k - cellLimit * input) (countIn table input) (omega arith)) (ap p at ∙ pass)
+      let at : sectionRoom * input + (k - sectionRoom * input) ≡ k = omega arith in
+      let end : k < sectionRoom * input + countIn table input =
+      subst (λ i. k < sectionRoom * i + countIn table i) own (t .position) in
+      has-setFrom p (sectionRoom * input) (countIn table input) (k - sectionRoom * input)
+      ∙ and-i (ltb (k - sectionRoom * input) (countIn table input)) _
+      (lt-ltb (k - sectionRoom * input) (countIn table input) (omega arith)) (ap p at ∙ pass)
 
-  module _ {bound left : ℕ} (w : Walk (setFrom p (cellLimit * input) (countIn table input)) bound left) where
+  module _ {bound left : ℕ} (w : Walk (setFrom p (sectionRoom * input) (countIn table input)) bound left) where
     -- no entry that passes comes between those passed and the next
-    pub section-none : 0 < left → (k : ℕ) → cellLimit * input + bound ≤ k → k < cellLimit * input + firstOf left
+    pub section-none : 0 < left → (k : ℕ) → sectionRoom * input + bound ≤ k → k < sectionRoom * input + firstOf left
         → InTable table k → p k ≡ true → ⊥
     section-none some k low high t pass =
         let small : firstOf left < 64 = walk-position w some in
-        walk-none w some (k - cellLimit * input) (omega arith) (omega arith)
+        walk-none w some (k - sectionRoom * input) (omega arith) (omega arith)
         (section-has k t pass (omega arith))
 
-    pub section-end : left ≡ 0 → (k : ℕ) → cellLimit * input + bound ≤ k → k < cellLimit * (input + 1)
+    pub section-end : left ≡ 0 → (k : ℕ) → sectionRoom * input + bound ≤ k → k < sectionRoom * (input + 1)
         → InTable table k → p k ≡ true → ⊥
     section-end none k low high t pass =
-        walk-end w none (k - cellLimit * input) (omega arith) (section-has k t pass (omega arith))
+        walk-end w none (k - sectionRoom * input) (omega arith) (section-has k t pass (omega arith))
 
 ------------------------------------------------------------------------
 -- what holds of the entries below a number, as the loop goes on
@@ -139,21 +139,21 @@ pub record Passing (set first left : ℕ) (Below : ℕ → Type 0) : Type 0 wher
   pub below : Below (first + bound)
 
 module _ (table : List ℕ) (good : IsTable table) (input : ℕ) (port : input < portsIn table) (p : ℕ → Bool) where
-  pub passing-start : {Below : ℕ → Type 0} → Below (cellLimit * input)
-      → Passing (setFrom p (cellLimit * input) (countIn table input)) (cellLimit * input)
-      (setFrom p (cellLimit * input) (countIn table input)) Below
+  pub passing-start : {Below : ℕ → Type 0} → Below (sectionRoom * input)
+      → Passing (setFrom p (sectionRoom * input) (countIn table input)) (sectionRoom * input)
+      (setFrom p (sectionRoom * input) (countIn table input)) Below
   passing-start {Below} b =
-      let at : cellLimit * input ≡ cellLimit * input + 0 = omega arith in
+      let at : sectionRoom * input ≡ sectionRoom * input + 0 = omega arith in
       record { bound = 0; walk = walk-start _ (section-fits table good input port p); below = subst Below at b }
 
   -- it holds up to a later number too, if no entry that passes comes before that
   module _ {left : ℕ} {Below : ℕ → Type 0}
       (wider : (end later : ℕ) → end ≤ later
       → ((k : ℕ) → end ≤ k → k < later → InTable table k → p k ≡ true → ⊥) → Below end → Below later)
-      (w : Passing (setFrom p (cellLimit * input) (countIn table input)) (cellLimit * input) left Below) where
-    pub passing-end : left ≡ 0 → Below (cellLimit * (input + 1))
+      (w : Passing (setFrom p (sectionRoom * input) (countIn table input)) (sectionRoom * input) left Below) where
+    pub passing-end : left ≡ 0 → Below (sectionRoom * (input + 1))
     passing-end done =
-        wider (cellLimit * input + w .bound) (cellLimit * (input + 1))
+        wider (sectionRoom * input + w .bound) (sectionRoom * (input + 1))
         (omega (arith, w .walk .limit)) (section-end table good input port p (w .walk) done)
         (w .below)
 
@@ -162,18 +162,18 @@ module _ (table : List ℕ) (good : IsTable table) (input : ℕ) (port : input <
       passing-position = walk-position (w .walk) some
 
       -- the entry at hand
-      pub passing-this : InTable table (cellLimit * input + firstOf left) × (p (cellLimit * input + firstOf left) ≡ true)
+      pub passing-this : InTable table (sectionRoom * input + firstOf left) × (p (sectionRoom * input + firstOf left) ≡ true)
       passing-this = section-member table good input port p (firstOf left) (walk-member (w .walk) some .0)
 
-      pub passing-below : Below (cellLimit * input + firstOf left)
+      pub passing-below : Below (sectionRoom * input + firstOf left)
       passing-below =
-          wider (cellLimit * input + w .bound) (cellLimit * input + firstOf left)
+          wider (sectionRoom * input + w .bound) (sectionRoom * input + firstOf left)
           (omega (arith, walk-member (w .walk) some .1)) (section-none table good input port p (w .walk) some) (w .below)
 
-      pub passing-next : {Next : ℕ → Type 0} → Next (cellLimit * input + firstOf left + 1)
-          → Passing (setFrom p (cellLimit * input) (countIn table input)) (cellLimit * input) (restOf left) Next
+      pub passing-next : {Next : ℕ → Type 0} → Next (sectionRoom * input + firstOf left + 1)
+          → Passing (setFrom p (sectionRoom * input) (countIn table input)) (sectionRoom * input) (restOf left) Next
       passing-next {Next} b =
-          let at : cellLimit * input + firstOf left + 1 ≡ cellLimit * input + (firstOf left + 1) = omega arith in
+          let at : sectionRoom * input + firstOf left + 1 ≡ sectionRoom * input + (firstOf left + 1) = omega arith in
           record {
             bound = firstOf left + 1;
             walk = walk-next (w .walk) some (section-fits table good input port p);

@@ -8,10 +8,10 @@ use mathlib.Core.Bool.{true}
 use mathlib.Core.Path.{_≡_}
 use mathlib.Core.List.{List}
 use lib.ListN.{length, getD}
-use Rattle.cell.specs.Limits.{cellLimit}
+use Rattle.cell.specs.Limits.{sectionRoom, portLimit}
 use Rattle.model.specs.State.{isCrossed}
 use Rattle.layout.specs.Entry.{entryAt}
-use Rattle.layout.specs.Table.{placeOf}
+use Rattle.layout.specs.Table.{placeOf, entryLimit}
 use Rattle.places.specs.Choices.{BestAmong}
 use Rattle.places.specs.View.{InTable, crosspointAt, Square, placesIn}
 use Rattle.places.specs.Viewed.{listedSet, headSet, crossedSet, bufferedSet, keyAt, Keyed, Buffered}
@@ -26,9 +26,9 @@ pub record Sorted (table places : List ℕ) (input listed crossed buffered : ℕ
 
 -- an array has what it should of the inputs below a number, and 0 of the others
 pub record FilledBelow (is : ℕ → ℕ) (n : ℕ) (l : List ℕ) : Type 0 where
-  pub size : length l ≡ 16
+  pub size : length l ≡ portLimit
   pub at : (input : ℕ) → input < n → getD l input 0 ≡ is input
-  pub rest : (input : ℕ) → n ≤ input → input < 16 → getD l input 0 ≡ 0
+  pub rest : (input : ℕ) → n ≤ input → input < portLimit → getD l input 0 ≡ 0
 
 pub record SetsBelow (table : List ℕ) (n : ℕ) (listed heads crossed buffered : List ℕ) : Type 0 where
   pub lists : FilledBelow (listedSet table (placesIn table)) n listed
@@ -48,10 +48,10 @@ pub record CrossedBelow (table places : List ℕ) (end : ℕ) (cross keys : List
   pub square : Square cross
   pub keyed : Keyed table cross keys
   pub filled : (k : ℕ) → k < end → Crossed table places k
-      → crosspointAt cross (k / cellLimit) (entryAt table k .cell .output) ≡ k
-  pub real : (input output : ℕ) → input < 16 → output < 16 → crosspointAt cross input output < 1024
+      → crosspointAt cross (k / sectionRoom) (entryAt table k .cell .output) ≡ k
+  pub real : (input output : ℕ) → input < portLimit → output < portLimit → crosspointAt cross input output < entryLimit
       → Crossed table places (crosspointAt cross input output)
-      × (crosspointAt cross input output / cellLimit ≡ input)
+      × (crosspointAt cross input output / sectionRoom ≡ input)
       × (entryAt table (crosspointAt cross input output) .cell .output ≡ output)
 
 ------------------------------------------------------------------------
@@ -63,14 +63,14 @@ pub record BufferedBelow (table places : List ℕ) (output end k : ℕ) : Type 0
 
 -- the best of each output, and its key
 pub record BestBelow (table places : List ℕ) (end : ℕ) (best rivals : List ℕ) : Type 0 where
-  pub size : length best ≡ 16
-  pub keys-size : length rivals ≡ 16
-  pub each : (output : ℕ) → output < 16 → BestAmong table (BufferedBelow table places output end) (getD best output 0)
-  pub keys : (output : ℕ) → output < 16 → getD rivals output 0 ≡ keyAt table (getD best output 0)
+  pub size : length best ≡ portLimit
+  pub keys-size : length rivals ≡ portLimit
+  pub each : (output : ℕ) → output < portLimit → BestAmong table (BufferedBelow table places output end) (getD best output 0)
+  pub keys : (output : ℕ) → output < portLimit → getD rivals output 0 ≡ keyAt table (getD best output 0)
 
 ------------------------------------------------------------------------
 -- both
 
 pub record LoadedBelow (table : List ℕ) (n : ℕ) (cross keys : List (List ℕ)) (best rivals : List ℕ) : Type 0 where
-  pub crossed : CrossedBelow table (placesIn table) (cellLimit * n) cross keys
-  pub bests : BestBelow table (placesIn table) (cellLimit * n) best rivals
+  pub crossed : CrossedBelow table (placesIn table) (sectionRoom * n) cross keys
+  pub bests : BestBelow table (placesIn table) (sectionRoom * n) best rivals

@@ -1,14 +1,15 @@
 // The view of a table, which a slot makes once: the cells of each input by their places, as sets, with the heads of its
 // list; then from these the crosspoints with the keys of their cells, and the best cell in each output's buffer. One pass
 // over each input's entries sorts them; what is asked of each place is a loop over its set.
+use layout::CELLS;
+use layout::PORTS;
 use places::NO_KEY;
-use table::entry::CELLS;
-use table::entry::PORTS;
 ghost use mathlib.Core.Bool.{cond};
 ghost use mathlib.Core.Path.{_≡_};
 ghost use Prim.Native.Nat.{ℕ, _+_, _*_, _<_};
 ghost use lib.ListN.{getD};
 ghost use Rattle.cell.specs.Order.{key as cellKey};
+ghost use Rattle.cell.specs.Limits.{sectionRoom, portLimit};
 ghost use Rattle.layout.specs.Table.{IsTable};
 ghost use Rattle.layout.specs.Entry.{entryAt, portsIn};
 ghost use Rattle.places.specs.Choices.{betterOf};
@@ -63,8 +64,8 @@ pub fn load(
     best: &mut [u16; PORTS],
 )
     requires { ⌜ IsTable (now table) ⌝ }
-    requires { ⌜ ((input : ℕ) → input < 16 → getD (now crossed) input 0 ≡ crossedSet (now table) (placesIn (now table)) input) ⌝ }
-    requires { ⌜ ((input : ℕ) → input < 16 → getD (now buffered) input 0 ≡ bufferedSet (now table) (placesIn (now table)) input) ⌝ }
+    requires { ⌜ ((input : ℕ) → input < portLimit → getD (now crossed) input 0 ≡ crossedSet (now table) (placesIn (now table)) input) ⌝ }
+    requires { ⌜ ((input : ℕ) → input < portLimit → getD (now buffered) input 0 ≡ bufferedSet (now table) (placesIn (now table)) input) ⌝ }
     requires { ⌜ Blank (now cross) (now keys) (now best) ⌝ }
     ensures { λ _. ⌜ Occupied (now (table .entry)) (now (cross .exit)) (now (keys .exit)) (now (best .exit)) ⌝ }
 {
@@ -134,8 +135,8 @@ fn load_crossed(
     requires { ⌜ IsTable (now table) ⌝ }
     requires { ⌜ input < portsIn (now table) ⌝ }
     requires { ⌜ crossed ≡ crossedSet (now table) (placesIn (now table)) input ⌝ }
-    requires { ⌜ CrossedBelow (now table) (placesIn (now table)) (64 * input) (now cross) (now keys) ⌝ }
-    ensures { λ _. ⌜ CrossedBelow (now (table .entry)) (placesIn (now (table .entry))) (64 * (input + 1)) (now (cross .exit)) (now (keys .exit)) ⌝ }
+    requires { ⌜ CrossedBelow (now table) (placesIn (now table)) (sectionRoom * input) (now cross) (now keys) ⌝ }
+    ensures { λ _. ⌜ CrossedBelow (now (table .entry)) (placesIn (now (table .entry))) (sectionRoom * (input + 1)) (now (cross .exit)) (now (keys .exit)) ⌝ }
 {
     let mut left = crossed;
     while left != 0 {
@@ -173,8 +174,8 @@ fn load_buffered(
     requires { ⌜ IsTable (now table) ⌝ }
     requires { ⌜ input < portsIn (now table) ⌝ }
     requires { ⌜ buffered ≡ bufferedSet (now table) (placesIn (now table)) input ⌝ }
-    requires { ⌜ BestBelow (now table) (placesIn (now table)) (64 * input) (now best) (now rivals) ⌝ }
-    ensures { λ _. ⌜ BestBelow (now (table .entry)) (placesIn (now (table .entry))) (64 * (input + 1)) (now (best .exit)) (now (rivals .exit)) ⌝ }
+    requires { ⌜ BestBelow (now table) (placesIn (now table)) (sectionRoom * input) (now best) (now rivals) ⌝ }
+    ensures { λ _. ⌜ BestBelow (now (table .entry)) (placesIn (now (table .entry))) (sectionRoom * (input + 1)) (now (best .exit)) (now (rivals .exit)) ⌝ }
 {
     let mut left = buffered;
     while left != 0 {

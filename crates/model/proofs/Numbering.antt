@@ -24,7 +24,7 @@ use Rattle.laws.proofs.Tests.{by-fail, and-false-r, not-i}
 use Rattle.laws.proofs.Lists.{none?-i}
 use Rattle.laws.proofs.Count.{count-append, count-map, count-ext, count-zero}
 use Rattle.laws.proofs.Pairwise.{pairwise-nil, pairwise-cons, pairwise-mono}
-use Rattle.cell.specs.Limits.{cellLimit}
+use Rattle.cell.specs.Limits.{sectionRoom}
 use Rattle.model.specs.State.{Place, Entry, isListed}
 use Rattle.model.specs.Phase.{Waiting, numberFrom, numberSections, numbered, waiting, ahead, among, Phase}
 use Rattle.model.specs.Phase.{placeAfter, placedBy, moved}
@@ -147,29 +147,29 @@ numberFrom-rises from (e ∷ es) =
 -- the sections
 
 pub numberSections-at : (input : ℕ) (sections : List (List Entry)) (k : ℕ)
-    → getD (numberSections input sections) k [] ≡ numberFrom (cellLimit * (input + k)) (getD sections k [])
+    → getD (numberSections input sections) k [] ≡ numberFrom (sectionRoom * (input + k)) (getD sections k [])
 unfolding numberSections numberFrom
 numberSections-at input [] k = refl
 numberSections-at input (es ∷ sections) zero =
-    ap (λ n. numberFrom (cellLimit * n) es) (omega arith)
+    ap (λ n. numberFrom (sectionRoom * n) es) (omega arith)
 numberSections-at input (es ∷ sections) (suc k) =
     numberSections-at (input + 1) sections k
-    ∙ ap (λ n. numberFrom (cellLimit * n) (getD sections k []))
+    ∙ ap (λ n. numberFrom (sectionRoom * n) (getD sections k []))
     (omega arith)
 
 pub numbered-at : (sections : List (List Entry)) (k : ℕ)
-    → getD (numbered sections) k [] ≡ numberFrom (cellLimit * k) (getD sections k [])
+    → getD (numbered sections) k [] ≡ numberFrom (sectionRoom * k) (getD sections k [])
 unfolding numbered
 numbered-at sections k =
     numberSections-at 0 sections k
-    ∙ ap (λ n. numberFrom (cellLimit * n) (getD sections k [])) (omega arith)
+    ∙ ap (λ n. numberFrom (sectionRoom * n) (getD sections k [])) (omega arith)
 
 pub numberSections-entries : (input : ℕ) (sections : List (List Entry))
     → map (map entryOf) (numberSections input sections) ≡ sections
 unfolding numberSections
 numberSections-entries input [] = refl
 numberSections-entries input (es ∷ sections) =
-    ap₂ (λ l r. l ∷ r) (numberFrom-entries (cellLimit * input) es) (numberSections-entries (input + 1) sections)
+    ap₂ (λ l r. l ∷ r) (numberFrom-entries (sectionRoom * input) es) (numberSections-entries (input + 1) sections)
 
 pub numbered-entries : (sections : List (List Entry)) → map (map entryOf) (numbered sections) ≡ sections
 unfolding numbered
@@ -185,7 +185,7 @@ pub numberSections-map : (f : Waiting → Entry) (input : ℕ) (sections : List 
 unfolding numberSections
 numberSections-map f input [] = refl
 numberSections-map f input (es ∷ sections) =
-    ap₂ (λ l r. l ∷ r) (numberFrom-map f (cellLimit * input) es) (numberSections-map f (input + 1) sections)
+    ap₂ (λ l r. l ∷ r) (numberFrom-map f (sectionRoom * input) es) (numberSections-map f (input + 1) sections)
 
 ------------------------------------------------------------------------
 -- all waiting cells
@@ -194,8 +194,8 @@ numberSections-map f input (es ∷ sections) =
 pub record Stands (sections : List (List Entry)) (w : Waiting) : Type 0 where
   pub input : ℕ
   pub within : input < length sections
-  pub mem : List·Memᴰ w (numberFrom (cellLimit * input) (getD sections input []))
-  pub placed : Placed (cellLimit * input) (getD sections input []) w
+  pub mem : List·Memᴰ w (numberFrom (sectionRoom * input) (getD sections input []))
+  pub placed : Placed (sectionRoom * input) (getD sections input []) w
 
 pub mem-waiting : (sections : List (List Entry)) {w : Waiting} → List·Memᴰ w (waiting sections) → Stands sections w
 unfolding waiting
@@ -203,29 +203,29 @@ mem-waiting sections {w} m = go (mem-flatten (numbered sections) m)
   where
     go : (k : ℕ) × (k < length (numbered sections)) × List·Memᴰ w (getD (numbered sections) k []) → Stands sections w
     go (k, b, i) =
-        let j : List·Memᴰ w (numberFrom (cellLimit * k) (getD sections k [])) = rw (numbered-at sections k) at i in
+        let j : List·Memᴰ w (numberFrom (sectionRoom * k) (getD sections k [])) = rw (numbered-at sections k) at i in
         record {
           input = k;
           within = rw (length-numbered sections) at b;
           mem = j;
-          placed = mem-numberFrom (cellLimit * k) (getD sections k []) j;
+          placed = mem-numberFrom (sectionRoom * k) (getD sections k []) j;
         }
 
 pub stands-entry : (sections : List (List Entry)) (w : Waiting) (s : Stands sections w)
     → List·Memᴰ (entryOf w) (getD sections (s .input) [])
-stands-entry sections w s = placed-entry (cellLimit * s .input) (getD sections (s .input) []) w (s .placed)
+stands-entry sections w s = placed-entry (sectionRoom * s .input) (getD sections (s .input) []) w (s .placed)
 
 pub waiting-mem : (sections : List (List Entry)) (k : ℕ) (pre : List Entry) (e : Entry) (post : List Entry)
     → getD sections k [] ≡ pre ++ e ∷ post
-    → List·Memᴰ (numberedAt (cellLimit * k + length pre) e) (waiting sections)
+    → List·Memᴰ (numberedAt (sectionRoom * k + length pre) e) (waiting sections)
 unfolding waiting
 waiting-mem sections k pre e post h =
     flatten-mem (numbered sections) k
-    (rw (numbered-at sections k, h) (numberFrom-mem (cellLimit * k) pre e post))
+    (rw (numbered-at sections k, h) (numberFrom-mem (sectionRoom * k) pre e post))
 
 -- the numbered cells of a section are waiting
 pub section-waiting : (sections : List (List Entry)) (k : ℕ) {w : Waiting}
-    → List·Memᴰ w (numberFrom (cellLimit * k) (getD sections k [])) → List·Memᴰ w (waiting sections)
+    → List·Memᴰ w (numberFrom (sectionRoom * k) (getD sections k [])) → List·Memᴰ w (waiting sections)
 unfolding waiting
 section-waiting sections k m = flatten-mem (numbered sections) k (rw (numbered-at sections k) m)
 
@@ -270,7 +270,7 @@ unfolding moved relocated relocate
 waiting-moved p sections = waiting-placed (placeAfter p) sections
 
 pub moved-at : (p : Phase) (sections : List (List Entry)) (k : ℕ)
-    → getD (moved p sections) k [] ≡ map (entryAfter p) (numberFrom (cellLimit * k) (getD sections k []))
+    → getD (moved p sections) k [] ≡ map (entryAfter p) (numberFrom (sectionRoom * k) (getD sections k []))
 unfolding moved placedBy
 moved-at p sections k =
     List·getD-map (map (entryAfter p)) (numbered sections) k [] ∙ ap (map (entryAfter p)) (numbered-at sections k)
@@ -309,7 +309,7 @@ without-cells out sections =
 
 pub without-at : (out : List Waiting) (sections : List (List Entry)) (k : ℕ)
     → getD (without out sections) k []
-    ≡ map entryOf (keep (λ e. not (among out e)) (numberFrom (cellLimit * k) (getD sections k [])))
+    ≡ map entryOf (keep (λ e. not (among out e)) (numberFrom (sectionRoom * k) (getD sections k [])))
 unfolding without keep
 without-at out sections k =
     List·getD-map stay (numbered sections) k [] ∙ ap stay (numbered-at sections k)
@@ -328,17 +328,17 @@ length-without out sections =
 
 -- no section has over 64 entries
 abbrev pub Short : List (List Entry) → Type 0
-Short sections = (k : ℕ) → length (getD sections k []) ≤ cellLimit
+Short sections = (k : ℕ) → length (getD sections k []) ≤ sectionRoom
 
 -- so the switch has at most 64 for each input
-flatten-few : (sections : List (List Entry)) → Short sections → length (flatten sections) ≤ cellLimit * length sections
+flatten-few : (sections : List (List Entry)) → Short sections → length (flatten sections) ≤ sectionRoom * length sections
 unfolding flatten
 flatten-few [] short = omega arith
 flatten-few (es ∷ sections) short =
     omega (arith, length-append es (flatten sections), short 0, flatten-few sections (λ k. short (suc k)))
 
 pub waiting-few : (sections : List (List Entry)) → Short sections
-    → length (waiting sections) ≤ cellLimit * length sections
+    → length (waiting sections) ≤ sectionRoom * length sections
 waiting-few sections short =
     omega (
       arith,
@@ -356,19 +356,19 @@ pub numbers-rise : (sections : List (List Entry)) → Short sections
 unfolding waiting
 numbers-rise sections short =
     pairwise-flatten (λ v w. ltb (v .at) (w .at)) (numbered sections)
-    (λ k. rw (numbered-at sections k) (numberFrom-rises (cellLimit * k) (getD sections k [])))
+    (λ k. rw (numbered-at sections k) (numberFrom-rises (sectionRoom * k) (getD sections k [])))
     (λ i j v w o m n.
     across i j v w o
-    (mem-numberFrom (cellLimit * i) (getD sections i []) (rw (numbered-at sections i) at m))
-    (mem-numberFrom (cellLimit * j) (getD sections j []) (rw (numbered-at sections j) at n)))
+    (mem-numberFrom (sectionRoom * i) (getD sections i []) (rw (numbered-at sections i) at m))
+    (mem-numberFrom (sectionRoom * j) (getD sections j []) (rw (numbered-at sections j) at n)))
   where
-    across : (i j : ℕ) (v w : Waiting) → i < j → Placed (cellLimit * i) (getD sections i []) v
-        → Placed (cellLimit * j) (getD sections j []) w → ltb (v .at) (w .at) ≡ true
+    across : (i j : ℕ) (v w : Waiting) → i < j → Placed (sectionRoom * i) (getD sections i []) v
+        → Placed (sectionRoom * j) (getD sections j []) w → ltb (v .at) (w .at) ≡ true
     across i j v w o p q =
         let a : v .at < 64 * i + length (getD sections i []) =
-        placed-below (cellLimit * i) (getD sections i []) v p in
+        placed-below (sectionRoom * i) (getD sections i []) v p in
         let b : length (getD sections i []) ≤ 64 = short i in
-        let c : 64 * j ≤ w .at = placed-from (cellLimit * j) (getD sections j []) w q in
+        let c : 64 * j ≤ w .at = placed-from (sectionRoom * j) (getD sections j []) w q in
         lt-ltb (v .at) (w .at) (omega arith)
 
 pub numbers-differ : (sections : List (List Entry)) → Short sections → pairwise otherNumber (waiting sections) ≡ true
@@ -394,7 +394,7 @@ ahead-fail v w h = by-fail (ahead v w) (λ a. h (ahead-input v w a) (ahead-at v 
 -- the listed cells ahead of a cell are those that stand before it in its section
 pub ahead-prefix : (sections : List (List Entry)) → Housed sections
     → (k : ℕ) (pre : List Entry) (e : Entry) (post : List Entry) → getD sections k [] ≡ pre ++ e ∷ post
-    → count (λ f. isListed (f .place) && ahead f (numberedAt (cellLimit * k + length pre) e)) (waiting sections)
+    → count (λ f. isListed (f .place) && ahead f (numberedAt (sectionRoom * k + length pre) e)) (waiting sections)
     ≡ count (λ f. isListed (f .place)) pre
 unfolding waiting numberFrom
 ahead-prefix sections housed k pre e post split =
@@ -405,7 +405,7 @@ ahead-prefix sections housed k pre e post split =
     ∙ (omega arith)
   where
     from : ℕ
-    from = cellLimit * k
+    from = sectionRoom * k
 
     w : Waiting
     w = numberedAt (from + length pre) e
@@ -421,9 +421,9 @@ ahead-prefix sections housed k pre e post split =
 
     elsewhere : (j : ℕ) → j ≢ k → (f : Waiting) → List·Memᴰ f (getD (numbered sections) j []) → q f ≡ false
     elsewhere j n f m =
-        let p : Placed (cellLimit * j) (getD sections j []) f =
-        mem-numberFrom (cellLimit * j) (getD sections j []) (rw (numbered-at sections j) at m) in
-        let i : f .cell .input ≡ j = housed j (entryOf f) (placed-entry (cellLimit * j) (getD sections j []) f p) in
+        let p : Placed (sectionRoom * j) (getD sections j []) f =
+        mem-numberFrom (sectionRoom * j) (getD sections j []) (rw (numbered-at sections j) at m) in
+        let i : f .cell .input ≡ j = housed j (entryOf f) (placed-entry (sectionRoom * j) (getD sections j []) f p) in
         let o : e .cell .input ≡ k = home e (Memᴰ·append-right pre (List·Memᴰ·head refl)) in
         and-false-r (isListed (f .place)) (ahead f w) (ahead-fail f w (λ s l. n (sym i ∙ s ∙ o)))
 

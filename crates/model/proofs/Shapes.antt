@@ -5,7 +5,7 @@ use mathlib.Core.List.{List, [], _∷_, _++_, map, flatten, cons-eq-cons, head-e
 use mathlib.Core.Path.{_≡_, refl, sym, ap, ap₂, _∙_}
 use lib.ListN.{length, take, drop, length-map}
 use lib.Seq.{take-at, drop-at}
-use Rattle.cell.specs.Limits.{cellLimit}
+use Rattle.cell.specs.Limits.{sectionRoom}
 use Rattle.model.specs.State.{Entry}
 use Rattle.model.specs.Phase.{Waiting, numberFrom, numberSections, numbered, waiting}
 use Rattle.model.proofs.Bags.{flatten-cons}
@@ -31,15 +31,15 @@ sections-injective input [] [] l e = refl
 sections-injective input [] (t ∷ ts) l e = absurd (nil≢cons l)
 sections-injective input (s ∷ ss) [] l e = absurd (cons≢nil l)
 sections-injective input (s ∷ ss) (t ∷ ts) l e =
-    let a : List Waiting = numberFrom (cellLimit * input) s in
-    let c : List Waiting = numberFrom (cellLimit * input) t in
+    let a : List Waiting = numberFrom (sectionRoom * input) s in
+    let c : List Waiting = numberFrom (sectionRoom * input) t in
     let b : List Waiting = flatten (numberSections (input + 1) ss) in
     let d : List Waiting = flatten (numberSections (input + 1) ts) in
     let same : length a ≡ length c =
-    length-number (cellLimit * input) s ∙ head-eq-of-cons-eq l ∙ sym (length-number (cellLimit * input) t) in
+    length-number (sectionRoom * input) s ∙ head-eq-of-cons-eq l ∙ sym (length-number (sectionRoom * input) t) in
     let both = append-split a b c d same
     (sym (flatten-cons a (numberSections (input + 1) ss)) ∙ e ∙ flatten-cons c (numberSections (input + 1) ts)) in
-    ap₂ (λ x y. x ∷ y) (number-injective (cellLimit * input) s t (both .0))
+    ap₂ (λ x y. x ∷ y) (number-injective (sectionRoom * input) s t (both .0))
     (sections-injective (input + 1) ss ts (tail-eq-of-cons-eq l) (both .1))
 
 pub waiting-injective : (ss ts : List (List Entry)) → map length ss ≡ map length ts → waiting ss ≡ waiting ts → ss ≡ ts

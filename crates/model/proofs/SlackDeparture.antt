@@ -18,7 +18,7 @@ use Rattle.laws.proofs.Count.{count-map, count-keep, count-ext, count-split, co
 use Rattle.laws.proofs.Least.{mem-least-in, mem-least-first}
 use Rattle.laws.proofs.Pairwise.{pairwise-mono, pairwise-le-one}
 use Rattle.cell.specs.declared.Cell.{Cell}
-use Rattle.cell.specs.Limits.{cellLimit}
+use Rattle.cell.specs.Limits.{sectionRoom}
 use Rattle.cell.specs.Order.{over}
 use Rattle.cell.proofs.Order.{over-total}
 use Rattle.model.specs.State.{Entry, isListed, isBuffered}
@@ -161,11 +161,11 @@ module _ (sections : List (List Entry)) (numbers : pairwise otherNumber (waiting
       (rw (without-at out sections k) at s))
     where
       ws : List Waiting
-      ws = numberFrom (cellLimit * k) (getD sections k [])
+      ws = numberFrom (sectionRoom * k) (getD sections k [])
 
       go : (before : List Entry) × Behind before e (map entryOf ws) × (listedIn pre ≡ listedIn before)
           → (before : List Entry) × Behind before e (getD sections k []) × (listedIn pre ≡ listedIn before)
-      go v = (v .0, rw (numberFrom-entries (cellLimit * k) (getD sections k [])) at (v .1), v .2)
+      go v = (v .0, rw (numberFrom-entries (sectionRoom * k) (getD sections k [])) at (v .1), v .2)
 
   module _ (arrivals : pairwise otherArrival (waiting sections) ≡ true) where
     -- and from each buffer at most one

@@ -19,7 +19,7 @@ use Rattle.laws.proofs.Count.{count-nil, count-cons, count-pass, count-fail, co
 use Rattle.cell.specs.declared.Cell.{Cell}
 use Rattle.cell.specs.Order.{over}
 use Rattle.cell.proofs.Order.{over-trans}
-use Rattle.cell.specs.Limits.{cellLimit}
+use Rattle.cell.specs.Limits.{sectionRoom}
 use Rattle.model.specs.State.{Entry, isListed, isBuffered}
 use Rattle.model.specs.Phase.{Waiting, waiting, ahead, sameOutput, beats}
 use Rattle.model.specs.Slackness.{thread, cushion, Slack}
@@ -148,7 +148,7 @@ cushion-after sections e f o h =
 -- the same slackness, by sections and by numbers
 
 module _ (sections : List (List Entry)) (housed : Housed sections) where
-  thread-at : (k : ℕ) (pre post : List Entry) (w : Waiting) → w .at ≡ cellLimit * k + length pre
+  thread-at : (k : ℕ) (pre post : List Entry) (w : Waiting) → w .at ≡ sectionRoom * k + length pre
       → getD sections k [] ≡ pre ++ entryOf w ∷ post → thread (waiting sections) w ≡ threadAt pre (entryOf w)
   unfolding thread threadAt listedIn
   thread-at k pre post w n split =
@@ -165,7 +165,7 @@ module _ (sections : List (List Entry)) (housed : Housed sections) where
   pub slack-at : (a b : ℕ) → Slack a b (waiting sections) → SlackAt a b sections
   slack-at a b slack k pre e s f =
       let v = behind-split s in
-      let w : Waiting = numberedAt (cellLimit * k + length pre) e in
+      let w : Waiting = numberedAt (sectionRoom * k + length pre) e in
       omega (
         arith,
         thread-at k pre (v .0) w refl (v .1),

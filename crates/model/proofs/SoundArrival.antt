@@ -28,7 +28,7 @@ use Rattle.cell.specs.declared.Arrival.{Arrival}
 use Rattle.cell.specs.declared.Cell.{Cell}
 use Rattle.cell.specs.Cell.{accepted, arrivalFits}
 use Rattle.cell.specs.Flow.{sameFlow}
-use Rattle.cell.specs.Limits.{cellLimit, fits32}
+use Rattle.cell.specs.Limits.{sectionRoom, fits32}
 use Rattle.cell.proofs.Flow.{flow-sym}
 use Rattle.cell.proofs.Order.{over-in-flow}
 use Rattle.model.specs.State.{Entry, Switch, cells, isListed, isCrossed}
@@ -216,7 +216,7 @@ enter-together c es h follows = go (enters c es)
 
 -- a new cell, fit for the section, with room for it
 pub enter-sound : (ports clock k : ℕ) (c : Cell) (es : List Entry) → SoundSection ports clock k es
-    → SoundEntry ports (clock + 1) k (newEntry c) → c .slot ≡ clock → length es < cellLimit → Follows es c
+    → SoundEntry ports (clock + 1) k (newEntry c) → c .slot ≡ clock → length es < sectionRoom → Follows es c
     → SoundSection ports (clock + 1) k (enter c es)
 unfolding newEntry
 enter-sound ports clock k c es s new slot room follows =
@@ -330,7 +330,7 @@ pub arrive-sound : (ports clock : ℕ) (cs : List Cell) (sections : List (List E
     → pairwise (λ c d. ltb (c .input) (d .input)) cs ≡ true
     → ((c : Cell) → List·Memᴰ c cs → SoundEntry ports (clock + 1) (c .input) (newEntry c))
     → ((c : Cell) → List·Memᴰ c cs → c .slot ≡ clock)
-    → ((c : Cell) → List·Memᴰ c cs → length (getD sections (c .input) []) < cellLimit)
+    → ((c : Cell) → List·Memᴰ c cs → length (getD sections (c .input) []) < sectionRoom)
     → FollowAll (flatten sections) cs
     → soundSections ports (clock + 1) 0 (arrive cs sections) ≡ true
 arrive-sound ports clock cs sections h within turns fit slots rooms follow =
@@ -346,7 +346,7 @@ arrive-sound ports clock cs sections h within turns fit slots rooms follow =
         (enter-sound ports clock k c (getD sections k []) (before k)
         (subst (λ j. SoundEntry ports (clock + 1) j (newEntry c)) i (fit c m))
         (slots c m)
-        (subst (λ j. length (getD sections j []) < cellLimit) i (rooms c m))
+        (subst (λ j. length (getD sections j []) < sectionRoom) i (rooms c m))
         (λ d j s. follow c m d (flatten-mem sections k j) s))
 
 ------------------------------------------------------------------------
@@ -366,9 +366,9 @@ rank-rises waiting c d h m s = go (ltb (c .rank) (d .rank)) refl
 
 -- 8: where the input is not full, it has fewer than 64 cells
 pub room-below : (waiting : List Cell) (c : Cell) → full waiting c ≡ false
-    → count (λ d. eqb (d .input) (c .input)) waiting < cellLimit
+    → count (λ d. eqb (d .input) (c .input)) waiting < sectionRoom
 unfolding full
-room-below waiting c h = leb-false cellLimit (count (λ d. eqb (d .input) (c .input)) waiting) h
+room-below waiting c h = leb-false sectionRoom (count (λ d. eqb (d .input) (c .input)) waiting) h
 
 module _ (ports clock : ℕ) (sections : List (List Entry)) (h : soundSections ports clock 0 sections ≡ true) where
   -- each waiting cell was accepted before this slot
@@ -385,7 +385,7 @@ module _ (ports clock : ℕ) (sections : List (List Entry)) (h : soundSections p
 
   -- the cells of an input are those of its section
   pub arrival-room : (c : Cell) → full (map (λ e. e .cell) (flatten sections)) c ≡ false
-      → length (getD sections (c .input) []) < cellLimit
+      → length (getD sections (c .input) []) < sectionRoom
   arrival-room c room =
       omega (
         arith,

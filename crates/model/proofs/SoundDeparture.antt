@@ -10,7 +10,7 @@ use Rattle.laws.specs.Lists.{keep, pairwise}
 use Rattle.laws.proofs.Lists.{mem-keep-in, keep-comm, keep-map}
 use Rattle.laws.proofs.Count.{length-keep, count-le-length}
 use Rattle.laws.proofs.Pairwise.{pairwise-keep, pairwise-map}
-use Rattle.cell.specs.Limits.{cellLimit}
+use Rattle.cell.specs.Limits.{sectionRoom}
 use Rattle.model.specs.State.{Entry, isListed}
 use Rattle.model.specs.Phase.{Waiting, numberFrom, among}
 use Rattle.model.specs.Crossbar.{without}
@@ -41,7 +41,7 @@ module _ (stays : Waiting → Bool) (ws : List Waiting) where
   section-stay ports clock k s =
       record {
         short =
-            let a : length ws ≤ cellLimit = rw (length-map ws entryOf) at (s .short) in
+            let a : length ws ≤ sectionRoom = rw (length-map ws entryOf) at (s .short) in
             omega (arith, length-map (keep stays ws) entryOf, length-keep stays ws, count-le-length stays ws);
         entries = λ e m. each e (Memᴰ·of-map entryOf (keep stays ws) m);
         flows = flows-stay (s .flows);
@@ -57,5 +57,5 @@ pub without-sound : (ports clock : ℕ) (out : List Waiting) (sections : List (L
 without-sound ports clock out sections h =
     sections-i ports clock (without out sections) (λ k.
     rw (without-at out sections k)
-    (section-stay (λ e. not (among out e)) (numberFrom (cellLimit * k) (getD sections k [])) ports clock k
-    (rw (numberFrom-entries (cellLimit * k) (getD sections k [])) (sections-e ports clock sections h k))))
+    (section-stay (λ e. not (among out e)) (numberFrom (sectionRoom * k) (getD sections k [])) ports clock k
+    (rw (numberFrom-entries (sectionRoom * k) (getD sections k [])) (sections-e ports clock sections h k))))

@@ -23,7 +23,7 @@ use Rattle.laws.proofs.Lists.{none?-e, none?-i, none?-clash, none?-mono, none?-
 use Rattle.laws.proofs.Lists.{keep-pass, keep-fail, keep-nil, mem-keep-in}
 use Rattle.cell.specs.declared.Cell.{Cell}
 use Rattle.cell.specs.Flow.{sameFlow}
-use Rattle.cell.specs.Limits.{portsInRange, flowInRange, fits32, cellLimit}
+use Rattle.cell.specs.Limits.{portsInRange, flowInRange, fits32, sectionRoom}
 use Rattle.cell.specs.Order.{over}
 use Rattle.cell.proofs.Flow.{flow-sym, flow-trans}
 use Rattle.cell.proofs.Order.{over-trans}
@@ -250,7 +250,7 @@ entry-i ports clock k e s = search (and-i, eq-eqb, lt-ltb) depth 9
 -- one section
 
 pub record SoundSection (ports clock k : ℕ) (es : List Entry) : Type 0 where
-  pub short : length es ≤ cellLimit
+  pub short : length es ≤ sectionRoom
   pub entries : (e : Entry) → List·Memᴰ e es → SoundEntry ports clock k e
   pub flows : together (keep (λ e. isListed (e .place)) es) ≡ true
   pub slots : pairwise otherSlot es ≡ true
@@ -260,10 +260,10 @@ pub section-e : (ports clock k : ℕ) (es : List Entry) → soundSection ports c
     → SoundSection ports clock k es
 unfolding soundSection
 section-e ports clock k es h =
-    let short : leb (length es) cellLimit ≡ true = search and-l in
+    let short : leb (length es) sectionRoom ≡ true = search and-l in
     let entries : all? (soundEntry ports clock k) es ≡ true = search (and-l, and-r) depth 9 in
     record {
-      short = leb-true (length es) cellLimit short;
+      short = leb-true (length es) sectionRoom short;
       entries = λ e m. entry-e ports clock k e (all?-e (soundEntry ports clock k) entries m);
       flows = search (and-l, and-r) depth 9;
       slots = search (and-l, and-r) depth 9;

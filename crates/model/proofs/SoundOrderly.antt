@@ -16,7 +16,7 @@ use Rattle.laws.proofs.Tests.{not-i, not-e, and-false-l, and-false-r}
 use Rattle.laws.proofs.Lists.{keep-append, keep-pass, keep-mem}
 use Rattle.laws.proofs.Pairwise.{pairwise-mono, pairwise-map}
 use Rattle.cell.specs.Flow.{sameFlow}
-use Rattle.cell.specs.Limits.{cellLimit}
+use Rattle.cell.specs.Limits.{sectionRoom}
 use Rattle.cell.specs.Order.{over}
 use Rattle.model.specs.State.{Entry, isListed, isCrossed}
 use Rattle.model.specs.Phase.{Waiting, numberFrom, numbered, waiting, ahead, sameInput, sameOutput}
@@ -75,19 +75,19 @@ pairwise-waiting r q sections housed each within across =
     pairwise-flatten r (numbered sections) (λ k. rw (numbered-at sections k) (inside k)) (λ i j v w l m n.
     across v w (λ e. omega (arith, home i v m, home j w n)))
   where
-    inside : (k : ℕ) → pairwise r (numberFrom (cellLimit * k) (getD sections k [])) ≡ true
+    inside : (k : ℕ) → pairwise r (numberFrom (sectionRoom * k) (getD sections k [])) ≡ true
     inside k =
-        pairwise-mono (λ v w. q (entryOf v) (entryOf w)) r (numberFrom (cellLimit * k) (getD sections k []))
+        pairwise-mono (λ v w. q (entryOf v) (entryOf w)) r (numberFrom (sectionRoom * k) (getD sections k []))
         (λ v w m n h. within v w h)
-        (sym (pairwise-map q entryOf (numberFrom (cellLimit * k) (getD sections k [])))
-        ∙ ap (pairwise q) (numberFrom-entries (cellLimit * k) (getD sections k []))
+        (sym (pairwise-map q entryOf (numberFrom (sectionRoom * k) (getD sections k [])))
+        ∙ ap (pairwise q) (numberFrom-entries (sectionRoom * k) (getD sections k []))
         ∙ each k)
 
     home : (k : ℕ) (w : Waiting) → List·Memᴰ w (getD (numbered sections) k []) → w .cell .input ≡ k
     home k w m =
         housed k (entryOf w)
-        (placed-entry (cellLimit * k) (getD sections k []) w
-        (mem-numberFrom (cellLimit * k) (getD sections k []) (rw (numbered-at sections k) at m)))
+        (placed-entry (sectionRoom * k) (getD sections k []) w
+        (mem-numberFrom (sectionRoom * k) (getD sections k []) (rw (numbered-at sections k) at m)))
 
 ------------------------------------------------------------------------
 -- a sound table
@@ -111,11 +111,11 @@ module _ (ports clock : ℕ) (sections : List (List Entry)) (sound : soundSectio
       listed : Entry → Bool
       listed g = isListed (g .place)
 
-      within : (k : ℕ) → Placed (cellLimit * k) (getD sections k []) e
-          → List·Memᴰ f (numberFrom (cellLimit * k) (getD sections k [])) → over (e .cell) (f .cell) ≡ true
+      within : (k : ℕ) → Placed (sectionRoom * k) (getD sections k []) e
+          → List·Memᴰ f (numberFrom (sectionRoom * k) (getD sections k [])) → over (e .cell) (f .cell) ≡ true
       within k p i =
           let later : List·Memᴰ (entryOf f) (p .post) =
-          placed-later (cellLimit * k) (getD sections k []) e f p i (ahead-at e f a) in
+          placed-later (sectionRoom * k) (getD sections k []) e f p i (ahead-at e f a) in
           let parts : keep listed (getD sections k []) ≡ keep listed (p .pre) ++ entryOf e ∷ keep listed (p .post) =
           ap (keep listed) (p .split)
           ∙ keep-append listed (p .pre) (entryOf e ∷ p .post)

@@ -11,7 +11,7 @@ use Rattle.laws.specs.Lists.{keep, pairwise}
 use Rattle.laws.proofs.Tests.{same, and-i, and-r}
 use Rattle.laws.proofs.Lists.{keep-ext, keep-keep, keep-map}
 use Rattle.laws.proofs.Pairwise.{pairwise-mono, pairwise-map}
-use Rattle.cell.specs.Limits.{cellLimit}
+use Rattle.cell.specs.Limits.{sectionRoom}
 use Rattle.model.specs.State.{Entry, isListed}
 use Rattle.model.specs.Phase.{Waiting, numberFrom, numbered, waiting, sameInput, sameOutput, sameCrosspoint}
 use Rattle.model.specs.Phase.{Phase, phase, placeAfter, moved}
@@ -107,7 +107,7 @@ module _ (ports clock : ℕ) (p : Phase) (sections : List (List Entry)) (h : sou
     (crosspoint : OneCrosspoint (relocated p (waiting sections))) where
   -- those of one section
   crosspoint-at : (k : ℕ)
-      → pairwise otherCrosspoint (map (entryAfter p) (numberFrom (cellLimit * k) (getD sections k []))) ≡ true
+      → pairwise otherCrosspoint (map (entryAfter p) (numberFrom (sectionRoom * k) (getD sections k []))) ≡ true
   unfolding relocated relocate waiting
   crosspoint-at k =
       pairwise-map otherCrosspoint (entryAfter p) ws
@@ -118,7 +118,7 @@ module _ (ports clock : ℕ) (p : Phase) (sections : List (List Entry)) (h : sou
       (sym (pairwise-map apart (relocate p) (waiting sections)) ∙ crosspoint))
     where
       ws : List Waiting
-      ws = numberFrom (cellLimit * k) (getD sections k [])
+      ws = numberFrom (sectionRoom * k) (getD sections k [])
 
       near : Waiting → Waiting → Bool
       near v w = apart (relocate p v) (relocate p w)
@@ -126,15 +126,15 @@ module _ (ports clock : ℕ) (p : Phase) (sections : List (List Entry)) (h : sou
       home : (w : Waiting) → List·Memᴰ w ws → w .cell .input ≡ k
       home w m =
           sound-housed ports clock sections h k (entryOf w)
-          (placed-entry (cellLimit * k) (getD sections k []) w (mem-numberFrom (cellLimit * k) (getD sections k []) m))
+          (placed-entry (sectionRoom * k) (getD sections k []) w (mem-numberFrom (sectionRoom * k) (getD sections k []) m))
 
   pub moved-sound : soundSections ports clock 0 (moved p sections) ≡ true
   moved-sound =
       sections-i ports clock (moved p sections) (λ k.
       rw (moved-at p sections k)
-      (section-moved p (numberFrom (cellLimit * k) (getD sections k []))
+      (section-moved p (numberFrom (sectionRoom * k) (getD sections k []))
       (λ w m. forward w (section-waiting sections k m)) ports clock k
-      (rw (numberFrom-entries (cellLimit * k) (getD sections k [])) (sections-e ports clock sections h k))
+      (rw (numberFrom-entries (sectionRoom * k) (getD sections k [])) (sections-e ports clock sections h k))
       (crosspoint-at k)))
 
 pub phase-sound : (ports clock : ℕ) (sections : List (List Entry)) → soundSections ports clock 0 sections ≡ true

@@ -12,7 +12,7 @@ use lib.Dec.{ltb, eqb}
 use Rattle.laws.specs.Lists.{keep, some?, none?, all?, least}
 use Rattle.cell.specs.declared.Cell.{Cell}
 use Rattle.cell.specs.Flow.{sameFlow}
-use Rattle.cell.specs.Limits.{cellLimit}
+use Rattle.cell.specs.Limits.{sectionRoom}
 use Rattle.cell.specs.Order.{over}
 use Rattle.matching.specs.Matching.{matched, proposals}
 use Rattle.model.specs.State.{Place, listed, crossed, buffered, Entry, isListed, isCrossed}
@@ -29,7 +29,7 @@ numberFrom at (e ∷ es) = record { at = at; cell = e .cell; place = e .place } 
 
 unfoldable pub numberSections : ℕ → List (List Entry) → List (List Waiting)
 numberSections input [] = []
-numberSections input (s ∷ ss) = numberFrom (cellLimit * input) s ∷ numberSections (input + 1) ss
+numberSections input (s ∷ ss) = numberFrom (sectionRoom * input) s ∷ numberSections (input + 1) ss
 
 unfoldable pub numbered : List (List Entry) → List (List Waiting)
 numbered sections = numberSections 0 sections

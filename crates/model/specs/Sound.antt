@@ -6,7 +6,7 @@ use lib.Dec.{ltb, leb, eqb}
 use lib.ListN.{length}
 use Rattle.laws.specs.Lists.{keep, none?, all?, pairwise}
 use Rattle.cell.specs.Flow.{sameFlow}
-use Rattle.cell.specs.Limits.{portsInRange, flowInRange, fits32, cellLimit}
+use Rattle.cell.specs.Limits.{portsInRange, flowInRange, fits32, sectionRoom}
 use Rattle.cell.specs.Order.{over}
 use Rattle.model.specs.State.{Entry, Switch, isListed, isCrossed}
 
@@ -40,7 +40,7 @@ otherCrosspoint e f = not (isCrossed (e .place) && (isCrossed (f .place) && eqb 
 -- no input has over 64 cells
 unfoldable pub soundSection : ℕ → ℕ → ℕ → List Entry → Bool
 soundSection ports clock input es =
-    leb (length es) cellLimit
+    leb (length es) sectionRoom
     && (all? (soundEntry ports clock input) es
     && (together (keep (λ e. isListed (e .place)) es)
     && (pairwise otherSlot es

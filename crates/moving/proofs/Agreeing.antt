@@ -10,7 +10,7 @@ use lib.Dec.{eqb, ltb}
 use lib.ListN.{length, getD, set, length-set}
 use lib.Seq.{getD-set-same, getD-set-other, set-out, set-getD}
 use Rattle.laws.proofs.Tests.{either, clash}
-use Rattle.cell.specs.Limits.{cellLimit}
+use Rattle.cell.specs.Limits.{sectionRoom}
 use Rattle.model.specs.State.{isCrossed}
 use Rattle.layout.specs.Entry.{entryAt}
 use Rattle.layout.specs.Table.{placeOf, entryOf}
@@ -114,14 +114,14 @@ module _ (table : List ℕ) (f : ℕ → ℕ) (cross : List (List ℕ)) (square 
   unfolding sending
   square-sending zero = square
   square-sending (suc n) =
-      square-put (sending table f n cross) (square-sending n) (f n / cellLimit) (outputAt table (f n)) (f n)
+      square-put (sending table f n cross) (square-sending n) (f n / sectionRoom) (outputAt table (f n)) (f n)
 
-  sending-row : (n i o : ℕ) → ((j : ℕ) → j < n → f j / cellLimit ≢ i)
+  sending-row : (n i o : ℕ) → ((j : ℕ) → j < n → f j / sectionRoom ≢ i)
       → crosspointAt (sending table f n cross) i o ≡ crosspointAt cross i o
   unfolding sending
   sending-row zero i o h = refl
   sending-row (suc n) i o h =
-      put-row (sending table f n cross) (square-sending n) (f n / cellLimit) (outputAt table (f n)) (f n) i o
+      put-row (sending table f n cross) (square-sending n) (f n / sectionRoom) (outputAt table (f n)) (f n) i o
       (λ e. h n (omega arith) (sym e))
       ∙ sending-row n i o (λ j l. h j (omega arith))
 
@@ -129,7 +129,7 @@ module _ (f : ℕ → ℕ) (cross : List (List ℕ)) (square : Square cross) whe
   pub square-pulling : (n : ℕ) → Square (pulling f n cross)
   unfolding pulling
   square-pulling zero = square
-  square-pulling (suc n) = square-put (pulling f n cross) (square-pulling n) (f n / cellLimit) n nowhere
+  square-pulling (suc n) = square-put (pulling f n cross) (square-pulling n) (f n / sectionRoom) n nowhere
 
 ------------------------------------------------------------------------
 -- agreement, by numbers
@@ -137,12 +137,12 @@ module _ (f : ℕ → ℕ) (cross : List (List ℕ)) (square : Square cross) whe
 -- a number of a crossed cell of this input and output
 abbrev pub Stands : List ℕ → List ℕ → ℕ → ℕ → ℕ → Type 0
 Stands table places i o k =
-    InTable table k × (crossedAt places k ≡ true) × (k / cellLimit ≡ i) × (outputAt table k ≡ o)
+    InTable table k × (crossedAt places k ≡ true) × (k / sectionRoom ≡ i) × (outputAt table k ≡ o)
 
 module _ {table : List ℕ} (r : Readable table) (places : List ℕ) (cross : List (List ℕ)) where
   -- each crossed cell's number stands at its crosspoint
   abbrev Filled : Type 0
-  Filled = (k : ℕ) → InTable table k → crossedAt places k ≡ true → crosspointAt cross (k / cellLimit) (outputAt table k) ≡ k
+  Filled = (k : ℕ) → InTable table k → crossedAt places k ≡ true → crosspointAt cross (k / sectionRoom) (outputAt table k) ≡ k
 
   -- each number at a crosspoint stands there by right
   abbrev Real : Type 0
@@ -207,7 +207,7 @@ module _ {table : List ℕ} (r : Readable table) where
       filled : Filled r (written f 3 n places) cross
       filled k i h = go (either (hit f n k))
         where
-          go : (hit f n k ≡ true) ⊎ (hit f n k ≡ false) → crosspointAt cross (k / cellLimit) (outputAt table k) ≡ k
+          go : (hit f n k ≡ true) ⊎ (hit f n k ≡ false) → crosspointAt cross (k / sectionRoom) (outputAt table k) ≡ k
           go (inl t) =
               let s : k < length places = (let b = inTable-below r i in omega arith) in
               absurd (clash h (crossed-hit f 3 n places k s t ∙ buffered-byte))
@@ -231,7 +231,7 @@ module _ {table : List ℕ} (r : Readable table) where
   module _ (places : List ℕ) (cross : List (List ℕ)) (size : length places ≡ 1024) (square : Square cross)
       (a : Agrees table places cross) {k : ℕ} (entry : InTable table k) where
     abbrev i : ℕ
-    i = k / cellLimit
+    i = k / sectionRoom
 
     abbrev o : ℕ
     o = outputAt table k
@@ -249,12 +249,12 @@ module _ {table : List ℕ} (r : Readable table) where
         filled : Filled r (set places k 2) (put cross i o k)
         filled j e h = go (either (eqb j k))
           where
-            go : (eqb j k ≡ true) ⊎ (eqb j k ≡ false) → crosspointAt (put cross i o k) (j / cellLimit) (outputAt table j) ≡ j
+            go : (eqb j k ≡ true) ⊎ (eqb j k ≡ false) → crosspointAt (put cross i o k) (j / sectionRoom) (outputAt table j) ≡ j
             go (inl s) = rw (eqb-true j k s) (put-same cross square i o k row (output-small entry))
             go (inr s) =
-                let old : crosspointAt cross (j / cellLimit) (outputAt table j) ≡ j =
+                let old : crosspointAt cross (j / sectionRoom) (outputAt table j) ≡ j =
                 agrees-filled r places cross a j e (sym (crossed-other places k 2 j (eqb-false j k s)) ∙ h) in
-                put-other cross square i o k (j / cellLimit) (outputAt table j) row
+                put-other cross square i o k (j / sectionRoom) (outputAt table j) row
                 (λ p q.
                 let same : crosspointAt cross i o ≡ j = (rw (p, q) at old) in
                 let small : j < 1024 = inTable-below r e in
@@ -291,14 +291,14 @@ module _ {table : List ℕ} (r : Readable table) where
         filled j e h = go (either (eqb j k))
           where
             go : (eqb j k ≡ true) ⊎ (eqb j k ≡ false)
-                → crosspointAt (put cross i o nowhere) (j / cellLimit) (outputAt table j) ≡ j
+                → crosspointAt (put cross i o nowhere) (j / sectionRoom) (outputAt table j) ≡ j
             go (inl s) =
                 absurd (clash h
                 (ap (crossedAt (set places k 3)) (eqb-true j k s) ∙ crossed-same places k 3 inside ∙ buffered-byte))
             go (inr s) =
-                let old : crosspointAt cross (j / cellLimit) (outputAt table j) ≡ j =
+                let old : crosspointAt cross (j / sectionRoom) (outputAt table j) ≡ j =
                 agrees-filled r places cross a j e (sym (crossed-other places k 3 j (eqb-false j k s)) ∙ h) in
-                put-other cross square i o nowhere (j / cellLimit) (outputAt table j) row
+                put-other cross square i o nowhere (j / sectionRoom) (outputAt table j) row
                 (λ p q.
                 eqb-false j k s
                 (sym (rw (p, q) at old) ∙ agrees-filled r places cross a k entry there))
@@ -313,7 +313,7 @@ module _ {table : List ℕ} (r : Readable table) where
                 put-other cross square i o nowhere x y row n in
                 let w : Stands table places x y (crosspointAt cross x y) = agrees-real r places cross a x y p q (rw same at h) in
                 let apart : crosspointAt cross x y ≢ k =
-                λ e. n (sym (w .2) ∙ ap (λ z. z / cellLimit) e) (sym (w .3) ∙ ap (outputAt table) e) in
+                λ e. n (sym (w .2) ∙ ap (λ z. z / sectionRoom) e) (sym (w .3) ∙ ap (outputAt table) e) in
                 rw same
                 (w .0, crossed-other places k 3 (crosspointAt cross x y) apart ∙ w .1, w .2, w .3)
 
@@ -333,7 +333,7 @@ module _ {table : List ℕ} (r : Readable table) where
   abbrev pub Sendable : List ℕ → List (List ℕ) → (ℕ → ℕ) → ℕ → Type 0
   Sendable places cross f n = (i : ℕ) → i < n → f i < 1024
       → InTable table (f i)
-      × (f i / cellLimit ≡ i)
+      × (f i / sectionRoom ≡ i)
       × (crossedAt places (f i) ≡ false)
       × (1024 ≤ crosspointAt cross i (outputAt table (f i)))
 
@@ -349,7 +349,7 @@ module _ {table : List ℕ} (r : Readable table) where
 
     module _ {n : ℕ} (s : Sendable places cross f (suc n)) (small : f n < 1024) where
       -- those sent before are of other inputs
-      sent-other : (j : ℕ) → j < n → f j / cellLimit ≢ f n / cellLimit
+      sent-other : (j : ℕ) → j < n → f j / sectionRoom ≢ f n / sectionRoom
       sent-other j p e = far (either (ltb (f j) 1024))
         where
           far : (ltb (f j) 1024 ≡ true) ⊎ (ltb (f j) 1024 ≡ false) → ⊥
@@ -363,10 +363,10 @@ module _ {table : List ℕ} (r : Readable table) where
               omega arith
 
       -- so the crosspoint of the next is still empty
-      pub sent-empty : 1024 ≤ crosspointAt (sending table f n cross) (f n / cellLimit) (outputAt table (f n))
+      pub sent-empty : 1024 ≤ crosspointAt (sending table f n cross) (f n / sectionRoom) (outputAt table (f n))
       sent-empty =
           let w = s n (omega arith) small in
-          rw (sending-row table f cross square n (f n / cellLimit) (outputAt table (f n)) sent-other, w .1) (w .3)
+          rw (sending-row table f cross square n (f n / sectionRoom) (outputAt table (f n)) sent-other, w .1) (w .3)
 
     pub agrees-sending : (n : ℕ) → n ≤ 16 → Sendable places cross f n
         → Agrees table (written f 2 n places) (sending table f n cross)
@@ -377,7 +377,7 @@ module _ {table : List ℕ} (r : Readable table) where
         go : (ltb (f n) 1024 ≡ true) ⊎ (ltb (f n) 1024 ≡ false)
             → Agrees table (written f 2 n places) (sending table f n cross)
             → Agrees table (set (written f 2 n places) (f n) 2)
-            (put (sending table f n cross) (f n / cellLimit) (outputAt table (f n)) (f n))
+            (put (sending table f n cross) (f n / sectionRoom) (outputAt table (f n)) (f n))
         go (inl t) rec =
             agrees-send (written f 2 n places) (sending table f n cross) (length-now 2 n)
             (square-sending table f cross square n) rec
@@ -387,20 +387,20 @@ module _ {table : List ℕ} (r : Readable table) where
             small = ltb-true _ _ t
 
             w : InTable table (f n)
-                × (f n / cellLimit ≡ n)
+                × (f n / sectionRoom ≡ n)
                 × (crossedAt places (f n) ≡ false)
                 × (1024 ≤ crosspointAt cross n (outputAt table (f n)))
             w = s n (omega arith) small
 
             miss : hit f n (f n) ≡ false
-            miss = hit-miss f n (f n) (λ j p e. sent-other s small j p (ap (λ x. x / cellLimit) e))
+            miss = hit-miss f n (f n) (λ j p e. sent-other s small j p (ap (λ x. x / sectionRoom) e))
         go (inr t) rec =
             let past : 1024 ≤ f n = ltb-false _ _ t in
             let end : length (written f 2 n places) ≤ f n = (let b = length-now 2 n in omega arith) in
-            let beyond : 16 ≤ f n / cellLimit = omega arith in
+            let beyond : 16 ≤ f n / sectionRoom = omega arith in
             rw (
               set-out (written f 2 n places) (f n) 2 end,
-              put-nowhere (sending table f n cross) (square-sending table f cross square n) (f n / cellLimit) (outputAt table (f n)) (f n) beyond,
+              put-nowhere (sending table f n cross) (square-sending table f cross square n) (f n / sectionRoom) (outputAt table (f n)) (f n) beyond,
             )
             rec
 
@@ -412,9 +412,9 @@ module _ {table : List ℕ} (r : Readable table) where
       where
         go : (ltb (f n) 1024 ≡ true) ⊎ (ltb (f n) 1024 ≡ false)
             → Agrees table (written f 3 n places) (pulling f n cross)
-            → Agrees table (set (written f 3 n places) (f n) 3) (put (pulling f n cross) (f n / cellLimit) n nowhere)
+            → Agrees table (set (written f 3 n places) (f n) 3) (put (pulling f n cross) (f n / sectionRoom) n nowhere)
         go (inl t) rec =
-            subst (λ o. Agrees table (set (written f 3 n places) (f n) 3) (put (pulling f n cross) (f n / cellLimit) o nowhere))
+            subst (λ o. Agrees table (set (written f 3 n places) (f n) 3) (put (pulling f n cross) (f n / sectionRoom) o nowhere))
             (w .2)
             (agrees-pull (written f 3 n places) (pulling f n cross) (length-now 3 n) (square-pulling f cross square n) rec
             (w .0) (crossed-miss f 3 n places (f n) miss ∙ w .1))
@@ -432,9 +432,9 @@ module _ {table : List ℕ} (r : Readable table) where
         go (inr t) rec =
             let past : 1024 ≤ f n = ltb-false _ _ t in
             let end : length (written f 3 n places) ≤ f n = (let b = length-now 3 n in omega arith) in
-            let beyond : 16 ≤ f n / cellLimit = omega arith in
+            let beyond : 16 ≤ f n / sectionRoom = omega arith in
             rw (
               set-out (written f 3 n places) (f n) 3 end,
-              put-nowhere (pulling f n cross) (square-pulling f cross square n) (f n / cellLimit) n nowhere beyond,
+              put-nowhere (pulling f n cross) (square-pulling f cross square n) (f n / sectionRoom) n nowhere beyond,
             )
             rec

@@ -15,7 +15,7 @@ use lib.ListN.{length, set, length-map}
 use lib.Seq.{set-out}
 use Rattle.laws.specs.Lists.{upTo}
 use Rattle.laws.proofs.Tests.{either}
-use Rattle.cell.specs.Limits.{cellLimit}
+use Rattle.cell.specs.Limits.{sectionRoom}
 use Rattle.model.specs.State.{Entry, Switch}
 use Rattle.model.specs.Sound.{sound}
 use Rattle.model.specs.Phase.{Phase, numberFrom, numberSections, numbered, waiting, phase, placedBy, moved}
@@ -53,7 +53,7 @@ unfolding numberSections
 lengths-numbered p input [] = refl
 lengths-numbered p input (s ∷ ss) =
     ap₂ (λ x y. x ∷ y)
-    (length-map (numberFrom (cellLimit * input) s) (entryAfter p) ∙ length-number (cellLimit * input) s)
+    (length-map (numberFrom (sectionRoom * input) s) (entryAfter p) ∙ length-number (sectionRoom * input) s)
     (lengths-numbered p (input + 1) ss)
 
 lengths-moved : (p : Phase) (ss : List (List Entry)) → map length (moved p ss) ≡ map length ss
@@ -112,8 +112,8 @@ module _ (table : List ℕ) (good : IsTable table) where
   unfolding sectionsPlaced sectionPlaced
   lengths-placed places =
       lengths (sectionPlaced table places) (sectionPlaced table (placesIn table))
-      (λ i. length-numbers (entryPlaced table places) (cellLimit * i) (countIn table i)
-      ∙ sym (length-numbers (entryPlaced table (placesIn table)) (cellLimit * i) (countIn table i)))
+      (λ i. length-numbers (entryPlaced table places) (sectionRoom * i) (countIn table i)
+      ∙ sym (length-numbers (entryPlaced table (placesIn table)) (sectionRoom * i) (countIn table i)))
       (upTo (portsIn table))
       ∙ ap (map length) (own-sections table good)
 

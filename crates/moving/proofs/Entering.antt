@@ -13,7 +13,7 @@ use lib.Dec.{eqb, ltb}
 use lib.ListN.{length, getD, set, length-set}
 use lib.Seq.{getD-set-same, getD-set-other, set-getD}
 use Rattle.laws.proofs.Tests.{either}
-use Rattle.cell.specs.Limits.{cellLimit}
+use Rattle.cell.specs.Limits.{sectionRoom}
 use Rattle.cell.proofs.Order.{over-total}
 use Rattle.model.specs.Phase.{crosspoints}
 use Rattle.layout.specs.Entry.{entryAt, portsIn}
@@ -80,9 +80,9 @@ module _ {table : List ℕ} (r : Readable table) where
   -- a cell that is sent to its empty crosspoint
 
   module _ (places : List ℕ) (cross : List (List ℕ)) (square : Square cross) (a : Agrees table places cross) {k : ℕ}
-      (entry : InTable table k) (empty : 1024 ≤ crosspointAt cross (k / cellLimit) (outputAt table k)) where
+      (entry : InTable table k) (empty : 1024 ≤ crosspointAt cross (k / sectionRoom) (outputAt table k)) where
     abbrev i : ℕ
-    i = k / cellLimit
+    i = k / sectionRoom
 
     abbrev o : ℕ
     o = outputAt table k
@@ -130,7 +130,7 @@ module _ {table : List ℕ} (r : Readable table) where
         let w =
         agrees-real r places cross a (c .holder) o (omega (arith, c .early, r .ports)) (output-small r entry)
         (omega (arith, c .held, c .some)) in
-        entryAt-input table j ∙ ap (λ n. n / cellLimit) (sym (c .held)) ∙ w .2
+        entryAt-input table j ∙ ap (λ n. n / sectionRoom) (sym (c .held)) ∙ w .2
 
     ordered : (j : ℕ) → Crossed cross o ports j → Ordered table k j
     ordered j c =
@@ -187,7 +187,7 @@ module _ {table : List ℕ} (r : Readable table) where
       where
         go : (ltb (f n) 1024 ≡ true) ⊎ (ltb (f n) 1024 ≡ false)
             → BestOfEach table (sending table f n cross) (entering table f n best)
-            → BestOfEach table (put (sending table f n cross) (f n / cellLimit) (outputAt table (f n)) (f n))
+            → BestOfEach table (put (sending table f n cross) (f n / sectionRoom) (outputAt table (f n)) (f n))
             (entered table (entering table f n best) (f n))
         go (inl t) rec =
             best-entered (written f 2 n places) (sending table f n cross) (square-sending table f cross square n)
@@ -199,6 +199,6 @@ module _ {table : List ℕ} (r : Readable table) where
             let past : 1024 ≤ f n = ltb-false _ _ t in
             rw (
               entered-none table (entering table f n best) (f n) past,
-              put-nowhere (sending table f n cross) (square-sending table f cross square n) (f n / cellLimit) (outputAt table (f n)) (f n) (omega arith),
+              put-nowhere (sending table f n cross) (square-sending table f cross square n) (f n / sectionRoom) (outputAt table (f n)) (f n) (omega arith),
             )
             rec

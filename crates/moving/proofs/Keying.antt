@@ -8,7 +8,7 @@ use mathlib.Core.List.{List}
 use borrow.Author.Tests.{eqb-true, eqb-false, ltb-true, ltb-false, le-ltb}
 use lib.Dec.{eqb, ltb}
 use Rattle.laws.proofs.Tests.{either, cond-fail}
-use Rattle.cell.specs.Limits.{cellLimit}
+use Rattle.cell.specs.Limits.{sectionRoom}
 use Rattle.cell.specs.Order.{key}
 use Rattle.layout.specs.Entry.{entryAt}
 use Rattle.places.specs.Choices.{nowhere}
@@ -66,16 +66,16 @@ module _ (table : List ℕ) where
         o = entryAt table (f n) .cell .output
 
         go : (ltb (f n) nowhere ≡ true) ⊎ (ltb (f n) nowhere ≡ false) → Keyed table cross′ keys′
-            → Keyed table (put cross′ (f n / cellLimit) o (f n)) (put keys′ o (f n / cellLimit) (keyAt table (f n)))
+            → Keyed table (put cross′ (f n / sectionRoom) o (f n)) (put keys′ o (f n / sectionRoom) (keyAt table (f n)))
         go (inl t) rec =
             let small : f n < nowhere = ltb-true _ _ t in
-            keyed-put cross′ keys′ (square-sending table f cross square n) rec (f n / cellLimit) o (f n) (keyAt table (f n))
+            keyed-put cross′ keys′ (square-sending table f cross square n) rec (f n / sectionRoom) o (f n) (keyAt table (f n))
             (omega arith) (b n (omega arith) small) (λ z. keyAt table (f n))
         go (inr t) rec =
             let past : nowhere ≤ f n = ltb-false _ _ t in
             rw (
-              put-nowhere cross′ (square-sending table f cross square n) (f n / cellLimit) o (f n) (omega arith),
-              put-past keys′ (rec .square) o (f n / cellLimit) (keyAt table (f n)) (omega arith),
+              put-nowhere cross′ (square-sending table f cross square n) (f n / sectionRoom) o (f n) (omega arith),
+              put-past keys′ (rec .square) o (f n / sectionRoom) (keyAt table (f n)) (omega arith),
             )
             rec
 
@@ -91,15 +91,15 @@ module _ (table : List ℕ) where
         keys′ = unkeying f n keys
 
         go : (ltb (f n) nowhere ≡ true) ⊎ (ltb (f n) nowhere ≡ false) → Keyed table cross′ keys′
-            → Keyed table (put cross′ (f n / cellLimit) n nowhere) (put keys′ n (f n / cellLimit) noKey)
+            → Keyed table (put cross′ (f n / sectionRoom) n nowhere) (put keys′ n (f n / sectionRoom) noKey)
         go (inl t) rec =
             let small : f n < nowhere = ltb-true _ _ t in
-            keyed-put cross′ keys′ (square-pulling f cross square n) rec (f n / cellLimit) n nowhere noKey (omega arith)
+            keyed-put cross′ keys′ (square-pulling f cross square n) rec (f n / sectionRoom) n nowhere noKey (omega arith)
             (omega arith) (sym (keyAt-nowhere table))
         go (inr t) rec =
             let past : nowhere ≤ f n = ltb-false _ _ t in
             rw (
-              put-nowhere cross′ (square-pulling f cross square n) (f n / cellLimit) n nowhere (omega arith),
-              put-past keys′ (rec .square) n (f n / cellLimit) noKey (omega arith),
+              put-nowhere cross′ (square-pulling f cross square n) (f n / sectionRoom) n nowhere (omega arith),
+              put-past keys′ (rec .square) n (f n / sectionRoom) noKey (omega arith),
             )
             rec

@@ -3,7 +3,7 @@ use Prim.Native.Nat.{ℕ, _/_, _<_}
 use native.Mathlib.Omega.{arith}
 use mathlib.Core.Path.{_≡_, _∙_, ap}
 use mathlib.Core.List.{List, List·Memᴰ}
-use Rattle.cell.specs.Limits.{cellLimit}
+use Rattle.cell.specs.Limits.{sectionRoom}
 use Rattle.model.specs.State.{isCrossed}
 use Rattle.model.specs.Phase.{Waiting}
 use Rattle.layout.specs.Entry.{portsIn}
@@ -19,7 +19,7 @@ module _ {table : List ℕ} (r : Readable table) (places : List ℕ) where
     pub self : e ≡ waitingAt table places (e .at)
     pub entry : InTable table (e .at)
     pub small : e .at < nowhere
-    pub input : e .cell .input ≡ e .at / cellLimit
+    pub input : e .cell .input ≡ e .at / sectionRoom
     pub output : e .cell .output ≡ outputAt table (e .at)
     pub from : e .cell .input < portsIn table
     pub to : e .cell .output < portsIn table
@@ -28,7 +28,7 @@ module _ {table : List ℕ} (r : Readable table) (places : List ℕ) where
   pub known : {e : Waiting} → List·Memᴰ e (inTable table places) → Known e
   known {e} m =
       let w : (e ≡ waitingAt table places (e .at)) × InTable table (e .at) = inTable-e table places r m in
-      let i : e .cell .input ≡ e .at / cellLimit = ap (λ x. x .cell .input) (w .0) ∙ waitingAt-input table places (e .at) in
+      let i : e .cell .input ≡ e .at / sectionRoom = ap (λ x. x .cell .input) (w .0) ∙ waitingAt-input table places (e .at) in
       let o : e .cell .output ≡ outputAt table (e .at) =
       ap (λ x. x .cell .output) (w .0) ∙ ap (λ c. c .output) (waitingAt-cell table places (e .at)) in
       record {

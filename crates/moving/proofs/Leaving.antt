@@ -23,7 +23,7 @@ use Rattle.sets.proofs.Digits.{trailing-member}
 use Rattle.sets.proofs.Members.{has-setFrom, setFrom-lt, setFrom-ext, setOf-is, has-withoutOne, has-from}
 use Rattle.sets.proofs.Members.{first-before, first-trailing}
 use Rattle.cell.specs.Flow.{sameFlow}
-use Rattle.cell.specs.Limits.{cellLimit, portLimit}
+use Rattle.cell.specs.Limits.{sectionRoom, portLimit}
 use Rattle.cell.proofs.Flow.{flow-input, flow-sym, flow-trans}
 use Rattle.laws.proofs.Compared.{Compared, below, equal, above, compare}
 use Rattle.model.specs.State.{isListed}
@@ -213,10 +213,10 @@ module _ {table : List ℕ} (r : Readable table) (places : List ℕ) (size : len
   places′ = set places k v
 
   abbrev i : ℕ
-  i = k / cellLimit
+  i = k / sectionRoom
 
   abbrev x : ℕ
-  x = k % cellLimit
+  x = k % sectionRoom
 
   abbrev n : ℕ
   n = countIn table i
@@ -224,7 +224,7 @@ module _ {table : List ℕ} (r : Readable table) (places : List ℕ) (size : len
   port : i < portLimit
   port = omega (arith, entry .input, r .ports)
 
-  few : countIn table i ≤ cellLimit
+  few : countIn table i ≤ sectionRoom
   few = r .counts i port
 
   listed-other : (a : ℕ) → a ≢ k → listedAt places′ a ≡ listedAt places a
@@ -241,8 +241,8 @@ module _ {table : List ℕ} (r : Readable table) (places : List ℕ) (size : len
   fewer a t h = sym (listed-other a (stays a h)) ∙ h
 
   -- the entry with a position in the section
-  section-own : (j : ℕ) → j < n → InTable table (cellLimit * i + j)
-  section-own j l = section-entry r i (cellLimit * i + j) (entry .input) (omega arith) (omega arith)
+  section-own : (j : ℕ) → j < n → InTable table (sectionRoom * i + j)
+  section-own j l = section-entry r i (sectionRoom * i + j) (entry .input) (omega arith) (omega arith)
 
   ------------------------------------------------------------------------
   -- the lists
@@ -250,15 +250,15 @@ module _ {table : List ℕ} (r : Readable table) (places : List ℕ) (size : len
   listed-section : (input : ℕ) → input < portLimit → input ≢ i → listedSet table places′ input ≡ listedSet table places input
   unfolding listedSet
   listed-section input l d =
-      setFrom-ext (listedAt places′) (listedAt places) (cellLimit * input) (countIn table input) (λ j b.
-      listed-other (cellLimit * input + j) (λ e. d (omega (arith, r .counts input l))))
+      setFrom-ext (listedAt places′) (listedAt places) (sectionRoom * input) (countIn table input) (λ j b.
+      listed-other (sectionRoom * input + j) (λ e. d (omega (arith, r .counts input l))))
 
   listed-own : listedSet table places′ i ≡ withoutOne (listedSet table places i) x
   unfolding listedSet
   listed-own =
-      let at : cellLimit * i + x ≡ k = omega arith in
-      without-setFrom (listedAt places) (listedAt places′) (cellLimit * i) n x few
-      (λ j l d. listed-other (cellLimit * i + j) (λ e. d (omega arith)))
+      let at : sectionRoom * i + x ≡ k = omega arith in
+      without-setFrom (listedAt places) (listedAt places′) (sectionRoom * i) n x few
+      (λ j l d. listed-other (sectionRoom * i + j) (λ e. d (omega arith)))
       (ap (listedAt places′) at ∙ listed-gone)
 
   ------------------------------------------------------------------------
@@ -267,7 +267,7 @@ module _ {table : List ℕ} (r : Readable table) (places : List ℕ) (size : len
   abbrev isHeadIn : List ℕ → ℕ → Bool
   isHeadIn column m = isHead (inTable table column) (waitingAt table column m)
 
-  head-other : (m : ℕ) → m / cellLimit ≢ i → isHeadIn places′ m ≡ isHeadIn places m
+  head-other : (m : ℕ) → m / sectionRoom ≢ i → isHeadIn places′ m ≡ isHeadIn places m
   head-other m d =
       same (isHeadIn places′ m) (isHeadIn places m)
       (λ h.
@@ -276,22 +276,22 @@ module _ {table : List ℕ} (r : Readable table) (places : List ℕ) (size : len
       (record {
         in-list = sym (listed-other m far) ∙ g .in-list;
         first = λ a t l p. by-fail (flowsAt table a m) (λ s.
-            let near : a / cellLimit ≡ m / cellLimit =
+            let near : a / sectionRoom ≡ m / sectionRoom =
             sym (entryAt-input table a) ∙ flow-input (entryAt table a .cell) (entryAt table m .cell) s ∙ entryAt-input table m in
-            clash s (g .first a t l (listed-other a (λ e. d (sym near ∙ ap (λ y. y / cellLimit) e)) ∙ p)));
+            clash s (g .first a t l (listed-other a (λ e. d (sym near ∙ ap (λ y. y / sectionRoom) e)) ∙ p)));
       }))
       (λ h.
       let g : HeadAt table places m = head-e r places m h in
       head-i r places′ m (head-fewer fewer (listed-other m far ∙ g .in-list) g))
     where
       far : m ≢ k
-      far e = d (ap (λ y. y / cellLimit) e)
+      far e = d (ap (λ y. y / sectionRoom) e)
 
   heads-section : (input : ℕ) → input < portLimit → input ≢ i → headSet table places′ input ≡ headSet table places input
   unfolding headSet
   heads-section input l d =
-      setFrom-ext (isHeadIn places′) (isHeadIn places) (cellLimit * input) (countIn table input) (λ j b.
-      head-other (cellLimit * input + j) (λ e. d (omega (arith, r .counts input l))))
+      setFrom-ext (isHeadIn places′) (isHeadIn places) (sectionRoom * input) (countIn table input) (λ j b.
+      head-other (sectionRoom * input + j) (λ e. d (omega (arith, r .counts input l))))
 
   ------------------------------------------------------------------------
   -- the heads of its own
@@ -309,27 +309,27 @@ module _ {table : List ℕ} (r : Readable table) (places : List ℕ) (size : len
   next = nextOf list x
 
   abbrev at : ℕ → ℕ
-  at j = cellLimit * i + j
+  at j = sectionRoom * i + j
 
   list-e : (j : ℕ) → has list j ≡ true → (j < n) × (listedAt places (at j) ≡ true)
   unfolding listedSet
-  list-e j h = run-member (listedAt places) (cellLimit * i) n j h
+  list-e j h = run-member (listedAt places) (sectionRoom * i) n j h
 
   list-i : (j : ℕ) → j < n → listedAt places (at j) ≡ true → has list j ≡ true
   unfolding listedSet
-  list-i j l h = member-run (listedAt places) (cellLimit * i) n j l h
+  list-i j l h = member-run (listedAt places) (sectionRoom * i) n j l h
 
   -- a cell of the section by its position
-  position : (a : ℕ) → InTable table a → a / cellLimit ≡ i → (a ≡ at (a % cellLimit)) × (a % cellLimit < n)
+  position : (a : ℕ) → InTable table a → a / sectionRoom ≡ i → (a ≡ at (a % sectionRoom)) × (a % sectionRoom < n)
   position a t e =
-      let b : a < cellLimit * i + n = subst (λ y. a < cellLimit * y + countIn table y) e (t .position) in
+      let b : a < sectionRoom * i + n = subst (λ y. a < sectionRoom * y + countIn table y) e (t .position) in
       (omega arith, omega arith)
 
-  section-flow : (a m : ℕ) → m / cellLimit ≡ i → flowsAt table a m ≡ true → a / cellLimit ≡ i
+  section-flow : (a m : ℕ) → m / sectionRoom ≡ i → flowsAt table a m ≡ true → a / sectionRoom ≡ i
   section-flow a m e s =
       sym (entryAt-input table a) ∙ flow-input (entryAt table a .cell) (entryAt table m .cell) s ∙ entryAt-input table m ∙ e
 
-  own : (j : ℕ) → j < n → at j / cellLimit ≡ i
+  own : (j : ℕ) → j < n → at j / sectionRoom ≡ i
   own j l = omega (arith, few)
 
   -- the follower is of its flow
@@ -392,8 +392,8 @@ module _ {table : List ℕ} (r : Readable table) (places : List ℕ) (size : len
           go s (above c) =
               let q = position a t (section-flow a (at next) (own next (inside .0)) s) in
               clash
-              (list-i (a % cellLimit) (q .1) (ap (listedAt places) (sym (q .0)) ∙ fewer a t p))
-              (next-none list x (a % cellLimit) (omega (arith, q .0)) (omega (arith, q .0)) (omega arith))
+              (list-i (a % sectionRoom) (q .1) (ap (listedAt places) (sym (q .0)) ∙ fewer a t p))
+              (next-none list x (a % sectionRoom) (omega (arith, q .0)) (omega (arith, q .0)) (omega arith))
 
   -- a head that was none is the follower
   new-head : (j : ℕ) → j < n → HeadAt table places′ (at j) → k < at j → flowsAt table k (at j) ≡ true → (next ≡ j) × Follows
@@ -446,7 +446,7 @@ module _ {table : List ℕ} (r : Readable table) (places : List ℕ) (size : len
   unfolding headSet
   others-e j l h =
       let b : (has heads-in j && not (eqb j x)) ≡ true = sym (has-withoutOne heads-in x j l) ∙ h in
-      let c = run-member (isHeadIn places) (cellLimit * i) n j (and-l (has heads-in j) (not (eqb j x)) b) in
+      let c = run-member (isHeadIn places) (sectionRoom * i) n j (and-l (has heads-in j) (not (eqb j x)) b) in
       (c .0, head-stays j (c .0) (eqb-false j x (not-e (eqb j x) (and-r (has heads-in j) (not (eqb j x)) b))) (head-e r places (at j) (c .1)))
 
   others-i : (j : ℕ) → j < n → HeadAt table places′ (at j) → HeadAt table places (at j) → has others j ≡ true
@@ -454,7 +454,7 @@ module _ {table : List ℕ} (r : Readable table) (places : List ℕ) (size : len
   others-i j l g h =
       has-withoutOne heads-in x j (omega (arith, few))
       ∙ and-i (has heads-in j) (not (eqb j x))
-      (member-run (isHeadIn places) (cellLimit * i) n j l (head-i r places (at j) h))
+      (member-run (isHeadIn places) (sectionRoom * i) n j l (head-i r places (at j) h))
       (not-i (eqb j x) (ne-eqb j x (λ e. stays (at j) (g .in-list) (omega arith))))
 
   -- a head after it left was one before, or is the follower
@@ -483,16 +483,16 @@ module _ {table : List ℕ} (r : Readable table) (places : List ℕ) (size : len
   new-e : (j : ℕ) → has (headSet table places′ i) j ≡ true → (j < n) × HeadAt table places′ (at j)
   unfolding headSet
   new-e j h =
-      let c = run-member (isHeadIn places′) (cellLimit * i) n j h in
+      let c = run-member (isHeadIn places′) (sectionRoom * i) n j h in
       (c .0, head-e r places′ (at j) (c .1))
 
   new-i : (j : ℕ) → j < n → HeadAt table places′ (at j) → has (headSet table places′ i) j ≡ true
   unfolding headSet
-  new-i j l g = member-run (isHeadIn places′) (cellLimit * i) n j l (head-i r places′ (at j) g)
+  new-i j l g = member-run (isHeadIn places′) (sectionRoom * i) n j l (head-i r places′ (at j) g)
 
   new-fits : headSet table places′ i < 2 ^ positions
   unfolding headSet
-  new-fits = fits (isHeadIn places′) (cellLimit * i) n few
+  new-fits = fits (isHeadIn places′) (sectionRoom * i) n few
 
   next-inside : next < positions → next < n
   next-inside l = list-e next (next-behind list x l .0) .0
@@ -684,11 +684,11 @@ module _ {table : List ℕ} (r : Readable table) where
           heads-size = l .heads-size;
           listed-at = λ input b.
               l .listed-at input b
-              ∙ setFrom-ext (listedAt places) (listedAt places′) (cellLimit * input) (countIn table input) (λ j c.
-              sym (stay (cellLimit * input + j) (omega (arith, r .counts input b))));
+              ∙ setFrom-ext (listedAt places) (listedAt places′) (sectionRoom * input) (countIn table input) (λ j c.
+              sym (stay (sectionRoom * input + j) (omega (arith, r .counts input b))));
           heads-at = λ input b.
               l .heads-at input b
               ∙ setFrom-ext (λ m. isHead (inTable table places) (waitingAt table places m))
-              (λ m. isHead (inTable table places′) (waitingAt table places′ m)) (cellLimit * input) (countIn table input)
-              (λ j c. sym (same-head (cellLimit * input + j) (omega (arith, r .counts input b))));
+              (λ m. isHead (inTable table places′) (waitingAt table places′ m)) (sectionRoom * input) (countIn table input)
+              (λ j c. sym (same-head (sectionRoom * input + j) (omega (arith, r .counts input b))));
         }

@@ -15,7 +15,7 @@ use lib.ListN.{length, getD, replicate}
 use Rattle.laws.proofs.Tests.{either, clash, by-fail}
 use Rattle.laws.specs.Lists.{keep, none?, all?, least, first?}
 use Rattle.laws.proofs.Lists.{none?-i, all?-i, keep-comm, keep-all, mem-keep-passes}
-use Rattle.cell.specs.Limits.{cellLimit, portLimit}
+use Rattle.cell.specs.Limits.{sectionRoom, portLimit}
 use Rattle.model.specs.State.{crossed, buffered, isListed, isCrossed, isBuffered}
 use Rattle.model.specs.Phase.{Waiting, phase, beats, sameInput, sameOutput, pulled, among, placeSent, placeAfter}
 use Rattle.model.specs.Phase.{crosspoints}
@@ -188,29 +188,29 @@ module _ {table : List ℕ} (good : IsTable table) {listed heads : List ℕ} {cr
     straight-length : length places₁ ≡ 1024
     straight-length = length-placesIn table₁
 
-    input-mark : (i : ℕ) → i < portLimit → getD inputs i false ≡ hit (λ x. F x / cellLimit) portLimit i
-    input-mark i l = ap (λ m. getD m i false) (s .from-inputs) ∙ marked (λ x. F x / cellLimit) portLimit i l
+    input-mark : (i : ℕ) → i < portLimit → getD inputs i false ≡ hit (λ x. F x / sectionRoom) portLimit i
+    input-mark i l = ap (λ m. getD m i false) (s .from-inputs) ∙ marked (λ x. F x / sectionRoom) portLimit i l
 
     output-mark : (x : ℕ) → x < portLimit → getD outputs x false ≡ hit (λ y. markOf (F y) y) portLimit x
     output-mark x l = ap (λ m. getD m x false) (s .to-outputs) ∙ marked (λ y. markOf (F y) y) portLimit x l
 
     input-marked : (i : ℕ) → i < portLimit → getD inputs i false ≡ true → StraightBy inputOf i
     unfolding StraightBy
-    input-marked i l h = go (hit-e (λ x. F x / cellLimit) portLimit i (sym (input-mark i l) ∙ h))
+    input-marked i l h = go (hit-e (λ x. F x / sectionRoom) portLimit i (sym (input-mark i l) ∙ h))
       where
-        go : Hit (λ x. F x / cellLimit) portLimit i → StraightBy inputOf i
+        go : Hit (λ x. F x / sectionRoom) portLimit i → StraightBy inputOf i
         go (x, b, q) =
             let w = straight-cell x b (omega arith) in
             let k : Known r places (w .0) = known r places (straight-all all (w .1)) in
-            (w .0, w .1, k .input ∙ ap (λ n. n / cellLimit) (sym (w .3)) ∙ q)
+            (w .0, w .1, k .input ∙ ap (λ n. n / sectionRoom) (sym (w .3)) ∙ q)
 
     input-unmarked : (i : ℕ) → i < portLimit → getD inputs i false ≡ false → StraightBy inputOf i → ⊥
     unfolding StraightBy
     input-unmarked i l h (e, m, k) =
         let n : Known r places e = known r places (straight-all all m) in
         clash
-        (hit-i (λ x. F x / cellLimit) portLimit (outputOf e) (omega (arith, n .to, ports))
-        (ap (λ x. x / cellLimit) (straight-number m) ∙ sym (n .input) ∙ k))
+        (hit-i (λ x. F x / sectionRoom) portLimit (outputOf e) (omega (arith, n .to, ports))
+        (ap (λ x. x / sectionRoom) (straight-number m) ∙ sym (n .input) ∙ k))
         (sym (input-mark i l) ∙ h)
 
     output-marked : (x : ℕ) → x < portLimit → getD outputs x false ≡ true → StraightBy outputOf x
@@ -377,7 +377,7 @@ module _ {table : List ℕ} (good : IsTable table) {listed heads : List ℕ} {cr
             let v = straight-cell x b (omega arith) in
             let same : w .0 .cell .input ≡ v .0 .cell .input =
             known r places (sent-all all (w .1)) .input
-            ∙ ap (λ n. n / cellLimit) (sym (w .3) ∙ sym q ∙ v .3)
+            ∙ ap (λ n. n / sectionRoom) (sym (w .3) ∙ sym q ∙ v .3)
             ∙ sym (known r places (straight-all all (v .1)) .input) in
             clash (input-i (w .0) (v .0) same) (sent-free all (w .1) (v .1)))
 
@@ -393,7 +393,7 @@ module _ {table : List ℕ} (good : IsTable table) {listed heads : List ℕ} {cr
               let w = send-cell i l h in
               head-fewer straight-fewer (send-listed i l h)
               (subst (HeadAt table places) (sym (w .3)) (firsts-head r places (scheduled-head all (sent-scheduled all (w .1)))));
-          other = λ a b l m h e. omega (arith, sendable a (omega arith) (omega arith) .1, sendable b m h .1, ap (λ n. n / cellLimit) e);
+          other = λ a b l m h e. omega (arith, sendable a (omega arith) (omega arith) .1, sendable b m h .1, ap (λ n. n / sectionRoom) e);
         }
 
     straight-lists : ListsOf table places₁ listed₁ heads₁

@@ -6,7 +6,7 @@ use mathlib.Core.List.{List, [], _∷_, _++_, map, map-append, flatten, List·Me
 use lib.ListN.{getD}
 use Rattle.laws.specs.Lists.{numbersFrom, upTo}
 use Rattle.laws.proofs.Numbers.{mem-numbersFrom}
-use Rattle.cell.specs.Limits.{cellLimit}
+use Rattle.cell.specs.Limits.{sectionRoom}
 use Rattle.model.specs.Phase.{Waiting, Phase, placeAfter}
 use Rattle.model.specs.Slackness.{relocate, relocated}
 use Rattle.layout.specs.Entry.{entryAt, portsIn, countIn}
@@ -30,11 +30,11 @@ module _ {A B C : Type 0} (f : B → C) (g : A → List C) (h : A → List B) wh
 
 module _ {table : List ℕ} (r : Readable table) where
   -- a number in the section of an input is an entry's
-  pub section-entry : (i k : ℕ) → i < portsIn table → cellLimit * i ≤ k → k < cellLimit * i + countIn table i
+  pub section-entry : (i k : ℕ) → i < portsIn table → sectionRoom * i ≤ k → k < sectionRoom * i + countIn table i
       → InTable table k
   section-entry i k p a b =
-      let small : countIn table i ≤ cellLimit = r .counts i (omega (arith, r .ports)) in
-      let same : i ≡ k / cellLimit = omega arith in
+      let small : countIn table i ≤ sectionRoom = r .counts i (omega (arith, r .ports)) in
+      let same : i ≡ k / sectionRoom = omega arith in
       record { input = rw (← same) p; position = rw (← same) b }
 
   pub inTable-relocated : (p : Phase) (places places′ : List ℕ)
@@ -44,14 +44,14 @@ module _ {table : List ℕ} (r : Readable table) where
   inTable-relocated p places places′ after =
       flatten-through (relocate p) (section places′) (section places) (upTo (portsIn table)) (λ i m.
       map-through (relocate p) (waitingAt table places′) (waitingAt table places)
-      (numbersFrom (cellLimit * i) (countIn table i)) (λ k j.
-      one k (entry i k (mem-numbersFrom 0 (portsIn table) m) (mem-numbersFrom (cellLimit * i) (countIn table i) j))))
+      (numbersFrom (sectionRoom * i) (countIn table i)) (λ k j.
+      one k (entry i k (mem-numbersFrom 0 (portsIn table) m) (mem-numbersFrom (sectionRoom * i) (countIn table i) j))))
     where
       section : List ℕ → ℕ → List Waiting
       section l i = window table l i (countIn table i)
 
       entry : (i k : ℕ) → (0 ≤ i) × (i < 0 + portsIn table)
-          → (cellLimit * i ≤ k) × (k < cellLimit * i + countIn table i) → InTable table k
+          → (sectionRoom * i ≤ k) × (k < sectionRoom * i + countIn table i) → InTable table k
       entry i k a b = section-entry i k (omega arith) (b .0) (b .1)
 
       one : (k : ℕ) → InTable table k → waitingAt table places′ k ≡ relocate p (waitingAt table places k)

@@ -7,7 +7,7 @@ use mathlib.Core.Bool.{Bool, true, false}
 use mathlib.Core.Path.{_≡_, refl, sym, _∙_, ap, ap₂, subst}
 use mathlib.Core.List.{List}
 use lib.ListN.{length, set, replicate, length-set}
-use Rattle.cell.specs.Limits.{cellLimit, portLimit}
+use Rattle.cell.specs.Limits.{sectionRoom, portLimit}
 use Rattle.layout.specs.Entry.{entryAt}
 use Rattle.layout.specs.Table.{tableSize}
 use Rattle.places.specs.Choices.{nowhere}
@@ -59,14 +59,14 @@ module _ (f : ℕ → ℕ) where
   length-leaving : (n : ℕ) (listed : List ℕ) → length (leaving f n listed) ≡ length listed
   unfolding leaving left
   length-leaving zero listed = refl
-  length-leaving (suc n) listed = length-set (leaving f n listed) (f n / cellLimit) _ ∙ length-leaving n listed
+  length-leaving (suc n) listed = length-set (leaving f n listed) (f n / sectionRoom) _ ∙ length-leaving n listed
 
   length-leavingHeads : (n : ℕ) (table listed heads : List ℕ)
       → length (leavingHeads table f n listed heads) ≡ length heads
   unfolding leavingHeads leftHeads
   length-leavingHeads zero table listed heads = refl
   length-leavingHeads (suc n) table listed heads =
-      length-set (leavingHeads table f n listed heads) (f n / cellLimit) _ ∙ length-leavingHeads n table listed heads
+      length-set (leavingHeads table f n listed heads) (f n / sectionRoom) _ ∙ length-leavingHeads n table listed heads
 
   leaving-more : (n : ℕ) (listed : List ℕ) {listed′ listed″ : List ℕ} {k : ℕ} → listed′ ≡ leaving f n listed → k ≡ f n
       → listed″ ≡ left listed′ k → listed″ ≡ leaving f (n + 1) listed
@@ -117,8 +117,8 @@ module _ {f : ℕ → ℕ} {n : ℕ} {table table′ listed listed′ heads head
         list-heads = heads-more f n kept-straightened e listed heads (s .lists) (s .list-heads) (p .left-heads);
         bests = entering-more f n kept-straightened e best (s .bests) (p .best-in);
         from-inputs =
-            written-more (λ o. f o / cellLimit) true n (replicate portLimit false) (s .from-inputs)
-            (ap (λ x. x / cellLimit) e) (p .from-input);
+            written-more (λ o. f o / sectionRoom) true n (replicate portLimit false) (s .from-inputs)
+            (ap (λ x. x / sectionRoom) e) (p .from-input);
         to-outputs =
             written-more (λ o. markOf (f o) o) true n (replicate portLimit false) (s .to-outputs)
             (ap (λ x. markOf x n) e) (p .to-output);
@@ -134,7 +134,7 @@ module _ {f : ℕ → ℕ} {n : ℕ} {table table′ listed listed′ heads head
   length-straight-best = ap length (s .bests) ∙ length-entering table f n best
 
   pub length-inputs : length inputs ≡ portLimit
-  length-inputs = ap length (s .from-inputs) ∙ length-written (λ o. f o / cellLimit) true n (replicate portLimit false)
+  length-inputs = ap length (s .from-inputs) ∙ length-written (λ o. f o / sectionRoom) true n (replicate portLimit false)
 
   pub length-outputs : length outputs ≡ portLimit
   length-outputs = ap length (s .to-outputs) ∙ length-written (λ o. markOf (f o) o) true n (replicate portLimit false)
@@ -148,7 +148,7 @@ unfolding keying
 square-keying table f keys h zero = h
 square-keying table f keys h (suc n) =
     square-put (keying table f n keys) (square-keying table f keys h n) (entryAt table (f n) .cell .output)
-    (f n / cellLimit) (keyAt table (f n))
+    (f n / sectionRoom) (keyAt table (f n))
 
 pub sent-none : (f : ℕ → ℕ) (table listed heads : List ℕ) (cross keys : List (List ℕ)) (best : List ℕ)
     → Sent f 0 table table listed listed heads heads cross cross keys keys best best
@@ -169,21 +169,21 @@ module _ {f : ℕ → ℕ} {n : ℕ} {table table′ listed listed′ heads head
   kept-sent = kept-by f 2 n (s .to-crosspoints)
 
   sending-more : {k : ℕ} {cross″ : List (List ℕ)} → k ≡ f n
-      → cross″ ≡ put cross′ (k / cellLimit) (entryAt table′ k .cell .output) k → cross″ ≡ sending table f (n + 1) cross
+      → cross″ ≡ put cross′ (k / sectionRoom) (entryAt table′ k .cell .output) k → cross″ ≡ sending table f (n + 1) cross
   unfolding sending
   sending-more {k} e q =
       rw (add-one n, ← s .filled, ← e)
-      (q ∙ ap (λ c. put cross′ (k / cellLimit) (c .output) k) (kept-sent .cells k))
+      (q ∙ ap (λ c. put cross′ (k / sectionRoom) (c .output) k) (kept-sent .cells k))
 
   keying-more : {k : ℕ} {keys″ : List (List ℕ)} → k ≡ f n
-      → keys″ ≡ put keys′ (entryAt table′ k .cell .output) (k / cellLimit) (keyAt table′ k)
+      → keys″ ≡ put keys′ (entryAt table′ k .cell .output) (k / sectionRoom) (keyAt table′ k)
       → keys″ ≡ keying table f (n + 1) keys
   unfolding keying
   keying-more {k} e q =
       rw (add-one n, ← s .keyed, ← e)
       (q
-      ∙ ap (λ c. put keys′ (c .output) (k / cellLimit) (keyAt table′ k)) (kept-sent .cells k)
-      ∙ ap (put keys′ (entryAt table k .cell .output) (k / cellLimit)) (keyAt-kept kept-sent k))
+      ∙ ap (λ c. put keys′ (c .output) (k / sectionRoom) (keyAt table′ k)) (kept-sent .cells k)
+      ∙ ap (put keys′ (entryAt table k .cell .output) (k / sectionRoom)) (keyAt-kept kept-sent k))
 
   pub sent-more : {k : ℕ} {table″ listed″ heads″ : List ℕ} {cross″ keys″ : List (List ℕ)} {best″ : List ℕ} → k ≡ f n
       → Crossed table′ k table″ listed′ listed″ heads′ heads″ cross′ cross″ keys′ keys″ best′ best″
@@ -220,7 +220,7 @@ square-unkeying : (f : ℕ → ℕ) (keys : List (List ℕ)) → Square keys →
 unfolding unkeying
 square-unkeying f keys h zero = h
 square-unkeying f keys h (suc n) =
-    square-put (unkeying f n keys) (square-unkeying f keys h n) n (f n / cellLimit) noKey
+    square-put (unkeying f n keys) (square-unkeying f keys h n) n (f n / sectionRoom) noKey
 
 pub pulled-none : (f : ℕ → ℕ) (table : List ℕ) (cross keys : List (List ℕ)) (best : List ℕ)
     → Pulled f 0 table table cross cross keys keys best best
@@ -232,12 +232,12 @@ module _ {f : ℕ → ℕ} {n : ℕ} {table table′ : List ℕ} {cross cross′
   pub kept-pulled : Kept table table′
   kept-pulled = kept-by f 3 n (s .to-buffers)
 
-  pulling-more : {k : ℕ} {cross″ : List (List ℕ)} → k ≡ f n → cross″ ≡ put cross′ (k / cellLimit) n nowhere
+  pulling-more : {k : ℕ} {cross″ : List (List ℕ)} → k ≡ f n → cross″ ≡ put cross′ (k / sectionRoom) n nowhere
       → cross″ ≡ pulling f (n + 1) cross
   unfolding pulling
   pulling-more e q = rw (add-one n, ← s .emptied, ← e) q
 
-  unkeying-more : {k : ℕ} {keys″ : List (List ℕ)} → k ≡ f n → keys″ ≡ put keys′ n (k / cellLimit) noKey
+  unkeying-more : {k : ℕ} {keys″ : List (List ℕ)} → k ≡ f n → keys″ ≡ put keys′ n (k / sectionRoom) noKey
       → keys″ ≡ unkeying f (n + 1) keys
   unfolding unkeying
   unkeying-more e q = rw (add-one n, ← s .unkeyed, ← e) q
@@ -277,15 +277,15 @@ module _ {old new : List ℕ} (kept : Kept old new) (f : ℕ → ℕ) where
   unfolding sending
   sending-kept zero cross = refl
   sending-kept (suc n) cross =
-      ap (λ c. put (sending new f n cross) (f n / cellLimit) (c .output) (f n)) (kept .cells (f n))
-      ∙ ap (λ x. put x (f n / cellLimit) (entryAt old (f n) .cell .output) (f n)) (sending-kept n cross)
+      ap (λ c. put (sending new f n cross) (f n / sectionRoom) (c .output) (f n)) (kept .cells (f n))
+      ∙ ap (λ x. put x (f n / sectionRoom) (entryAt old (f n) .cell .output) (f n)) (sending-kept n cross)
 
   pub keying-kept : (n : ℕ) (keys : List (List ℕ)) → keying new f n keys ≡ keying old f n keys
   unfolding keying
   keying-kept zero keys = refl
   keying-kept (suc n) keys =
-      ap (λ c. put (keying new f n keys) (c .output) (f n / cellLimit) (keyAt new (f n))) (kept .cells (f n))
-      ∙ ap₂ (λ x y. put x (entryAt old (f n) .cell .output) (f n / cellLimit) y) (keying-kept n keys) (keyAt-kept kept (f n))
+      ap (λ c. put (keying new f n keys) (c .output) (f n / sectionRoom) (keyAt new (f n))) (kept .cells (f n))
+      ∙ ap₂ (λ x y. put x (entryAt old (f n) .cell .output) (f n / sectionRoom) y) (keying-kept n keys) (keyAt-kept kept (f n))
 
   pub entering-kept : (n : ℕ) (best : List ℕ) → entering new f n best ≡ entering old f n best
   unfolding entering

@@ -12,7 +12,7 @@ use lib.Dec.{ltb, leb, eqb}
 use lib.ListN.{getD}
 use Rattle.laws.proofs.Tests.{or-l, or-r, or-false, and-false-l, cond-pass, cond-fail}
 use Rattle.sets.specs.Sets.{positions, withOne, withoutOne, from, firstOf}
-use Rattle.cell.specs.Limits.{cellLimit, portLimit}
+use Rattle.cell.specs.Limits.{sectionRoom, portLimit}
 use Rattle.layout.specs.Entry.{entryAt}
 use Rattle.table.specs.Entries.{flowWord}
 use Rattle.places.specs.Choices.{nowhere}
@@ -24,7 +24,7 @@ module _ (scheduled held : List ℕ) (output : ℕ) where
   number = getD held output 0
 
   abbrev own : ℕ
-  own = getD scheduled (number / cellLimit) 0
+  own = getD scheduled (number / sectionRoom) 0
 
   pub straight-free : nowhere ≤ number → nowhere ≡ straightTo scheduled held output
   unfolding straightTo
@@ -68,13 +68,13 @@ module _ (straight : List Bool) (best : List ℕ) (output : ℕ) where
 
 module _ (table : List ℕ) (list heads k : ℕ) where
   abbrev others : ℕ
-  others = withoutOne heads (k % cellLimit)
+  others = withoutOne heads (k % sectionRoom)
 
   abbrev next : ℕ
-  next = nextOf list (k % cellLimit)
+  next = nextOf list (k % sectionRoom)
 
   abbrev follower : ℕ
-  follower = flowWord (entryAt table (cellLimit * (k / cellLimit) + next) .cell)
+  follower = flowWord (entryAt table (sectionRoom * (k / sectionRoom) + next) .cell)
 
   abbrev leaver : ℕ
   leaver = flowWord (entryAt table k .cell)

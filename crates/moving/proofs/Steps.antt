@@ -9,7 +9,7 @@ use lib.Dec.{ltb}
 use lib.ListN.{length, getD, set}
 use lib.Seq.{set-out}
 use Rattle.laws.proofs.Tests.{cond-pass}
-use Rattle.cell.specs.Limits.{cellLimit}
+use Rattle.cell.specs.Limits.{sectionRoom}
 use Rattle.cell.specs.Order.{key}
 use Rattle.layout.specs.Entry.{entryAt}
 use Rattle.layout.specs.Table.{tableSize}
@@ -28,11 +28,11 @@ use Rattle.moving.proofs.Rules.{mark-none}
 module _ (k : ℕ) (none : nowhere ≤ k) where
   pub left-none : (listed : List ℕ) → length listed ≡ 16 → left listed k ≡ listed
   unfolding left
-  left-none listed size = set-out listed (k / cellLimit) _ (omega arith)
+  left-none listed size = set-out listed (k / sectionRoom) _ (omega arith)
 
   pub leftHeads-none : (table listed heads : List ℕ) → length heads ≡ 16 → leftHeads table listed heads k ≡ heads
   unfolding leftHeads
-  leftHeads-none table listed heads size = set-out heads (k / cellLimit) _ (omega arith)
+  leftHeads-none table listed heads size = set-out heads (k / sectionRoom) _ (omega arith)
 
   mark-past : (marks : List Bool) (output : ℕ) → length marks ≡ 16 → set marks (markOf k output) true ≡ marks
   mark-past marks output size =
@@ -48,7 +48,7 @@ module _ (k : ℕ) (none : nowhere ≤ k) where
           left-list = sym (left-none listed l);
           left-heads = sym (leftHeads-none table listed heads h);
           best-in = sym (entered-none table best k none);
-          from-input = sym (set-out inputs (k / cellLimit) true (omega arith));
+          from-input = sym (set-out inputs (k / sectionRoom) true (omega arith));
           to-output = sym (mark-past outputs output o);
         }
 
@@ -60,8 +60,8 @@ module _ (k : ℕ) (none : nowhere ≤ k) where
             to-crosspoint = sym (placed-past table k 2 size none);
             left-list = sym (left-none listed l);
             left-heads = sym (leftHeads-none table listed heads h);
-            filled = sym (put-nowhere cross square (k / cellLimit) _ k (omega arith));
-            keyed = sym (put-past keys keyed _ (k / cellLimit) (keyAt table k) (omega arith));
+            filled = sym (put-nowhere cross square (k / sectionRoom) _ k (omega arith));
+            keyed = sym (put-past keys keyed _ (k / sectionRoom) (keyAt table k) (omega arith));
             best-in = sym (entered-none table best k none);
           }
 
@@ -69,8 +69,8 @@ module _ (k : ℕ) (none : nowhere ≤ k) where
       taken-none output =
           record {
             to-buffer = sym (placed-past table k 3 size none);
-            emptied = sym (put-nowhere cross square (k / cellLimit) output nowhere (omega arith));
-            unkeyed = sym (put-past keys keyed output (k / cellLimit) noKey (omega arith));
+            emptied = sym (put-nowhere cross square (k / sectionRoom) output nowhere (omega arith));
+            unkeyed = sym (put-past keys keyed output (k / sectionRoom) noKey (omega arith));
             best-in = sym (entered-none table best k none);
           }
 

@@ -16,7 +16,7 @@ use lib.Dec.{ltb, leb, eqb}
 use lib.ListN.{getD, set, replicate}
 use Rattle.laws.specs.Lists.{first?}
 use Rattle.sets.specs.Sets.{positions, withOne, withoutOne, from, firstOf}
-use Rattle.cell.specs.Limits.{cellLimit, portLimit}
+use Rattle.cell.specs.Limits.{sectionRoom, portLimit}
 use Rattle.model.specs.Phase.{Phase}
 use Rattle.layout.specs.Entry.{entryAt}
 use Rattle.layout.specs.Records.{recordStart}
@@ -43,7 +43,7 @@ placing f place n table = written (λ i. placeAt (f i)) place n table
 -- lists
 
 unfoldable pub left : List ℕ → ℕ → List ℕ
-left listed k = set listed (k / cellLimit) (withoutOne (getD listed (k / cellLimit) 0) (k % cellLimit))
+left listed k = set listed (k / sectionRoom) (withoutOne (getD listed (k / sectionRoom) 0) (k % sectionRoom))
 
 -- the position behind j in a list
 unfoldable pub nextOf : ℕ → ℕ → ℕ
@@ -52,17 +52,17 @@ nextOf list j = firstOf (from (withoutOne list j) j)
 -- the heads of a list that a head leaves: the next cell of the list is one, if it is of that head's flow
 unfoldable pub headsLeft : List ℕ → ℕ → ℕ → ℕ → ℕ
 headsLeft table list heads k =
-    let others = withoutOne heads (k % cellLimit) in
-    let next = nextOf list (k % cellLimit) in
+    let others = withoutOne heads (k % sectionRoom) in
+    let next = nextOf list (k % sectionRoom) in
     cond
     (ltb next positions
-    && eqb (flowWord (entryAt table (cellLimit * (k / cellLimit) + next) .cell)) (flowWord (entryAt table k .cell)))
+    && eqb (flowWord (entryAt table (sectionRoom * (k / sectionRoom) + next) .cell)) (flowWord (entryAt table k .cell)))
     (withOne others next)
     others
 
 unfoldable pub leftHeads : List ℕ → List ℕ → List ℕ → ℕ → List ℕ
 leftHeads table listed heads k =
-    set heads (k / cellLimit) (headsLeft table (getD listed (k / cellLimit) 0) (getD heads (k / cellLimit) 0) k)
+    set heads (k / sectionRoom) (headsLeft table (getD listed (k / sectionRoom) 0) (getD heads (k / sectionRoom) 0) k)
 
 unfoldable pub leaving : (ℕ → ℕ) → ℕ → List ℕ → List ℕ
 leaving f zero listed = listed
@@ -81,20 +81,20 @@ put cross input output k = set cross input (set (getD cross input []) output k)
 
 unfoldable pub sending : List ℕ → (ℕ → ℕ) → ℕ → List (List ℕ) → List (List ℕ)
 sending table f zero cross = cross
-sending table f (suc n) cross = put (sending table f n cross) (f n / cellLimit) (entryAt table (f n) .cell .output) (f n)
+sending table f (suc n) cross = put (sending table f n cross) (f n / sectionRoom) (entryAt table (f n) .cell .output) (f n)
 
 unfoldable pub keying : List ℕ → (ℕ → ℕ) → ℕ → List (List ℕ) → List (List ℕ)
 keying table f zero keys = keys
 keying table f (suc n) keys =
-    put (keying table f n keys) (entryAt table (f n) .cell .output) (f n / cellLimit) (keyAt table (f n))
+    put (keying table f n keys) (entryAt table (f n) .cell .output) (f n / sectionRoom) (keyAt table (f n))
 
 unfoldable pub pulling : (ℕ → ℕ) → ℕ → List (List ℕ) → List (List ℕ)
 pulling f zero cross = cross
-pulling f (suc n) cross = put (pulling f n cross) (f n / cellLimit) n nowhere
+pulling f (suc n) cross = put (pulling f n cross) (f n / sectionRoom) n nowhere
 
 unfoldable pub unkeying : (ℕ → ℕ) → ℕ → List (List ℕ) → List (List ℕ)
 unkeying f zero keys = keys
-unkeying f (suc n) keys = put (unkeying f n keys) n (f n / cellLimit) noKey
+unkeying f (suc n) keys = put (unkeying f n keys) n (f n / sectionRoom) noKey
 
 ------------------------------------------------------------------------
 -- the best of each output
@@ -130,7 +130,7 @@ pulledOf p output = numberOf (first? (toOutput output (p .pulled)))
 unfoldable pub straightTo : List ℕ → List ℕ → ℕ → ℕ
 straightTo scheduled held output =
     let k = getD held output 0 in
-    cond (leb nowhere k || eqb k (getD scheduled (k / cellLimit) 0)) nowhere k
+    cond (leb nowhere k || eqb k (getD scheduled (k / sectionRoom) 0)) nowhere k
 
 -- the output that a straight cell marks
 unfoldable pub markOf : ℕ → ℕ → ℕ
@@ -161,7 +161,7 @@ pub record Straight (table : List ℕ) (k output : ℕ) (table′ listed listed�
   pub left-list : listed′ ≡ left listed k
   pub left-heads : heads′ ≡ leftHeads table listed heads k
   pub best-in : best′ ≡ entered table best k
-  pub from-input : inputs′ ≡ set inputs (k / cellLimit) true
+  pub from-input : inputs′ ≡ set inputs (k / sectionRoom) true
   pub to-output : outputs′ ≡ set outputs (markOf k output) true
 
 -- to its crosspoint
@@ -170,16 +170,16 @@ pub record Crossed (table : List ℕ) (k : ℕ) (table′ listed listed′ heads
   pub to-crosspoint : table′ ≡ set table (placeAt k) 2
   pub left-list : listed′ ≡ left listed k
   pub left-heads : heads′ ≡ leftHeads table listed heads k
-  pub filled : cross′ ≡ put cross (k / cellLimit) (entryAt table k .cell .output) k
-  pub keyed : keys′ ≡ put keys (entryAt table k .cell .output) (k / cellLimit) (keyAt table k)
+  pub filled : cross′ ≡ put cross (k / sectionRoom) (entryAt table k .cell .output) k
+  pub keyed : keys′ ≡ put keys (entryAt table k .cell .output) (k / sectionRoom) (keyAt table k)
   pub best-in : best′ ≡ entered table best k
 
 -- from its crosspoint to the buffer of its output
 pub record Taken (table : List ℕ) (k output : ℕ) (table′ : List ℕ) (cross cross′ keys keys′ : List (List ℕ))
     (best best′ : List ℕ) : Type 0 where
   pub to-buffer : table′ ≡ set table (placeAt k) 3
-  pub emptied : cross′ ≡ put cross (k / cellLimit) output nowhere
-  pub unkeyed : keys′ ≡ put keys output (k / cellLimit) noKey
+  pub emptied : cross′ ≡ put cross (k / sectionRoom) output nowhere
+  pub unkeyed : keys′ ≡ put keys output (k / sectionRoom) noKey
   pub best-in : best′ ≡ entered table best k
 
 ------------------------------------------------------------------------
@@ -192,7 +192,7 @@ pub record Straightened (f : ℕ → ℕ) (n : ℕ) (table table′ listed liste
   pub lists : listed′ ≡ leaving f n listed
   pub list-heads : heads′ ≡ leavingHeads table f n listed heads
   pub bests : best′ ≡ entering table f n best
-  pub from-inputs : inputs ≡ written (λ o. f o / cellLimit) true n (replicate portLimit false)
+  pub from-inputs : inputs ≡ written (λ o. f o / sectionRoom) true n (replicate portLimit false)
   pub to-outputs : outputs ≡ written (λ o. markOf (f o) o) true n (replicate portLimit false)
 
 -- every input has sent its cell to the crosspoint

@@ -2,14 +2,14 @@
 // the view of the table follows it.
 // Each rule has a function that chooses the number of a cell, 1,024 for none, a function that moves that cell, and a
 // function that does both for every port.
+use layout::CELLS;
+use layout::PORTS;
 use places::Choice;
 use places::NO_KEY;
 use places::NOWHERE;
 use places::better;
 use table::entry::BUFFERED;
-use table::entry::CELLS;
 use table::entry::CROSSED;
-use table::entry::PORTS;
 use table::entry::flow_word_of;
 use table::entry::key_of;
 use table::entry::output_of;
@@ -17,8 +17,9 @@ use table::entry::write_place;
 ghost use mathlib.Core.Path.{_≡_};
 ghost use Prim.Native.Nat.{_<_};
 ghost use lib.ListN.{length};
+ghost use Rattle.cell.specs.Limits.{portLimit};
 ghost use Rattle.layout.specs.Entry.{entryAt};
-ghost use Rattle.layout.specs.Table.{tableSize, encode, stateOf, IsTable};
+ghost use Rattle.layout.specs.Table.{tableSize, encode, stateOf, IsTable, entryLimit};
 ghost use Rattle.places.specs.Choices.{nowhere};
 ghost use Rattle.places.specs.Scan.{Bests};
 ghost use Rattle.places.specs.View.{Square};
@@ -29,21 +30,21 @@ ghost use Rattle.moving.specs.Moves.{Bound, AllBound, Straight, Crossed,
 
 // The ports of the straight cells: the inputs that they left, and the outputs that they went to.
 struct Marks {
-    inputs: [bool; 16],
-    outputs: [bool; 16],
+    inputs: [bool; PORTS],
+    outputs: [bool; PORTS],
 }
 
 // Rules 5 and 6: the straight cells go, then the inputs send, then the outputs take. `best` has the best buffered cell of
 // each output, `choice.best` the best crosspoint cell before anything moves, and `held` the match of each output.
 pub fn move_cells(
     table: &mut [u8],
-    listed: &mut [u64; 16],
-    heads: &mut [u64; 16],
-    cross: &mut [[u16; 16]; 16],
-    keys: &mut [[u64; 16]; 16],
-    best: &mut [u16; 16],
+    listed: &mut [u64; PORTS],
+    heads: &mut [u64; PORTS],
+    cross: &mut [[u16; PORTS]; PORTS],
+    keys: &mut [[u64; PORTS]; PORTS],
+    best: &mut [u16; PORTS],
     choice: Choice,
-    held: [u16; 16],
+    held: [u16; PORTS],
 )
     requires { ⌜ IsTable (now table)
         × Viewed (now table) (now listed) (now heads) (now cross) (now keys) (now best) ⌝ }
@@ -74,21 +75,21 @@ pub fn move_cells(
 // Rule 5: every matched urgent cell goes straight to its output buffer.
 fn go_straight(
     table: &mut [u8],
-    listed: &mut [u64; 16],
-    heads: &mut [u64; 16],
-    best: &mut [u16; 16],
-    scheduled: &[u16; 16],
-    held: &[u16; 16],
+    listed: &mut [u64; PORTS],
+    heads: &mut [u64; PORTS],
+    best: &mut [u16; PORTS],
+    scheduled: &[u16; PORTS],
+    held: &[u16; PORTS],
 ) -> Marks
-    requires { ⌜ (length (now table) ≡ tableSize) × (length (now listed) ≡ 16) × (length (now heads) ≡ 16)
-        × (length (now best) ≡ 16) ⌝ }
+    requires { ⌜ (length (now table) ≡ tableSize) × (length (now listed) ≡ portLimit) × (length (now heads) ≡ portLimit)
+        × (length (now best) ≡ portLimit) ⌝ }
     requires { ⌜ AllBound (now table) (straightTo (now scheduled) (now held)) ⌝ }
-    ensures { λ r. ⌜ Straightened (straightTo (now (scheduled .entry)) (now (held .entry))) 16
+    ensures { λ r. ⌜ Straightened (straightTo (now (scheduled .entry)) (now (held .entry))) portLimit
         (now (table .entry)) (now (table .exit)) (now (listed .entry)) (now (listed .exit))
         (now (heads .entry)) (now (heads .exit)) (now (best .entry)) (now (best .exit)) (r .inputs) (r .outputs) ⌝ }
 {
-    let mut inputs = [false; 16];
-    let mut outputs = [false; 16];
+    let mut inputs = [false; PORTS];
+    let mut outputs = [false; PORTS];
     let mut output = 0;
     while output < PORTS {
         let number = straight_number(scheduled, held, output);
@@ -111,18 +112,18 @@ fn go_straight(
 // output: `best` has the best crosspoint cell of each.
 fn send_scheduled(
     table: &mut [u8],
-    listed: &mut [u64; 16],
-    heads: &mut [u64; 16],
-    cross: &mut [[u16; 16]; 16],
-    keys: &mut [[u64; 16]; 16],
-    best: &mut [u16; 16],
-    scheduled: &[u16; 16],
-    straight: &[bool; 16],
+    listed: &mut [u64; PORTS],
+    heads: &mut [u64; PORTS],
+    cross: &mut [[u16; PORTS]; PORTS],
+    keys: &mut [[u64; PORTS]; PORTS],
+    best: &mut [u16; PORTS],
+    scheduled: &[u16; PORTS],
+    straight: &[bool; PORTS],
 )
-    requires { ⌜ (length (now table) ≡ tableSize) × (length (now listed) ≡ 16) × (length (now heads) ≡ 16)
-        × (length (now best) ≡ 16) × Square (now cross) × Square (now keys) ⌝ }
+    requires { ⌜ (length (now table) ≡ tableSize) × (length (now listed) ≡ portLimit) × (length (now heads) ≡ portLimit)
+        × (length (now best) ≡ portLimit) × Square (now cross) × Square (now keys) ⌝ }
     requires { ⌜ AllBound (now table) (sendOf (now straight) (now scheduled)) ⌝ }
-    ensures { λ _. ⌜ Sent (sendOf (now (straight .entry)) (now (scheduled .entry))) 16
+    ensures { λ _. ⌜ Sent (sendOf (now (straight .entry)) (now (scheduled .entry))) portLimit
         (now (table .entry)) (now (table .exit)) (now (listed .entry)) (now (listed .exit))
         (now (heads .entry)) (now (heads .exit)) (now (cross .entry)) (now (cross .exit))
         (now (keys .entry)) (now (keys .exit)) (now (best .entry)) (now (best .exit)) ⌝ }
@@ -139,15 +140,15 @@ fn send_scheduled(
 // cell is in `best`.
 fn pull_best(
     table: &mut [u8],
-    cross: &mut [[u16; 16]; 16],
-    keys: &mut [[u64; 16]; 16],
-    best: &mut [u16; 16],
-    crossed: &[u16; 16],
-    straight: &[bool; 16],
+    cross: &mut [[u16; PORTS]; PORTS],
+    keys: &mut [[u64; PORTS]; PORTS],
+    best: &mut [u16; PORTS],
+    crossed: &[u16; PORTS],
+    straight: &[bool; PORTS],
 )
-    requires { ⌜ (length (now table) ≡ tableSize) × (length (now best) ≡ 16) × Square (now cross) × Square (now keys) ⌝ }
+    requires { ⌜ (length (now table) ≡ tableSize) × (length (now best) ≡ portLimit) × Square (now cross) × Square (now keys) ⌝ }
     requires { ⌜ AllBound (now table) (takeOf (now straight) (now crossed)) ⌝ }
-    ensures { λ _. ⌜ Pulled (takeOf (now (straight .entry)) (now (crossed .entry))) 16
+    ensures { λ _. ⌜ Pulled (takeOf (now (straight .entry)) (now (crossed .entry))) portLimit
         (now (table .entry)) (now (table .exit)) (now (cross .entry)) (now (cross .exit))
         (now (keys .entry)) (now (keys .exit)) (now (best .entry)) (now (best .exit)) ⌝ }
 {
@@ -160,8 +161,8 @@ fn pull_best(
 }
 
 // The cell that goes straight to an output: the match that it holds, unless that is the scheduled cell of its input.
-fn straight_number(scheduled: &[u16; 16], held: &[u16; 16], output: usize) -> u16
-    requires { ⌜ output < 16 ⌝ }
+fn straight_number(scheduled: &[u16; PORTS], held: &[u16; PORTS], output: usize) -> u16
+    requires { ⌜ output < portLimit ⌝ }
     ensures { λ r. ⌜ r ≡ straightTo (now (scheduled .entry)) (now (held .entry)) output ⌝ }
 {
     let number = held[output];
@@ -177,17 +178,17 @@ fn straight_number(scheduled: &[u16; 16], held: &[u16; 16], output: usize) -> u1
 // A straight cell goes to the buffer of its output, and its ports are marked.
 fn straight_to(
     table: &mut [u8],
-    listed: &mut [u64; 16],
-    heads: &mut [u64; 16],
-    best: &mut [u16; 16],
-    inputs: &mut [bool; 16],
-    outputs: &mut [bool; 16],
+    listed: &mut [u64; PORTS],
+    heads: &mut [u64; PORTS],
+    best: &mut [u16; PORTS],
+    inputs: &mut [bool; PORTS],
+    outputs: &mut [bool; PORTS],
     number: u16,
     output: usize,
 )
-    requires { ⌜ (length (now table) ≡ tableSize) × (length (now listed) ≡ 16) × (length (now heads) ≡ 16)
-        × (length (now best) ≡ 16) × (length (now inputs) ≡ 16) × (length (now outputs) ≡ 16) ⌝ }
-    requires { ⌜ Bound (now table) number × (output < 16) ⌝ }
+    requires { ⌜ (length (now table) ≡ tableSize) × (length (now listed) ≡ portLimit) × (length (now heads) ≡ portLimit)
+        × (length (now best) ≡ portLimit) × (length (now inputs) ≡ portLimit) × (length (now outputs) ≡ portLimit) ⌝ }
+    requires { ⌜ Bound (now table) number × (output < portLimit) ⌝ }
     ensures { λ _. ⌜ Straight (now (table .entry)) number output (now (table .exit))
         (now (listed .entry)) (now (listed .exit)) (now (heads .entry)) (now (heads .exit))
         (now (best .entry)) (now (best .exit)) (now (inputs .entry)) (now (inputs .exit))
@@ -205,8 +206,8 @@ fn straight_to(
 }
 
 // The cell that an input sends: its scheduled cell, unless one of its cells went straight.
-fn send_number(scheduled: &[u16; 16], straight: &[bool; 16], input: usize) -> u16
-    requires { ⌜ input < 16 ⌝ }
+fn send_number(scheduled: &[u16; PORTS], straight: &[bool; PORTS], input: usize) -> u16
+    requires { ⌜ input < portLimit ⌝ }
     ensures { λ r. ⌜ r ≡ sendOf (now (straight .entry)) (now (scheduled .entry)) input ⌝ }
 {
     if straight[input] {
@@ -218,15 +219,15 @@ fn send_number(scheduled: &[u16; 16], straight: &[bool; 16], input: usize) -> u1
 // A cell goes to its crosspoint.
 fn send(
     table: &mut [u8],
-    listed: &mut [u64; 16],
-    heads: &mut [u64; 16],
-    cross: &mut [[u16; 16]; 16],
-    keys: &mut [[u64; 16]; 16],
-    best: &mut [u16; 16],
+    listed: &mut [u64; PORTS],
+    heads: &mut [u64; PORTS],
+    cross: &mut [[u16; PORTS]; PORTS],
+    keys: &mut [[u64; PORTS]; PORTS],
+    best: &mut [u16; PORTS],
     number: u16,
 )
-    requires { ⌜ (length (now table) ≡ tableSize) × (length (now listed) ≡ 16) × (length (now heads) ≡ 16)
-        × (length (now best) ≡ 16) × Square (now cross) × Square (now keys) ⌝ }
+    requires { ⌜ (length (now table) ≡ tableSize) × (length (now listed) ≡ portLimit) × (length (now heads) ≡ portLimit)
+        × (length (now best) ≡ portLimit) × Square (now cross) × Square (now keys) ⌝ }
     requires { ⌜ Bound (now table) number ⌝ }
     ensures { λ _. ⌜ Crossed (now (table .entry)) number (now (table .exit))
         (now (listed .entry)) (now (listed .exit)) (now (heads .entry)) (now (heads .exit))
@@ -246,8 +247,8 @@ fn send(
 }
 
 // The cell that an output takes: the best at its crosspoints, unless a straight cell came to it.
-fn pull_number(crossed: &[u16; 16], straight: &[bool; 16], output: usize) -> u16
-    requires { ⌜ output < 16 ⌝ }
+fn pull_number(crossed: &[u16; PORTS], straight: &[bool; PORTS], output: usize) -> u16
+    requires { ⌜ output < portLimit ⌝ }
     ensures { λ r. ⌜ r ≡ takeOf (now (straight .entry)) (now (crossed .entry)) output ⌝ }
 {
     if straight[output] {
@@ -259,14 +260,14 @@ fn pull_number(crossed: &[u16; 16], straight: &[bool; 16], output: usize) -> u16
 // A cell goes from its crosspoint to the buffer of its output.
 fn pull(
     table: &mut [u8],
-    cross: &mut [[u16; 16]; 16],
-    keys: &mut [[u64; 16]; 16],
-    best: &mut [u16; 16],
+    cross: &mut [[u16; PORTS]; PORTS],
+    keys: &mut [[u64; PORTS]; PORTS],
+    best: &mut [u16; PORTS],
     number: u16,
     output: usize,
 )
-    requires { ⌜ (length (now table) ≡ tableSize) × (length (now best) ≡ 16) × Square (now cross) × Square (now keys) ⌝ }
-    requires { ⌜ Bound (now table) number × (output < 16) ⌝ }
+    requires { ⌜ (length (now table) ≡ tableSize) × (length (now best) ≡ portLimit) × Square (now cross) × Square (now keys) ⌝ }
+    requires { ⌜ Bound (now table) number × (output < portLimit) ⌝ }
     ensures { λ _. ⌜ Taken (now (table .entry)) number output (now (table .exit))
         (now (cross .entry)) (now (cross .exit)) (now (keys .entry)) (now (keys .exit))
         (now (best .entry)) (now (best .exit)) ⌝ }
@@ -282,14 +283,14 @@ fn pull(
 
 // What stands at a crosspoint, and its key.
 fn fill(
-    cross: &mut [[u16; 16]; 16],
-    keys: &mut [[u64; 16]; 16],
+    cross: &mut [[u16; PORTS]; PORTS],
+    keys: &mut [[u64; PORTS]; PORTS],
     input: usize,
     output: usize,
     number: u16,
     key: u64,
 )
-    requires { ⌜ Square (now cross) × Square (now keys) × (input < 16) × (output < 16) ⌝ }
+    requires { ⌜ Square (now cross) × Square (now keys) × (input < portLimit) × (output < portLimit) ⌝ }
     ensures { λ _. ⌜ now (cross .exit) ≡ put (now (cross .entry)) input output number ⌝ }
     ensures { λ _. ⌜ now (keys .exit) ≡ put (now (keys .entry)) output input key ⌝ }
 {
@@ -298,9 +299,9 @@ fn fill(
 }
 
 // A cell is the best of its output, unless the one so far is better.
-fn enter(table: &[u8], best: &mut [u16; 16], number: u16)
-    requires { ⌜ (length (now table) ≡ tableSize) × (length (now best) ≡ 16) × (number < nowhere) ⌝ }
-    requires { ⌜ entryAt (now table) number .cell .output < 16 ⌝ }
+fn enter(table: &[u8], best: &mut [u16; PORTS], number: u16)
+    requires { ⌜ (length (now table) ≡ tableSize) × (length (now best) ≡ portLimit) × (number < nowhere) ⌝ }
+    requires { ⌜ entryAt (now table) number .cell .output < portLimit ⌝ }
     ensures { λ _. ⌜ now (best .exit) ≡ entered (now (table .entry)) (now (best .entry)) number ⌝ }
 {
     let output = output_of(table, number as usize) as usize;
@@ -308,8 +309,8 @@ fn enter(table: &[u8], best: &mut [u16; 16], number: u16)
 }
 
 // A head leaves the list of its input.
-fn leave_list(table: &[u8], listed: &mut [u64; 16], heads: &mut [u64; 16], k: usize)
-    requires { ⌜ (length (now table) ≡ tableSize) × (length (now listed) ≡ 16) × (length (now heads) ≡ 16) × (k < 1024) ⌝ }
+fn leave_list(table: &[u8], listed: &mut [u64; PORTS], heads: &mut [u64; PORTS], k: usize)
+    requires { ⌜ (length (now table) ≡ tableSize) × (length (now listed) ≡ portLimit) × (length (now heads) ≡ portLimit) × (k < entryLimit) ⌝ }
     ensures { λ _. ⌜ now (listed .exit) ≡ left (now (listed .entry)) k ⌝ }
     ensures { λ _. ⌜ now (heads .exit) ≡ leftHeads (now (table .entry)) (now (listed .entry)) (now (heads .entry)) k ⌝ }
 {
@@ -322,7 +323,7 @@ fn leave_list(table: &[u8], listed: &mut [u64; 16], heads: &mut [u64; 16], k: us
 // The heads that it leaves. The cells of a flow stand together in a list, so that the next head of its flow is the next
 // cell of the list, if that is of its flow; nothing branches on that, as it would be guessed badly.
 fn heads_left(table: &[u8], list: u64, heads: u64, k: usize) -> u64
-    requires { ⌜ (length (now table) ≡ tableSize) × (k < 1024) ⌝ }
+    requires { ⌜ (length (now table) ≡ tableSize) × (k < entryLimit) ⌝ }
     ensures { λ r. ⌜ r ≡ headsLeft (now (table .entry)) list heads k ⌝ }
 {
     let j = k % CELLS;

@@ -10,7 +10,7 @@ use mathlib.Core.Path.{_≡_, refl, sym, _∙_, ap, ap₂}
 use mathlib.Core.List.{List, [], _∷_, _++_, append-assoc}
 use lib.ListN.{length, take, drop, getD, replicate}
 use lib.Seq.{take-at, drop-at, drop-drop, drop-nil, drop-cons, drop-length, getD-drop}
-use Rattle.cell.specs.Limits.{cellLimit, portLimit}
+use Rattle.cell.specs.Limits.{sectionRoom, portLimit}
 use Rattle.model.specs.State.{Entry, Switch}
 use Rattle.model.proofs.Numbering.{Short}
 use Rattle.layout.specs.Table.{headerSize, entrySize, sectionSize, entryBytes, entriesBytes, sectionBytes, sectionsBytes}
@@ -96,10 +96,10 @@ module _ (s : Switch) (i : ℕ) (short : Short (s .sections)) (port : i < portLi
 
   -- the bytes from an entry of a section on
   encode-entries : (j : ℕ) → j ≤ length section
-      → drop (recordStart (cellLimit * i + j)) (encode s) ≡ entriesBytes (drop j section) ++ (zeros section ++ next)
+      → drop (recordStart (sectionRoom * i + j)) (encode s) ≡ entriesBytes (drop j section) ++ (zeros section ++ next)
   unfolding sectionBytes zeros section next
   encode-entries j h =
-      let at : recordStart (cellLimit * i + j) ≡ headerSize + sectionSize * i + entrySize * j = omega arith in
+      let at : recordStart (sectionRoom * i + j) ≡ headerSize + sectionSize * i + entrySize * j = omega arith in
       ap (λ n. drop n (encode s)) at
       ∙ sym (drop-drop (entrySize * j) (headerSize + sectionSize * i) (encode s))
       ∙ ap (drop (entrySize * j))
@@ -107,7 +107,7 @@ module _ (s : Switch) (i : ℕ) (short : Short (s .sections)) (port : i < portLi
       ∙ entriesBytes-drop j section (zeros section ++ next) h
 
   -- behind the entries of a section come zeros and the next section
-  pub encode-rest : drop (recordStart (cellLimit * i + length (getD (s .sections) i []))) (encode s)
+  pub encode-rest : drop (recordStart (sectionRoom * i + length (getD (s .sections) i []))) (encode s)
       ≡ replicate (sectionSize - length (entriesBytes (getD (s .sections) i []))) 0
       ++ drop (headerSize + sectionSize * (i + 1)) (encode s)
   unfolding section zeros next entriesBytes
@@ -117,7 +117,7 @@ module _ (s : Switch) (i : ℕ) (short : Short (s .sections)) (port : i < portLi
 
   -- the record of an entry
   pub recordAt-encode : (j : ℕ) (e : Entry) → j < length (getD (s .sections) i [])
-      → recordAt (encode s) (cellLimit * i + j) ≡ entryBytes (getD (getD (s .sections) i []) j e)
+      → recordAt (encode s) (sectionRoom * i + j) ≡ entryBytes (getD (getD (s .sections) i []) j e)
   unfolding section recordAt entriesBytes
   recordAt-encode j e h =
       let x : Entry = getD section j e in

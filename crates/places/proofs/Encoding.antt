@@ -10,7 +10,7 @@ use mathlib.Core.List.{List, [], _∷_, _++_, map}
 use lib.ListN.{length, getD, set, replicate, length-append, length-set}
 use lib.Seq.{getD-set-same, getD-set-other, set-append-left}
 use Rattle.laws.specs.Lists.{numbersFrom, upTo}
-use Rattle.cell.specs.Limits.{cellLimit, portLimit}
+use Rattle.cell.specs.Limits.{sectionRoom, portLimit}
 use Rattle.laws.proofs.Compared.{Compared, below, equal, above, compare}
 use Rattle.model.specs.State.{Entry, Switch}
 use Rattle.layout.specs.Number.{bytesOf}
@@ -93,53 +93,53 @@ module _ (table places : List ℕ) (k v : ℕ) (low : 1 ≤ v) (high : v ≤ 3) 
           ∙ set-append-left first (old (a + 1) n) 2 v (omega (arith, length-entryBytes (entryPlaced table places a))))
       go (above b) rec = absurd (omega arith)
 
-  section-changed : (i : ℕ) → cellLimit * i ≤ k → k < cellLimit * i + countIn table i
+  section-changed : (i : ℕ) → sectionRoom * i ≤ k → k < sectionRoom * i + countIn table i
       → sectionBytes (sectionPlaced table changed i)
-      ≡ set (sectionBytes (sectionPlaced table places i)) (entrySize * (k - cellLimit * i) + 2) v
+      ≡ set (sectionBytes (sectionPlaced table places i)) (entrySize * (k - sectionRoom * i) + 2) v
   unfolding sectionBytes sectionPlaced
   section-changed i l h =
-      ap (λ bs. bs ++ replicate (sectionSize - length bs) 0) (entries-changed (cellLimit * i) (countIn table i) l h)
+      ap (λ bs. bs ++ replicate (sectionSize - length bs) 0) (entries-changed (sectionRoom * i) (countIn table i) l h)
       ∙ ap (λ n. set bs p v ++ replicate (sectionSize - n) 0) (length-set bs p v)
       ∙ sym (set-append-left bs (replicate (sectionSize - length bs) 0) p v within)
     where
       es : List Entry
-      es = map (entryPlaced table places) (numbersFrom (cellLimit * i) (countIn table i))
+      es = map (entryPlaced table places) (numbersFrom (sectionRoom * i) (countIn table i))
 
       bs : List ℕ
-      bs = old (cellLimit * i) (countIn table i)
+      bs = old (sectionRoom * i) (countIn table i)
 
       p : ℕ
-      p = entrySize * (k - cellLimit * i) + 2
+      p = entrySize * (k - sectionRoom * i) + 2
 
       within : p < length bs
       within =
           omega (
             arith,
             length-entriesBytes es,
-            length-numbers (entryPlaced table places) (cellLimit * i) (countIn table i),
+            length-numbers (entryPlaced table places) (sectionRoom * i) (countIn table i),
           )
 
-  section-same : (i : ℕ) → i ≢ k / cellLimit → countIn table i ≤ cellLimit
+  section-same : (i : ℕ) → i ≢ k / sectionRoom → countIn table i ≤ sectionRoom
       → sectionPlaced table changed i ≡ sectionPlaced table places i
   unfolding sectionPlaced
   section-same i n few =
-      map-numbers (entryPlaced table changed) (entryPlaced table places) (cellLimit * i) (countIn table i)
+      map-numbers (entryPlaced table changed) (entryPlaced table places) (sectionRoom * i) (countIn table i)
       (λ j s t. entry-same j (λ e. n (omega arith)))
 
   length-section : (i : ℕ) → length (sectionPlaced table places i) ≡ countIn table i
   unfolding sectionPlaced
-  length-section i = length-numbers (entryPlaced table places) (cellLimit * i) (countIn table i)
+  length-section i = length-numbers (entryPlaced table places) (sectionRoom * i) (countIn table i)
 
   abbrev row : ℕ
-  row = k / cellLimit
+  row = k / sectionRoom
 
   abbrev sections : List ℕ → ℕ → ℕ → List (List Entry)
   sections column i m = map (sectionPlaced table column) (numbersFrom i m)
 
-  module _ (few : (i : ℕ) → i < portLimit → countIn table i ≤ cellLimit) (here : k < cellLimit * row + countIn table row) where
+  module _ (few : (i : ℕ) → i < portLimit → countIn table i ≤ sectionRoom) (here : k < sectionRoom * row + countIn table row) where
     sections-changed : (n i m : ℕ) → m ≤ n → i + n ≤ portLimit → i ≤ row → row < i + m
         → sectionsBytes n (sections changed i m)
-        ≡ set (sectionsBytes n (sections places i m)) (sectionSize * (row - i) + (entrySize * (k - cellLimit * row) + 2)) v
+        ≡ set (sectionsBytes n (sections places i m)) (sectionSize * (row - i) + (entrySize * (k - sectionRoom * row) + 2)) v
     unfolding numbersFrom sectionsBytes
     sections-changed zero i m s t l h = absurd (omega arith)
     sections-changed (suc n) i zero s t l h = absurd (omega arith)
@@ -152,9 +152,9 @@ module _ (table places : List ℕ) (k v : ℕ) (low : 1 ≤ v) (high : v ≤ 3) 
         rest = sectionsBytes n (sections places (i + 1) m)
 
         p : ℕ
-        p = entrySize * (k - cellLimit * row) + 2
+        p = entrySize * (k - sectionRoom * row) + 2
 
-        count : countIn table i ≤ cellLimit
+        count : countIn table i ≤ sectionRoom
         count = few i (omega arith)
 
         size : length first ≡ sectionSize
@@ -174,7 +174,7 @@ module _ (table places : List ℕ) (k v : ℕ) (low : 1 ≤ v) (high : v ≤ 3) 
             let at : sectionSize * (row - i) + p ≡ p = omega arith in
             ap₂ (λ e r. e ++ sectionsBytes n r)
             (section-changed i (omega arith) (rw (← b) at here)
-            ∙ ap (λ j. set first (entrySize * (k - cellLimit * j) + 2) v) b)
+            ∙ ap (λ j. set first (entrySize * (k - sectionRoom * j) + 2) v) b)
             (map-numbers (sectionPlaced table changed) (sectionPlaced table places) (i + 1) m
             (λ j q u. section-same j (λ e. omega arith) (few j (omega arith))))
             ∙ sym (ap (λ q. set (first ++ rest) q v) at ∙ set-append-left first rest p v (omega (arith, size)))
@@ -186,8 +186,8 @@ module _ (table places : List ℕ) (k v : ℕ) (low : 1 ≤ v) (high : v ≤ 3) 
     counts-same (suc n) i zero = refl
     counts-same (suc n) i (suc m) =
         ap₂ (λ c r. bytesOf 1 c ++ r)
-        (length-numbers (entryPlaced table changed) (cellLimit * i) (countIn table i)
-        ∙ sym (length-numbers (entryPlaced table places) (cellLimit * i) (countIn table i)))
+        (length-numbers (entryPlaced table changed) (sectionRoom * i) (countIn table i)
+        ∙ sym (length-numbers (entryPlaced table places) (sectionRoom * i) (countIn table i)))
         (counts-same n (i + 1) m)
 
     header : List ℕ
@@ -223,7 +223,7 @@ module _ (table places : List ℕ) (k v : ℕ) (low : 1 ≤ v) (high : v ≤ 3) 
         ∙ sym
         (ap (λ bs. set bs (recordStart k + 2) v) (parts places)
         ∙ set-behind front (sectionsBytes portLimit (sectionsPlaced table places)) headerSize
-        (sectionSize * (row - 0) + (entrySize * (k - cellLimit * row) + 2)) (recordStart k + 2) v length-front (omega arith))
+        (sectionSize * (row - 0) + (entrySize * (k - sectionRoom * row) + 2)) (recordStart k + 2) v length-front (omega arith))
 
 -- the place of an entry changes in the column and in the bytes
 pub encode-placed : {table : List ℕ} (r : Readable table) (places : List ℕ) → length places ≡ 1024 → (k v : ℕ)

@@ -12,7 +12,7 @@ use Rattle.laws.proofs.Numbers.{numbersFrom-mem}
 use Rattle.sets.specs.Sets.{setFrom}
 use Rattle.sets.proofs.Members.{setFrom-ext}
 use Rattle.cell.specs.Flow.{sameFlow}
-use Rattle.cell.specs.Limits.{cellLimit}
+use Rattle.cell.specs.Limits.{sectionRoom}
 use Rattle.laws.proofs.Compared.{Compared, below, equal, above, compare}
 use Rattle.model.specs.State.{Place, isListed, isCrossed, isBuffered}
 use Rattle.layout.specs.Entry.{entryAt, portsIn, countIn}
@@ -46,25 +46,25 @@ module _ (t : List ℕ) (g : IsTable t) where
       go (above d) = absurd (none (omega arith))
 
   module _ (i : ℕ) (port : i < 16) where
-    entry-in : (k : ℕ) → cellLimit * i ≤ k → k < cellLimit * i + countIn t i → InTable t k
+    entry-in : (k : ℕ) → sectionRoom * i ≤ k → k < sectionRoom * i + countIn t i → InTable t k
     entry-in k low high =
-        inTable-number t (stateOf t) g i k (entry-port i (k - cellLimit * i) port (omega arith)) low high
+        inTable-number t (stateOf t) g i k (entry-port i (k - sectionRoom * i) port (omega arith)) low high
 
-    kinds : (f : Place → Bool) → setFrom (λ k. f (entryAt t k .place)) (cellLimit * i) (countIn t i)
-        ≡ setFrom (λ k. f (placeOf (getD (placesIn t) k 0))) (cellLimit * i) (countIn t i)
+    kinds : (f : Place → Bool) → setFrom (λ k. f (entryAt t k .place)) (sectionRoom * i) (countIn t i)
+        ≡ setFrom (λ k. f (placeOf (getD (placesIn t) k 0))) (sectionRoom * i) (countIn t i)
     kinds f =
-        setFrom-ext _ _ (cellLimit * i) (countIn t i)
-        (λ j l. ap f (sym (own-kind t g (cellLimit * i + j) (entry-in (cellLimit * i + j) (omega arith) (omega arith)))))
+        setFrom-ext _ _ (sectionRoom * i) (countIn t i)
+        (λ j l. ap f (sym (own-kind t g (sectionRoom * i + j) (entry-in (sectionRoom * i + j) (omega arith) (omega arith)))))
 
     module _ (j : ℕ) (inside : j < countIn t i) where
       k : ℕ
-      k = cellLimit * i + j
+      k = sectionRoom * i + j
 
       here : InTable t k
       unfolding k
       here = entry-in k (omega arith) (omega arith)
 
-      own : k / cellLimit ≡ i
+      own : k / sectionRoom ≡ i
       unfolding k
       own =
           let few : countIn t i ≤ 64 = table-readable t g .counts i port in
@@ -74,10 +74,10 @@ module _ (t : List ℕ) (g : IsTable t) where
       test : ℕ → Bool
       test a = isListed (entryAt t a .place) && sameFlow (entryAt t a .cell) (entryAt t k .cell)
 
-      before : (a : ℕ) → List·Memᴰ a (between (cellLimit * i) k) → test a ≡ true → Earlier t (placesIn t) a k
+      before : (a : ℕ) → List·Memᴰ a (between (sectionRoom * i) k) → test a ≡ true → Earlier t (placesIn t) a k
       unfolding test k
       before a m h =
-          let range = between-mem (cellLimit * i) k m in
+          let range = between-mem (sectionRoom * i) k m in
           let entry = entry-in a (range .0) (omega (arith, range .1)) in
           let few : countIn t i ≤ 64 = table-readable t g .counts i port in
           record {
@@ -90,10 +90,10 @@ module _ (t : List ℕ) (g : IsTable t) where
             flow = and-r (isListed (entryAt t a .place)) _ h;
           }
 
-      tested : (a : ℕ) → Earlier t (placesIn t) a k → List·Memᴰ a (between (cellLimit * i) k) × (test a ≡ true)
+      tested : (a : ℕ) → Earlier t (placesIn t) a k → List·Memᴰ a (between (sectionRoom * i) k) × (test a ≡ true)
       unfolding test between k
       tested a w = (
-        numbersFrom-mem (cellLimit * i) (k - cellLimit * i) (omega (arith, w .input, own)) (omega (arith, w .before)),
+        numbersFrom-mem (sectionRoom * i) (k - sectionRoom * i) (omega (arith, w .input, own)) (omega (arith, w .before)),
         and-i (isListed (entryAt t a .place)) _ (sym (ap isListed (own-kind t g a (w .listed .entry))) ∙ w .listed .place)
             (w .flow),
       )
@@ -110,16 +110,16 @@ module _ (t : List ℕ) (g : IsTable t) where
               (λ a w. let m = tested a w in
               clash (m .1) (none?-e test (and-r (isListed (entryAt t k .place)) _ h) (m .0))))
               (λ h. and-i (isListed (entryAt t k .place)) _ l
-              (none?-i test (between (cellLimit * i) k)
+              (none?-i test (between (sectionRoom * i) k)
               (λ a m. by-fail _ (λ b. clash h (head-some t (placesIn t) (table-readable t g) k a (before a m b))))))
           go (inr l) =
               and-false-l (isListed (entryAt t k .place)) _ l
               ∙ sym (head-unlisted t (placesIn t) (table-readable t g) k (ap isListed (own-kind t g k here) ∙ l))
 
-    firsts : setFrom (isFirst t i) (cellLimit * i) (countIn t i)
-        ≡ setFrom (λ k. isHead (waitingIn t) (waitingAt t (placesIn t) k)) (cellLimit * i) (countIn t i)
+    firsts : setFrom (isFirst t i) (sectionRoom * i) (countIn t i)
+        ≡ setFrom (λ k. isHead (waitingIn t) (waitingAt t (placesIn t) k)) (sectionRoom * i) (countIn t i)
     unfolding k
-    firsts = setFrom-ext _ _ (cellLimit * i) (countIn t i) (λ j l. first-head j l)
+    firsts = setFrom-ext _ _ (sectionRoom * i) (countIn t i) (λ j l. first-head j l)
 
   pub handed-sets : (listed heads crossed buffered : List ℕ) → Handed t listed heads crossed buffered
       → SetsOf t (placesIn t) listed heads crossed buffered

@@ -12,7 +12,7 @@ use Rattle.laws.proofs.Tests.{by-fail, and-i, and-l, and-r, and-false-l, and-fa
 use Rattle.laws.proofs.Lists.{none?-i, none?-clash}
 use Rattle.cell.specs.declared.Cell.{Cell}
 use Rattle.cell.specs.Flow.{sameFlow}
-use Rattle.cell.specs.Limits.{cellLimit}
+use Rattle.cell.specs.Limits.{sectionRoom}
 use Rattle.laws.proofs.Compared.{Compared, below, equal, above, compare}
 use Rattle.cell.proofs.Flow.{flow-sym, flow-trans}
 use Rattle.model.specs.State.{isListed}
@@ -35,7 +35,7 @@ pub record Listed (table places : List ℕ) (k : ℕ) : Type 0 where
 -- a listed cell of the input and flow of another comes before it
 pub record Earlier (table places : List ℕ) (a k : ℕ) : Type 0 where
   pub listed : Listed table places a
-  pub input : a / cellLimit ≡ k / cellLimit
+  pub input : a / sectionRoom ≡ k / sectionRoom
   pub before : a < k
   pub flow : sameFlow (entryAt table a .cell) (entryAt table k .cell) ≡ true
 
@@ -95,8 +95,8 @@ module _ (table places : List ℕ) (r : Readable table) (k : ℕ) where
 
   -- no listed cell stands between b and k
   module _ (contiguous : Contiguous table places) (here : Listed table places k) (b : ℕ) (listed : Listed table places b)
-      (input : b / cellLimit ≡ k / cellLimit) (before : b < k)
-      (next : (a : ℕ) → Listed table places a → a / cellLimit ≡ k / cellLimit → a < k → a ≤ b) where
+      (input : b / sectionRoom ≡ k / sectionRoom) (before : b < k)
+      (next : (a : ℕ) → Listed table places a → a / sectionRoom ≡ k / sectionRoom → a < k → a ≤ b) where
     pub head-same : sameFlow (entryAt table b .cell) (entryAt table k .cell) ≡ true
         → isHead (inTable table places) (waitingAt table places k) ≡ false
     head-same s = head-some b (record { listed = listed; input = input; before = before; flow = s })

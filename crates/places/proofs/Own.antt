@@ -8,7 +8,6 @@ use mathlib.Core.Path.{_≡_, sym, _∙_, ap, subst}
 use mathlib.Core.List.{List}
 use lib.ListN.{length, getD}
 use Rattle.laws.proofs.Numbers.{numbersFrom-at}
-use Rattle.cell.specs.Limits.{cellLimit}
 use Rattle.model.specs.State.{Switch}
 use Rattle.model.specs.Phase.{waiting}
 use Rattle.model.specs.Slackness.{Orderly, OneCrosspoint}

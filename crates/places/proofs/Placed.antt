@@ -12,7 +12,7 @@ use lib.ListN.{length, getD}
 use lib.Seq.{getD-drop}
 use Rattle.laws.specs.Lists.{numbersFrom, upTo}
 use Rattle.laws.proofs.Numbers.{numbersFrom-mem, numbersFrom-at}
-use Rattle.cell.specs.Limits.{cellLimit, portLimit}
+use Rattle.cell.specs.Limits.{sectionRoom, portLimit}
 use Rattle.model.specs.State.{Entry, Switch}
 use Rattle.model.specs.Phase.{numberFrom, numberSections, numbered, waiting}
 use Rattle.model.proofs.SoundLaws.{SoundEntry, sections-e}
@@ -59,11 +59,11 @@ numberFrom-placed table places k (suc n) =
 
 numberSections-map : (f : ℕ → List Entry) (input n : ℕ)
     → numberSections input (map f (numbersFrom input n))
-    ≡ map (λ i. numberFrom (cellLimit * i) (f i)) (numbersFrom input n)
+    ≡ map (λ i. numberFrom (sectionRoom * i) (f i)) (numbersFrom input n)
 unfolding numberSections numbersFrom
 numberSections-map f input zero = refl
 numberSections-map f input (suc n) =
-    ap (λ r. numberFrom (cellLimit * input) (f input) ∷ r) (numberSections-map f (input + 1) n)
+    ap (λ r. numberFrom (sectionRoom * input) (f input) ∷ r) (numberSections-map f (input + 1) n)
 
 -- the waiting cells of the sections are those of the view
 pub inTable-waiting : (table places : List ℕ) → waiting (sectionsPlaced table places) ≡ inTable table places
@@ -72,14 +72,14 @@ inTable-waiting table places =
     ap flatten
     (numberSections-map (sectionPlaced table places) 0 (portsIn table)
     ∙ ap (λ f. map f (numbersFrom 0 (portsIn table)))
-    (fun-ext (λ i. numberFrom-placed table places (cellLimit * i) (countIn table i))))
+    (fun-ext (λ i. numberFrom-placed table places (sectionRoom * i) (countIn table i))))
 
 ------------------------------------------------------------------------
 -- the records of a table
 
 -- the byte of a section's count
 countsBytes-at : (n : ℕ) (sections : List (List Entry)) (bs : List ℕ) (i : ℕ) → i < n
-    → length (getD sections i []) ≤ cellLimit → getD (countsBytes n sections ++ bs) i 0 ≡ length (getD sections i [])
+    → length (getD sections i []) ≤ sectionRoom → getD (countsBytes n sections ++ bs) i 0 ≡ length (getD sections i [])
 unfolding countsBytes bytesOf
 countsBytes-at zero sections bs i h few = absurd (omega arith)
 countsBytes-at (suc n) [] bs zero h few = refl
@@ -88,7 +88,7 @@ countsBytes-at (suc n) (es ∷ sections) bs zero h few = omega arith
 countsBytes-at (suc n) (es ∷ sections) bs (suc i) h few = countsBytes-at n sections bs i (omega arith) few
 
 -- the count of a section
-pub encode-count : (s : Switch) (i : ℕ) → i < portLimit → length (getD (s .sections) i []) ≤ cellLimit
+pub encode-count : (s : Switch) (i : ℕ) → i < portLimit → length (getD (s .sections) i []) ≤ sectionRoom
     → countIn (encode s) i ≡ length (getD (s .sections) i [])
 unfolding countIn
 encode-count s i h few =
@@ -114,14 +114,14 @@ module _ (table : List ℕ) (s : Switch) (e : decode table ≡ some s) where
   pub decode-ports-few : portsIn table ≤ portLimit
   decode-ports-few = omega (arith, decode-ports, sound-ports s (decode-sound table s e))
 
-  pub section-short : (i : ℕ) → length (getD (s .sections) i []) ≤ cellLimit
+  pub section-short : (i : ℕ) → length (getD (s .sections) i []) ≤ sectionRoom
   section-short i = sections-e (s .ports) (s .clock) (s .sections) (sound-sections s (decode-sound table s e)) i .short
 
   pub decode-count : (i : ℕ) → i < portLimit → countIn table i ≡ length (getD (s .sections) i [])
   decode-count i h =
       ap (λ bs. countIn bs i) (sym (encode-decode table s e)) ∙ encode-count s i h (section-short i)
 
-  pub decode-count-few : (i : ℕ) → i < portLimit → countIn table i ≤ cellLimit
+  pub decode-count-few : (i : ℕ) → i < portLimit → countIn table i ≤ sectionRoom
   decode-count-few i h = let few = section-short i in omega (arith, decode-count i h)
 
   pub decode-sections : s .sections ≡ map (sectionAt table) (upTo (portsIn table))
@@ -132,7 +132,7 @@ module _ (table : List ℕ) (s : Switch) (e : decode table ≡ some s) where
       ∙ stateOf-sections table (λ i h. decode-count-few i (omega arith))
 
   -- a number within a section is in the table
-  pub inTable-number : (i k : ℕ) → i < portsIn table → cellLimit * i ≤ k → k < cellLimit * i + countIn table i
+  pub inTable-number : (i k : ℕ) → i < portsIn table → sectionRoom * i ≤ k → k < sectionRoom * i + countIn table i
       → InTable table k
   inTable-number i k h low high =
       let ports : portsIn table ≤ portLimit = decode-ports-few in
@@ -142,44 +142,44 @@ module _ (table : List ℕ) (s : Switch) (e : decode table ≡ some s) where
 
   -- the entry with a number of the table
   module _ (k : ℕ) (t : InTable table k) where
-    own-port : k / cellLimit < portLimit
+    own-port : k / sectionRoom < portLimit
     own-port = omega (arith, t .input, decode-ports-few)
 
-    own-section : getD (s .sections) (k / cellLimit) [] ≡ sectionAt table (k / cellLimit)
+    own-section : getD (s .sections) (k / sectionRoom) [] ≡ sectionAt table (k / sectionRoom)
     unfolding upTo
     own-section =
-        let at : 0 + k / cellLimit ≡ k / cellLimit = omega arith in
-        ap (λ l. getD l (k / cellLimit) []) decode-sections
-        ∙ numbersFrom-at (sectionAt table) 0 (portsIn table) (k / cellLimit) [] (t .input)
+        let at : 0 + k / sectionRoom ≡ k / sectionRoom = omega arith in
+        ap (λ l. getD l (k / sectionRoom) []) decode-sections
+        ∙ numbersFrom-at (sectionAt table) 0 (portsIn table) (k / sectionRoom) [] (t .input)
         ∙ ap (sectionAt table) at
 
     -- it is sound
-    pub decode-entry : SoundEntry (s .ports) (s .clock) (k / cellLimit) (entryAt table k)
+    pub decode-entry : SoundEntry (s .ports) (s .clock) (k / sectionRoom) (entryAt table k)
     unfolding sectionAt entriesBetween between
     decode-entry =
-        let first : ℕ = cellLimit * (k / cellLimit) in
-        let count : ℕ = first + countIn table (k / cellLimit) - first in
+        let first : ℕ = sectionRoom * (k / sectionRoom) in
+        let count : ℕ = first + countIn table (k / sectionRoom) - first in
         let low : first ≤ k = omega arith in
         let high : k < first + count = omega (arith, t .position) in
-        let mem : List·Memᴰ (entryAt table k) (getD (s .sections) (k / cellLimit) []) =
+        let mem : List·Memᴰ (entryAt table k) (getD (s .sections) (k / sectionRoom) []) =
         rw own-section (Memᴰ·map (entryAt table) (numbersFrom-mem first count low high)) in
-        sections-e (s .ports) (s .clock) (s .sections) (sound-sections s (decode-sound table s e)) (k / cellLimit)
+        sections-e (s .ports) (s .clock) (s .sections) (sound-sections s (decode-sound table s e)) (k / sectionRoom)
         .entries (entryAt table k) mem
 
     -- its record is its bytes
     pub decode-record : recordAt table k ≡ entryBytes (entryAt table k)
     unfolding sectionAt entriesBetween between
     decode-record =
-        let i : ℕ = k / cellLimit in
-        let j : ℕ = k - cellLimit * i in
-        let count : ℕ = cellLimit * i + countIn table i - cellLimit * i in
-        let whole : k ≡ cellLimit * i + j = omega arith in
+        let i : ℕ = k / sectionRoom in
+        let j : ℕ = k - sectionRoom * i in
+        let count : ℕ = sectionRoom * i + countIn table i - sectionRoom * i in
+        let whole : k ≡ sectionRoom * i + j = omega arith in
         let within : j < length (getD (s .sections) i []) = omega (arith, t .position, decode-count i own-port) in
         ap₂ recordAt (sym (encode-decode table s e)) whole
         ∙ recordAt-encode s i section-short own-port j (entryAt table k) within
         ∙ ap entryBytes
         (ap (λ es. getD es j (entryAt table k)) own-section
-        ∙ numbersFrom-at (entryAt table) (cellLimit * i) count j (entryAt table k) (omega (arith, t .position))
+        ∙ numbersFrom-at (entryAt table) (sectionRoom * i) count j (entryAt table k) (omega (arith, t .position))
         ∙ ap (entryAt table) (sym whole))
 
     -- and the byte of its place is that of its place
@@ -204,13 +204,13 @@ module _ (table : List ℕ) (s : Switch) (e : decode table ≡ some s) where
   sectionsPlaced-same places same =
       map-numbers (sectionPlaced table places) (sectionAt table) 0 (portsIn table)
       (λ i _ h.
-      let size : countIn table i ≡ cellLimit * i + countIn table i - cellLimit * i = omega arith in
-      map-numbers (entryPlaced table places) (entryAt table) (cellLimit * i) (countIn table i)
+      let size : countIn table i ≡ sectionRoom * i + countIn table i - sectionRoom * i = omega arith in
+      map-numbers (entryPlaced table places) (entryAt table) (sectionRoom * i) (countIn table i)
       (λ k low high.
       let place : placeOf (getD places k 0) ≡ entryAt table k .place =
       ap placeOf (same k (inTable-number i k (omega arith) low high)) ∙ sym (entryAt-place table k) in
       λ z. record { cell = entryAt table k .cell; place = place z })
-      ∙ ap (λ n. map (entryAt table) (numbersFrom (cellLimit * i) n)) size)
+      ∙ ap (λ n. map (entryAt table) (numbersFrom (sectionRoom * i) n)) size)
       ∙ sym decode-sections
 
   pub inTable-same : (places : List ℕ) → ((k : ℕ) → InTable table k → getD places k 0 ≡ placeByteAt table k)

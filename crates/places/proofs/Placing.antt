@@ -16,7 +16,7 @@ use lib.Seq.{getD-set-same, getD-set-other, set-out, ext-getD, drop-set-lt, drop
 use Rattle.laws.specs.Lists.{numbersFrom, upTo}
 use Rattle.laws.proofs.Tests.{either}
 use Rattle.sets.specs.Sets.{setFrom}
-use Rattle.cell.specs.Limits.{cellLimit, portLimit}
+use Rattle.cell.specs.Limits.{sectionRoom, portLimit}
 use Rattle.model.specs.State.{isListed}
 use Rattle.layout.specs.Number.{numberOf, numberAt, word}
 use Rattle.layout.specs.Entry.{entryAt, portsIn, clockIn, countIn}
@@ -165,15 +165,15 @@ module _ {old new : List ℕ} (kept : Kept old new) (r : Readable old) where
   kept-entry {k} t =
       record {
         input = omega (arith, kept .ports, t .input);
-        position = omega (arith, t .position, kept .counts (k / cellLimit) (omega (arith, t .input, r .ports)));
+        position = omega (arith, t .position, kept .counts (k / sectionRoom) (omega (arith, t .input, r .ports)));
       }
 
   kept-back : {k : ℕ} → InTable new k → InTable old k
   kept-back {k} t =
-      let port : k / cellLimit < portsIn old = omega (arith, kept .ports, t .input) in
+      let port : k / sectionRoom < portsIn old = omega (arith, kept .ports, t .input) in
       record {
         input = port;
-        position = omega (arith, t .position, kept .counts (k / cellLimit) (omega (arith, r .ports)));
+        position = omega (arith, t .position, kept .counts (k / sectionRoom) (omega (arith, r .ports)));
       }
 
   module _ (places : List ℕ) where
@@ -183,7 +183,7 @@ module _ {old new : List ℕ} (kept : Kept old new) (r : Readable old) where
 
     same-window : (i n : ℕ) → window new places i n ≡ window old places i n
     unfolding window
-    same-window i n = ap (λ f. map f (numbersFrom (cellLimit * i) n)) (fun-ext same-waiting)
+    same-window i n = ap (λ f. map f (numbersFrom (sectionRoom * i) n)) (fun-ext same-waiting)
 
     kept-inTable : inTable new places ≡ inTable old places
     unfolding inTable upTo
@@ -202,12 +202,12 @@ module _ {old new : List ℕ} (kept : Kept old new) (r : Readable old) where
           heads-size = l .heads-size;
           listed-at = λ i b.
               l .listed-at i b
-              ∙ ap (setFrom (λ k. isListed (placeOf (getD places k 0))) (cellLimit * i)) (sym (kept .counts i b));
+              ∙ ap (setFrom (λ k. isListed (placeOf (getD places k 0))) (sectionRoom * i)) (sym (kept .counts i b));
           heads-at = λ i b.
               l .heads-at i b
-              ∙ ap₂ (λ all n. setFrom (λ k. isHead all (waitingAt old places k)) (cellLimit * i) n)
+              ∙ ap₂ (λ all n. setFrom (λ k. isHead all (waitingAt old places k)) (sectionRoom * i) n)
               (sym kept-inTable) (sym (kept .counts i b))
-              ∙ ap (λ w. setFrom (λ k. isHead (inTable new places) (w k)) (cellLimit * i) (countIn new i))
+              ∙ ap (λ w. setFrom (λ k. isHead (inTable new places) (w k)) (sectionRoom * i) (countIn new i))
               (sym (fun-ext same-waiting));
         }
 

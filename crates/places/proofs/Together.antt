@@ -9,7 +9,7 @@ use Rattle.laws.specs.Lists.{keep, numbersFrom, upTo}
 use Rattle.laws.proofs.Lists.{none?-clash, keep-append, keep-pass, keep-mem}
 use Rattle.laws.proofs.Numbers.{numbersFrom-add, numbersFrom-at, numbersFrom-mem}
 use Rattle.cell.specs.Flow.{sameFlow}
-use Rattle.cell.specs.Limits.{cellLimit}
+use Rattle.cell.specs.Limits.{sectionRoom}
 use Rattle.cell.proofs.Flow.{flow-sym, flow-trans}
 use Rattle.model.specs.State.{Entry, isListed}
 use Rattle.model.specs.Sound.{together}
@@ -24,7 +24,7 @@ use Rattle.places.proofs.Own.{own-sections}
 -- of three listed cells of an input the middle one is of the flow of the others, where these are of one flow
 abbrev pub Contiguous : List ℕ → List ℕ → Type 0
 Contiguous table places =
-    (a b c : ℕ) → InTable table a → InTable table b → InTable table c → a / cellLimit ≡ c / cellLimit
+    (a b c : ℕ) → InTable table a → InTable table b → InTable table c → a / sectionRoom ≡ c / sectionRoom
     → a < b → b < c → isListed (placeOf (getD places a 0)) ≡ true → isListed (placeOf (getD places b 0)) ≡ true
     → isListed (placeOf (getD places c 0)) ≡ true → sameFlow (entryAt table a .cell) (entryAt table c .cell) ≡ true
     → sameFlow (entryAt table a .cell) (entryAt table b .cell) ≡ true
@@ -109,11 +109,11 @@ module _ (table : List ℕ) (good : IsTable table) where
   unfolding sectionPlaced entryPlaced chosen
   contiguous a b c ta tb tc same ab bc la lb lc flow =
       let s = stateOf table in
-      let input : ℕ = a / cellLimit in
-      let flows : together (chosen (entryPlaced table (placesIn table)) (cellLimit * input) (countIn table input)) ≡ true =
+      let input : ℕ = a / sectionRoom in
+      let flows : together (chosen (entryPlaced table (placesIn table)) (sectionRoom * input) (countIn table input)) ≡ true =
       sym (ap (λ l. together (keep (λ e. isListed (e .place)) l)) (section input (ta .input)))
       ∙ sections-e (s .ports) (s .clock) (s .sections) (sound-sections s (decode-sound table s good)) input .flows in
-      let end : c < cellLimit * input + countIn table input =
-      subst (λ i. c < cellLimit * i + countIn table i) (sym same) (tc .position) in
-      run-between (entryPlaced table (placesIn table)) (cellLimit * input) (countIn table input) a b c
+      let end : c < sectionRoom * input + countIn table input =
+      subst (λ i. c < sectionRoom * i + countIn table i) (sym same) (tc .position) in
+      run-between (entryPlaced table (placesIn table)) (sectionRoom * input) (countIn table input) a b c
       (omega arith) ab bc end flows la lb lc flow

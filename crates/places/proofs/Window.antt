@@ -19,7 +19,7 @@ use Rattle.laws.specs.Lists.{keep, pairwise, numbersFrom, upTo}
 use Rattle.laws.proofs.Lists.{keep-append, keep-all, keep-none, all?-i, none?-i}
 use Rattle.laws.proofs.Numbers.{numbersFrom-mem, mem-numbersFrom}
 use Rattle.laws.proofs.Pairwise.{pairwise-nil, pairwise-cons, pairwise-map}
-use Rattle.cell.specs.Limits.{cellLimit}
+use Rattle.cell.specs.Limits.{sectionRoom}
 use Rattle.laws.proofs.Compared.{Compared, below, equal, above, compare}
 use Rattle.model.specs.Phase.{Waiting, ahead, crosspoints}
 use Rattle.model.proofs.WaitingOrder.{ahead-i}
@@ -124,33 +124,33 @@ module _ (table places : List ℕ) where
   unfolding waitingAt
   waitingAt-place k = refl
 
-  pub waitingAt-input : (k : ℕ) → waitingAt table places k .cell .input ≡ k / cellLimit
+  pub waitingAt-input : (k : ℕ) → waitingAt table places k .cell .input ≡ k / sectionRoom
   unfolding waitingAt
   waitingAt-input k = entryAt-input table k
 
   ------------------------------------------------------------------------
   -- windows
 
-  pub window-i : (input n k : ℕ) → cellLimit * input ≤ k → k < cellLimit * input + n
+  pub window-i : (input n k : ℕ) → sectionRoom * input ≤ k → k < sectionRoom * input + n
       → List·Memᴰ (waitingAt table places k) (window table places input n)
   unfolding window
-  window-i input n k a b = Memᴰ·map (waitingAt table places) (numbersFrom-mem (cellLimit * input) n a b)
+  window-i input n k a b = Memᴰ·map (waitingAt table places) (numbersFrom-mem (sectionRoom * input) n a b)
 
   -- a cell in a window
   pub record InWindow (input n : ℕ) (e : Waiting) : Type 0 where
     pub self : e ≡ waitingAt table places (e .at)
-    pub from : cellLimit * input ≤ e .at
-    pub to : e .at < cellLimit * input + n
+    pub from : sectionRoom * input ≤ e .at
+    pub to : e .at < sectionRoom * input + n
 
   pub window-e : (input n : ℕ) {e : Waiting} → List·Memᴰ e (window table places input n) → InWindow input n e
   unfolding window
-  window-e input n {e} m = go (Memᴰ·of-map (waitingAt table places) (numbersFrom (cellLimit * input) n) m)
+  window-e input n {e} m = go (Memᴰ·of-map (waitingAt table places) (numbersFrom (sectionRoom * input) n) m)
     where
-      go : (k : ℕ) × List·Memᴰ k (numbersFrom (cellLimit * input) n) × (waitingAt table places k ≡ e)
+      go : (k : ℕ) × List·Memᴰ k (numbersFrom (sectionRoom * input) n) × (waitingAt table places k ≡ e)
           → InWindow input n e
       go (k, i, q) =
           let at : k ≡ e .at = sym (waitingAt-at k) ∙ ap (λ w. w .at) q in
-          let b = mem-numbersFrom (cellLimit * input) n i in
+          let b = mem-numbersFrom (sectionRoom * input) n i in
           record {
             self = sym q ∙ ap (waitingAt table places) at;
             from = omega (arith, b .0);
@@ -158,21 +158,21 @@ module _ (table places : List ℕ) where
           }
 
   -- its input is the window's
-  pub window-input : (input n : ℕ) {e : Waiting} → n ≤ cellLimit → List·Memᴰ e (window table places input n)
+  pub window-input : (input n : ℕ) {e : Waiting} → n ≤ sectionRoom → List·Memᴰ e (window table places input n)
       → e .cell .input ≡ input
   window-input input n {e} small m =
       let w = window-e input n m in
-      let q : e .at / cellLimit ≡ input = omega (arith, w .from, w .to) in
+      let q : e .at / sectionRoom ≡ input = omega (arith, w .from, w .to) in
       ap (λ w. w .cell .input) (w .self) ∙ waitingAt-input (e .at) ∙ q
 
   -- its cells stand in the order of their numbers
-  pub window-ordered : (input n : ℕ) → n ≤ cellLimit → pairwise ahead (window table places input n) ≡ true
+  pub window-ordered : (input n : ℕ) → n ≤ sectionRoom → pairwise ahead (window table places input n) ≡ true
   unfolding window
   window-ordered input n small =
-      pairwise-map ahead (waitingAt table places) (numbersFrom (cellLimit * input) n)
-      ∙ numbersFrom-pairwise (λ a b. ahead (waitingAt table places a) (waitingAt table places b)) (cellLimit * input) n
+      pairwise-map ahead (waitingAt table places) (numbersFrom (sectionRoom * input) n)
+      ∙ numbersFrom-pairwise (λ a b. ahead (waitingAt table places a) (waitingAt table places b)) (sectionRoom * input) n
       (λ a b l m u. ahead-i (waitingAt table places a) (waitingAt table places b)
-      (waitingAt-input a ∙ (let q : a / cellLimit ≡ b / cellLimit = omega arith in q) ∙ sym (waitingAt-input b))
+      (waitingAt-input a ∙ (let q : a / sectionRoom ≡ b / sectionRoom = omega arith in q) ∙ sym (waitingAt-input b))
       (omega (arith, waitingAt-at a, waitingAt-at b)))
 
   ------------------------------------------------------------------------
@@ -193,19 +193,19 @@ module _ (table places : List ℕ) where
             let w = window-e i (countIn table i) k in
             let port : i < portsIn table = omega arith in
             let small : countIn table i ≤ 64 = r .counts i (omega (arith, r .ports)) in
-            let q : e .at / cellLimit ≡ i = omega (arith, w .from, w .to) in (
+            let q : e .at / sectionRoom ≡ i = omega (arith, w .from, w .to) in (
               w .self,
               record {
                 input = omega arith;
-                position = subst (λ j. e .at < cellLimit * j + countIn table j) (sym q) (w .to);
+                position = subst (λ j. e .at < sectionRoom * j + countIn table j) (sym q) (w .to);
               },
             )
 
     pub inTable-i : (k : ℕ) → InTable table k → List·Memᴰ (waitingAt table places k) (inTable table places)
     unfolding inTable upTo section
     inTable-i k t =
-        run-i section 0 (portsIn table) (k / cellLimit) (omega arith) (omega (arith, t .input))
-        (window-i (k / cellLimit) (countIn table (k / cellLimit)) k (omega arith) (t .position))
+        run-i section 0 (portsIn table) (k / sectionRoom) (omega arith) (omega (arith, t .input))
+        (window-i (k / sectionRoom) (countIn table (k / sectionRoom)) k (omega arith) (t .position))
 
     -- the cells of an input
     pub ofInput-window : (input : ℕ) → input < portsIn table
@@ -217,7 +217,7 @@ module _ (table places : List ℕ) where
         (λ x m. eq-eqb _ _ (window-input input (countIn table input) (small input l) m))
         0 (portsIn table) (omega arith) (omega arith) (omega arith)
       where
-        small : (i : ℕ) → i < portsIn table → countIn table i ≤ cellLimit
+        small : (i : ℕ) → i < portsIn table → countIn table i ≤ sectionRoom
         small i l = r .counts i (omega (arith, r .ports))
 
     pub ofInput-none : (input : ℕ) → portsIn table ≤ input → ofInput input (inTable table places) ≡ []
@@ -229,11 +229,11 @@ module _ (table places : List ℕ) where
         go : (e : Waiting) → List·Memᴰ e (inTable table places) → e .cell .input ≡ input → ⊥
         go e m q =
             let t = inTable-e m in
-            let i : e .cell .input ≡ e .at / cellLimit = ap (λ w. w .cell .input) (t .0) ∙ waitingAt-input (e .at) in
+            let i : e .cell .input ≡ e .at / sectionRoom = ap (λ w. w .cell .input) (t .0) ∙ waitingAt-input (e .at) in
             omega (arith, t .1 .input)
 
     -- the input of a waiting cell is that of its number
-    pub inTable-input : {e : Waiting} → List·Memᴰ e (inTable table places) → e .cell .input ≡ e .at / cellLimit
+    pub inTable-input : {e : Waiting} → List·Memᴰ e (inTable table places) → e .cell .input ≡ e .at / sectionRoom
     inTable-input {e} m = ap (λ w. w .cell .input) (inTable-e m .0) ∙ waitingAt-input (e .at)
 
     -- where the crosspoints agree with the places, they hold the crossed cells

@@ -11,9 +11,10 @@ use Rattle.laws.specs.Lists.{keep, least, first?}
 use Rattle.cell.specs.Order.{over}
 use Rattle.model.specs.Phase.{Waiting, beats, Phase, phase}
 use Rattle.layout.specs.Entry.{entryAt}
+use Rattle.layout.specs.Table.{entryLimit}
 
 abbrev pub nowhere : ℕ
-nowhere = 1024
+nowhere = entryLimit
 
 unfoldable pub numberOf : Option Waiting → ℕ
 numberOf none = nowhere

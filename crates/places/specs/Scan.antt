@@ -5,9 +5,9 @@ use mathlib.Core.Path.{_≡_}
 use mathlib.Core.List.{List, List·Memᴰ}
 use lib.ListN.{length, getD}
 use Rattle.laws.specs.Lists.{some?}
-use Rattle.cell.specs.Limits.{portLimit, flowLimit, cellLimit, clockEnd}
+use Rattle.cell.specs.Limits.{portLimit, flowLimit, sectionRoom, clockEnd}
 use Rattle.model.specs.Phase.{Waiting, Phase}
-use Rattle.layout.specs.Table.{tableSize}
+use Rattle.layout.specs.Table.{tableSize, entryLimit}
 use Rattle.layout.specs.Entry.{entryAt, portsIn, countIn}
 use Rattle.places.specs.Choices.{scheduledOf, bestOf}
 use Rattle.places.specs.View.{InTable, crosspointAt}
@@ -16,7 +16,7 @@ use Rattle.places.specs.View.{InTable, crosspointAt}
 pub record Readable (table : List ℕ) : Type 0 where
   pub size : length table ≡ tableSize
   pub ports : portsIn table ≤ portLimit
-  pub counts : (input : ℕ) → input < portLimit → countIn table input ≤ cellLimit
+  pub counts : (input : ℕ) → input < portLimit → countIn table input ≤ sectionRoom
   pub outputs : (k : ℕ) → InTable table k → entryAt table k .cell .output < portsIn table
   pub flows : (k : ℕ) → InTable table k → entryAt table k .cell .flow < flowLimit
   pub early : (k : ℕ) → InTable table k → entryAt table k .cell .slot < clockEnd
@@ -26,14 +26,14 @@ pub record Holds (table : List ℕ) (cross : List (List ℕ)) (cells : List Wait
   pub cell : (e : Waiting) → List·Memᴰ e cells → e .cell ≡ entryAt table (e .at) .cell
   pub inside : (e : Waiting) → List·Memᴰ e cells → InTable table (e .at)
   pub filled : (e : Waiting) → List·Memᴰ e cells → crosspointAt cross (e .cell .input) (e .cell .output) ≡ e .at
-  pub real : (input output : ℕ) → input < 16 → output < 16 → crosspointAt cross input output < 1024
+  pub real : (input output : ℕ) → input < portLimit → output < portLimit → crosspointAt cross input output < entryLimit
       → (e : Waiting) × List·Memᴰ e cells × (e .at ≡ crosspointAt cross input output)
       × (e .cell .input ≡ input) × (e .cell .output ≡ output)
 
 -- the best cell at the crosspoints of each output, whatever cells they hold
 pub record Bests (table : List ℕ) (cross : List (List ℕ)) (best : List ℕ) : Type 0 where
-  pub size : length best ≡ 16
-  pub at : (cells : List Waiting) → Holds table cross cells → (output : ℕ) → output < 16
+  pub size : length best ≡ portLimit
+  pub at : (cells : List Waiting) → Holds table cross cells → (output : ℕ) → output < portLimit
       → getD best output 0 ≡ bestOf cells output
 
 ------------------------------------------------------------------------

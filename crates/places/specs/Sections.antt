@@ -3,7 +3,7 @@ use Prim.Native.Nat.{ℕ, _*_}
 use mathlib.Core.List.{List, map}
 use lib.ListN.{getD}
 use Rattle.laws.specs.Lists.{numbersFrom, upTo}
-use Rattle.cell.specs.Limits.{cellLimit}
+use Rattle.cell.specs.Limits.{sectionRoom}
 use Rattle.model.specs.State.{Entry}
 use Rattle.layout.specs.Entry.{entryAt, portsIn, countIn}
 use Rattle.layout.specs.Table.{placeOf}
@@ -13,7 +13,7 @@ entryPlaced table places k = record { cell = entryAt table k .cell; place = plac
 
 unfoldable pub sectionPlaced : List ℕ → List ℕ → ℕ → List Entry
 sectionPlaced table places input =
-    map (entryPlaced table places) (numbersFrom (cellLimit * input) (countIn table input))
+    map (entryPlaced table places) (numbersFrom (sectionRoom * input) (countIn table input))
 
 unfoldable pub sectionsPlaced : List ℕ → List ℕ → List (List Entry)
 sectionsPlaced table places = map (sectionPlaced table places) (upTo (portsIn table))

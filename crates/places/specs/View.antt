@@ -7,12 +7,12 @@ use mathlib.Core.Bool.{true}
 use mathlib.Core.Path.{_≡_}
 use lib.ListN.{length, getD}
 use Rattle.laws.specs.Lists.{numbersFrom, upTo}
-use Rattle.cell.specs.Limits.{cellLimit}
+use Rattle.cell.specs.Limits.{sectionRoom, portLimit}
 use Rattle.model.specs.Phase.{Waiting}
 use Rattle.model.specs.State.{isCrossed}
 use Rattle.layout.specs.Entry.{entryAt, portsIn, countIn}
 use Rattle.layout.specs.Records.{placeByteAt}
-use Rattle.layout.specs.Table.{placeOf}
+use Rattle.layout.specs.Table.{placeOf, entryLimit}
 
 -- the waiting cell with a number
 unfoldable pub waitingAt : List ℕ → List ℕ → ℕ → Waiting
@@ -20,7 +20,7 @@ waitingAt table places k = record { at = k; cell = entryAt table k .cell; place 
 
 -- the first n waiting cells of an input
 unfoldable pub window : List ℕ → List ℕ → ℕ → ℕ → List Waiting
-window table places input n = map (waitingAt table places) (numbersFrom (cellLimit * input) n)
+window table places input n = map (waitingAt table places) (numbersFrom (sectionRoom * input) n)
 
 -- all waiting cells
 unfoldable pub inTable : List ℕ → List ℕ → List Waiting
@@ -33,13 +33,13 @@ crosspointAt cross input output = getD (getD cross input []) output 0
 
 -- sixteen rows of sixteen places
 pub record Square (cross : List (List ℕ)) : Type 0 where
-  pub rows : length cross ≡ 16
-  pub columns : (input : ℕ) → input < 16 → length (getD cross input []) ≡ 16
+  pub rows : length cross ≡ portLimit
+  pub columns : (input : ℕ) → input < portLimit → length (getD cross input []) ≡ portLimit
 
 -- an entry of the table has this number
 pub record InTable (table : List ℕ) (k : ℕ) : Type 0 where
-  pub input : k / cellLimit < portsIn table
-  pub position : k < cellLimit * (k / cellLimit) + countIn table (k / cellLimit)
+  pub input : k / sectionRoom < portsIn table
+  pub position : k < sectionRoom * (k / sectionRoom) + countIn table (k / sectionRoom)
 
 -- each entry has one of the three places
 abbrev pub InPlace : List ℕ → List ℕ → Type 0
@@ -50,7 +50,7 @@ InPlace table places = (k : ℕ) → InTable table k → (1 ≤ getD places k 0)
 pub record Agrees (table places : List ℕ) (cross : List (List ℕ)) : Type 0 where
   pub filled : (e : Waiting) → List·Memᴰ e (inTable table places) → isCrossed (e .place) ≡ true
       → crosspointAt cross (e .cell .input) (e .cell .output) ≡ e .at
-  pub real : (input output : ℕ) → input < 16 → output < 16 → crosspointAt cross input output < 1024
+  pub real : (input output : ℕ) → input < portLimit → output < portLimit → crosspointAt cross input output < entryLimit
       → InTable table (crosspointAt cross input output)
       × (isCrossed (waitingAt table places (crosspointAt cross input output) .place) ≡ true)
       × (waitingAt table places (crosspointAt cross input output) .cell .input ≡ input)
@@ -60,7 +60,7 @@ pub record Agrees (table places : List ℕ) (cross : List (List ℕ)) : Type 0 w
 -- the places that the table itself has
 
 unfoldable pub placesIn : List ℕ → List ℕ
-placesIn table = map (placeByteAt table) (numbersFrom 0 1024)
+placesIn table = map (placeByteAt table) (numbersFrom 0 entryLimit)
 
 -- its waiting cells
 abbrev pub waitingIn : List ℕ → List Waiting

@@ -13,7 +13,7 @@ use lib.ListN.{length, getD, replicate}
 use Rattle.laws.specs.Lists.{none?}
 use Rattle.sets.specs.Sets.{setFrom, members}
 use Rattle.cell.specs.Flow.{sameFlow}
-use Rattle.cell.specs.Limits.{portLimit, cellLimit}
+use Rattle.cell.specs.Limits.{portLimit, sectionRoom}
 use Rattle.cell.specs.Order.{key}
 use Rattle.model.specs.State.{isListed, isCrossed, isBuffered}
 use Rattle.model.specs.Phase.{Waiting, ahead, lists, phase}
@@ -33,34 +33,34 @@ isHead all e = isListed (e .place) && none? (λ f. sameFlow (f .cell) (e .cell) 
 -- the positions of the cells in the list of an input, and of its heads
 unfoldable pub listedSet : List ℕ → List ℕ → ℕ → ℕ
 listedSet table places input =
-    setFrom (λ k. isListed (placeOf (getD places k 0))) (cellLimit * input) (countIn table input)
+    setFrom (λ k. isListed (placeOf (getD places k 0))) (sectionRoom * input) (countIn table input)
 
 unfoldable pub headSet : List ℕ → List ℕ → ℕ → ℕ
 headSet table places input =
-    setFrom (λ k. isHead (inTable table places) (waitingAt table places k)) (cellLimit * input) (countIn table input)
+    setFrom (λ k. isHead (inTable table places) (waitingAt table places k)) (sectionRoom * input) (countIn table input)
 
 pub record ListsOf (table places listed heads : List ℕ) : Type 0 where
-  pub listed-size : length listed ≡ 16
-  pub heads-size : length heads ≡ 16
-  pub listed-at : (input : ℕ) → input < 16 → getD listed input 0 ≡ listedSet table places input
-  pub heads-at : (input : ℕ) → input < 16 → getD heads input 0 ≡ headSet table places input
+  pub listed-size : length listed ≡ portLimit
+  pub heads-size : length heads ≡ portLimit
+  pub listed-at : (input : ℕ) → input < portLimit → getD listed input 0 ≡ listedSet table places input
+  pub heads-at : (input : ℕ) → input < portLimit → getD heads input 0 ≡ headSet table places input
 
 -- the positions of the cells of an input at crosspoints, and of those in buffers
 unfoldable pub crossedSet : List ℕ → List ℕ → ℕ → ℕ
 crossedSet table places input =
-    setFrom (λ k. isCrossed (placeOf (getD places k 0))) (cellLimit * input) (countIn table input)
+    setFrom (λ k. isCrossed (placeOf (getD places k 0))) (sectionRoom * input) (countIn table input)
 
 unfoldable pub bufferedSet : List ℕ → List ℕ → ℕ → ℕ
 bufferedSet table places input =
-    setFrom (λ k. isBuffered (placeOf (getD places k 0))) (cellLimit * input) (countIn table input)
+    setFrom (λ k. isBuffered (placeOf (getD places k 0))) (sectionRoom * input) (countIn table input)
 
 -- the cells of each input by their places
 pub record SetsOf (table places listed heads crossed buffered : List ℕ) : Type 0 where
   pub lists : ListsOf table places listed heads
-  pub crossed-size : length crossed ≡ 16
-  pub buffered-size : length buffered ≡ 16
-  pub crossed-at : (input : ℕ) → input < 16 → getD crossed input 0 ≡ crossedSet table places input
-  pub buffered-at : (input : ℕ) → input < 16 → getD buffered input 0 ≡ bufferedSet table places input
+  pub crossed-size : length crossed ≡ portLimit
+  pub buffered-size : length buffered ≡ portLimit
+  pub crossed-at : (input : ℕ) → input < portLimit → getD crossed input 0 ≡ crossedSet table places input
+  pub buffered-at : (input : ℕ) → input < portLimit → getD buffered input 0 ≡ bufferedSet table places input
 
 ------------------------------------------------------------------------
 -- the crosspoints
@@ -76,7 +76,7 @@ keyAt table k = cond (ltb k nowhere) (key (entryAt table k .cell)) noKey
 -- output by output, the keys of the cells at the crosspoints
 pub record Keyed (table : List ℕ) (cross keys : List (List ℕ)) : Type 0 where
   pub square : Square keys
-  pub at : (input output : ℕ) → input < 16 → output < 16
+  pub at : (input output : ℕ) → input < portLimit → output < portLimit
       → getD (getD keys output []) input 0 ≡ keyAt table (crosspointAt cross input output)
 
 ------------------------------------------------------------------------
@@ -90,8 +90,8 @@ pub record Buffered (table places : List ℕ) (output k : ℕ) : Type 0 where
 
 -- the best of them, output by output
 pub record BestBuffered (table places best : List ℕ) : Type 0 where
-  pub size : length best ≡ 16
-  pub each : (output : ℕ) → output < 16 → BestAmong table (Buffered table places output) (getD best output 0)
+  pub size : length best ≡ portLimit
+  pub each : (output : ℕ) → output < portLimit → BestAmong table (Buffered table places output) (getD best output 0)
 
 ------------------------------------------------------------------------
 -- the view
@@ -117,15 +117,15 @@ pub record Occupied (table : List ℕ) (cross keys : List (List ℕ)) (best : Li
 
 -- no cell is in the sets, and none at the crosspoints and in the buffers
 pub record NoSets (listed heads crossed buffered : List ℕ) : Type 0 where
-  pub no-lists : listed ≡ replicate 16 0
-  pub no-heads : heads ≡ replicate 16 0
-  pub no-crossed : crossed ≡ replicate 16 0
-  pub no-buffered : buffered ≡ replicate 16 0
+  pub no-lists : listed ≡ replicate portLimit 0
+  pub no-heads : heads ≡ replicate portLimit 0
+  pub no-crossed : crossed ≡ replicate portLimit 0
+  pub no-buffered : buffered ≡ replicate portLimit 0
 
 pub record Blank (cross keys : List (List ℕ)) (best : List ℕ) : Type 0 where
-  pub no-crosspoints : cross ≡ replicate 16 (replicate 16 nowhere)
-  pub no-keys : keys ≡ replicate 16 (replicate 16 noKey)
-  pub no-buffers : best ≡ replicate 16 nowhere
+  pub no-crosspoints : cross ≡ replicate portLimit (replicate portLimit nowhere)
+  pub no-keys : keys ≡ replicate portLimit (replicate portLimit noKey)
+  pub no-buffers : best ≡ replicate portLimit nowhere
 
 ------------------------------------------------------------------------
 -- the choices of a phase
@@ -138,6 +138,6 @@ pub record Chosen (table : List ℕ) (cross : List (List ℕ)) (urgent : Bool) (
   pub schedules : Scheduled (phase (waitingIn table)) portLimit scheduled
   pub candidates-size : length candidates ≡ portLimit
   pub candidates-are : (input : ℕ) → input < portLimit
-      → map (λ j. cellLimit * input + j) (members (getD candidates input 0))
+      → map (λ j. sectionRoom * input + j) (members (getD candidates input 0))
       ≡ candidatesOf (phase (waitingIn table)) input
   pub bests : Bests table cross best

@@ -1,16 +1,17 @@
 // What the steps of a slot share: the choice of a phase, and the choice of an output between two cells.
-use table::entry::CELLS;
-use table::entry::PORTS;
+use layout::CELLS;
+use layout::PORTS;
 ghost use mathlib.Core.Path.{_≡_};
 ghost use Prim.Native.Nat.{_+_, _*_, _<_};
 ghost use lib.ListN.{length};
 ghost use Rattle.cell.specs.Order.{over, key as cellKey};
+ghost use Rattle.cell.specs.Limits.{sectionRoom, portLimit};
 ghost use Rattle.layout.specs.Entry.{entryAt, countIn};
-ghost use Rattle.layout.specs.Table.{tableSize};
+ghost use Rattle.layout.specs.Table.{tableSize, entryLimit};
 ghost use Rattle.places.specs.Choices.{betterOf};
 
 // A number that no entry has.
-pub const NOWHERE: u16 = 1024;
+pub const NOWHERE: u16 = layout::ENTRIES as u16;
 
 // Above the key of every cell.
 pub const NO_KEY: u64 = 18446744073709551615;
@@ -26,8 +27,8 @@ pub struct Choice {
 
 // The number behind the last entry of an input.
 pub fn end_of(table: &[u8], input: usize) -> usize
-    requires { ⌜ (length (now table) ≡ tableSize) × (input < 16) ⌝ }
-    ensures { λ r. ⌜ r ≡ 64 * input + countIn (now (table .entry)) input ⌝ }
+    requires { ⌜ (length (now table) ≡ tableSize) × (input < portLimit) ⌝ }
+    ensures { λ r. ⌜ r ≡ sectionRoom * input + countIn (now (table .entry)) input ⌝ }
 {
     CELLS * input + table::entry::count_of(table, input)
 }
@@ -52,7 +53,7 @@ pub fn better(table: &[u8], held: u16, number: u16) -> u16
 
 // Whether an output sends the first of two cells first.
 pub fn is_over(table: &[u8], k: usize, other: u16) -> bool
-    requires { ⌜ (length (now table) ≡ tableSize) × (k < 1024) × (other < 1024) ⌝ }
+    requires { ⌜ (length (now table) ≡ tableSize) × (k < entryLimit) × (other < entryLimit) ⌝ }
     ensures { λ r. ⌜ r ≡ over (entryAt (now (table .entry)) k .cell) (entryAt (now (table .entry)) other .cell) ⌝ }
 {
     goes_first(
@@ -66,7 +67,7 @@ pub fn is_over(table: &[u8], k: usize, other: u16) -> bool
 
 // The same by the keys of both. Equal keys are rare, and only then the cells are read.
 pub fn goes_first(table: &[u8], key: u64, k: usize, rival: u64, other: usize) -> bool
-    requires { ⌜ (length (now table) ≡ tableSize) × (k < 1024) × (other < 1024) ⌝ }
+    requires { ⌜ (length (now table) ≡ tableSize) × (k < entryLimit) × (other < entryLimit) ⌝ }
     requires { ⌜ (key ≡ cellKey (entryAt (now table) k .cell)) × (rival ≡ cellKey (entryAt (now table) other .cell)) ⌝ }
     ensures { λ r. ⌜ r ≡ over (entryAt (now (table .entry)) k .cell) (entryAt (now (table .entry)) other .cell) ⌝ }
 {

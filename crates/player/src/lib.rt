@@ -126,7 +126,7 @@ fn fail(complaint: &[u8]) -> u32
 fn play() -> u32
     ensures { λ r. ⌜ r ≤ 2 ⌝ }
 {
-    let mut table = [0u8; 16416];
+    let mut table = [0u8; layout::TABLE_BYTES];
     let mut window = io::large_buffer();
     let mut out = io::large_buffer();
     let mut stage = Stage::Opening;

@@ -9,7 +9,7 @@ use lib.ListN.{length, getD}
 use Rattle.laws.specs.Lists.{keep, upTo}
 use Rattle.sets.specs.Sets.{members}
 use Rattle.cell.specs.declared.Cell.{Cell}
-use Rattle.cell.specs.Limits.{portLimit, cellLimit}
+use Rattle.cell.specs.Limits.{portLimit, sectionRoom}
 use Rattle.cell.specs.Order.{over}
 use Rattle.matching.specs.Matching.{matched, proposals}
 use Rattle.layout.specs.Entry.{entryAt}
@@ -17,7 +17,7 @@ use Rattle.places.specs.Choices.{nowhere}
 
 -- the numbers of a set of positions of input i
 unfoldable pub numbersIn : ℕ → ℕ → List ℕ
-numbersIn set i = map (λ j. cellLimit * i + j) (members set)
+numbersIn set i = map (λ j. sectionRoom * i + j) (members set)
 
 -- all candidates, input by input
 unfoldable pub numbersOf : List ℕ → List ℕ
@@ -25,7 +25,7 @@ numbersOf candidates = flatten (map (λ i. numbersIn (getD candidates i 0) i) (u
 
 -- both are of one input, and k stands before l in its list
 unfoldable pub aheadAt : ℕ → ℕ → Bool
-aheadAt k l = eqb (k / cellLimit) (l / cellLimit) && ltb k l
+aheadAt k l = eqb (k / sectionRoom) (l / sectionRoom) && ltb k l
 
 module _ (table : List ℕ) where
   abbrev pub cellAt : ℕ → Cell

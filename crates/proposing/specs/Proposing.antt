@@ -7,7 +7,7 @@ use mathlib.Core.Path.{_≡_}
 use mathlib.Core.List.{List}
 use lib.ListN.{getD, set}
 use Rattle.sets.specs.Sets.{headOr, withoutOne}
-use Rattle.cell.specs.Limits.{cellLimit}
+use Rattle.cell.specs.Limits.{sectionRoom}
 use Rattle.cell.specs.Order.{over}
 use Rattle.places.specs.Choices.{nowhere}
 use Rattle.proposing.specs.Found.{numbersIn, cellAt, outputAt}
@@ -18,15 +18,15 @@ nextIn set i = headOr nowhere (numbersIn set i)
 
 -- the candidates of its input without number k, and all candidates without it
 unfoldable pub rest : List ℕ → ℕ → ℕ
-rest left k = withoutOne (getD left (k / cellLimit) 0) (k % cellLimit)
+rest left k = withoutOne (getD left (k / sectionRoom) 0) (k % sectionRoom)
 
 unfoldable pub without : List ℕ → ℕ → List ℕ
-without left k = set left (k / cellLimit) (rest left k)
+without left k = set left (k / sectionRoom) (rest left k)
 
 -- k is refused, and its input goes on
 pub record Refused (left : List ℕ) (k : ℕ) (left′ : List ℕ) (next : ℕ) : Type 0 where
   pub others : left′ ≡ without left k
-  pub goes-on : next ≡ nextIn (rest left k) (k / cellLimit)
+  pub goes-on : next ≡ nextIn (rest left k) (k / sectionRoom)
 
 -- k is proposed to its output
 module _ (table left held : List ℕ) (k : ℕ) where

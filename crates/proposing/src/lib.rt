@@ -1,9 +1,9 @@
 // Scope 3.6, rule 4: the matching of a phase, on sets of positions and the bytes of the table. Inputs propose one after
 // the other, each in the order of its list, and an output keeps the best proposal so far; the input whose cell is
 // refused goes on. In whatever order they are asked, the matching is the same.
+use layout::CELLS;
+use layout::PORTS;
 use places::NOWHERE;
-use table::entry::CELLS;
-use table::entry::PORTS;
 ghost use mathlib.Core.Path.{_≡_};
 ghost use Prim.Native.Nat.{_<_};
 ghost use lib.ListN.{length};

@@ -5,7 +5,11 @@ use cell::Arrival;
 use cell::Refusal;
 use cell::Switch;
 use trace::Answer;
+use trace::BLOCK_LIMIT;
+use trace::BLOCK_LINES;
+use trace::FIELDS;
 use trace::Key;
+use trace::NUMBERS;
 use trace::Opening;
 ghost use mathlib.Core.Bool.{true, false};
 ghost use mathlib.Core.List.{[], _∷_};
@@ -15,14 +19,14 @@ ghost use lib.ListN.{length, drop};
 ghost use lib.Seq.{sets};
 ghost use Rattle.trace.specs.declared.Key.the-variants.{End};
 ghost use Rattle.trace.specs.Line.{isDigit, readLine};
-ghost use Rattle.trace.specs.Contents.{blockLimit};
+ghost use Rattle.trace.specs.Contents.{blockLimit, blockLines};
 ghost use Rattle.trace.specs.Reader.{arrival, arrivals, begins, next, read};
 ghost use Rattle.trace.specs.Piece.{known, decided, nextIn, headerIn, numbersOf, answerOf, openingOf};
 ghost use Rattle.reader.specs.Reading.{from, wordAt, beginsWith, readBody, readMarked, lineOf, cameOf, ahead};
 ghost use Rattle.reader.specs.Reading.{wholeArrivals, wholeOf, numbersAfter, endedOf, verdictOf};
 
-// The arrivals of a block as numbers: input, output, flow, rank, tag of each of sixteen.
-pub const NUMBERS: usize = 80;
+// The arrivals of a block, as an index.
+const ARRIVALS: usize = BLOCK_LIMIT as usize;
 
 // What stands at the start of a text.
 pub enum Line {
@@ -127,7 +131,7 @@ fn verify_blocks(text: &[u8], first: u32) -> Verdict
         match read_block(rest, clock, true, &mut numbers) {
             Answer::Slot(_, used, lines) => {
                 line += lines as usize;
-                if clock == 4294967295 {
+                if clock == Switch::CLOCK_END {
                     return Verdict::Refused(Refusal::BadLine, line);
                 }
                 clock += 1;
@@ -203,9 +207,9 @@ fn read_arrivals(text: &[u8], start: usize, numbers: &mut [u32; NUMBERS]) -> Ans
 {
     let mut at = start;
     let mut k: usize = 0;
-    while k < 16 {
+    while k < ARRIVALS {
         let rest = &text[at..];
-        let line = (5 * k + 1) as u32;
+        let line = (FIELDS * k + 1) as u32;
         if !begins(rest, b"in=") {
             return Answer::Slot(k as u32, at, line);
         }
@@ -220,12 +224,12 @@ fn read_arrivals(text: &[u8], start: usize, numbers: &mut [u32; NUMBERS]) -> Ans
             }
         }
     }
-    Answer::Slot(16, at, 81)
+    Answer::Slot(BLOCK_LIMIT, at, BLOCK_LINES)
 }
 
 // arrival = in-line out-line flow-line rank-line tag-line
 fn read_arrival(text: &[u8], line: u32) -> Came
-    requires { ⌜ line ≤ 76 ⌝ }
+    requires { ⌜ line < blockLines ⌝ }
     ensures { λ r. ⌜ r ≡ cameOf (now (text .entry)) (arrival (from line (now (text .entry)))) ⌝ }
 {
     let Line::Number(input, a) = read_marked(text, b"in=") else {
@@ -259,10 +263,10 @@ fn read_arrival(text: &[u8], line: u32) -> Came
 
 // The numbers of an arrival, at its place among those of its block.
 fn store(numbers: &mut [u32; NUMBERS], k: usize, a: Arrival)
-    requires { ⌜ k < 16 ⌝ }
+    requires { ⌜ k < blockLimit ⌝ }
     ensures { λ _. ⌜ now (numbers .exit) ≡ sets (now (numbers .entry)) (5 * k) (numbersOf (a ∷ [])) ⌝ }
 {
-    let at = 5 * k;
+    let at = FIELDS * k;
     numbers[at] = a.input;
     numbers[at + 1] = a.output;
     numbers[at + 2] = a.flow;

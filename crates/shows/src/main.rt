@@ -7,6 +7,10 @@ mod shadow;
 mod stage;
 mod wrong;
 
+use layout::ANSWER_BYTES;
+use layout::ARRIVAL_BYTES;
+use layout::TABLE_BYTES;
+use layout::TALLY_BYTES;
 use reader::Verdict;
 use say::say;
 use say::tell;
@@ -37,17 +41,35 @@ fn bad_line() {
 
 // 1 comes before 10.
 fn starts() {
-    wrong::show_start(b"start with 0 ports: ", 0, 16416);
-    wrong::show_start(b"start with 17 ports: ", 17, 16415);
-    wrong::show_start(b"start in 16415 bytes: ", 2, 16415);
+    wrong::show_start(b"start with 0 ports: ", 0, TABLE_BYTES);
+    wrong::show_start(b"start with 17 ports: ", 17, TABLE_BYTES - 1);
+    wrong::show_start(b"start in 16415 bytes: ", 2, TABLE_BYTES - 1);
 }
 
 // 2 comes before 10.
 fn lent() {
-    wrong::show_slot(b"table of 0 ports: ", 0, 0, 456, 32);
-    wrong::show_slot(b"arrivals of 19 bytes: ", 2, 19, 455, 32);
-    wrong::show_slot(b"tally of 31 bytes: ", 2, 0, 455, 31);
-    wrong::show_slot(b"answer of 455 bytes: ", 2, 0, 455, 32);
+    wrong::show_slot(b"table of 0 ports: ", 0, 0, ANSWER_BYTES, TALLY_BYTES);
+    wrong::show_slot(
+        b"arrivals of 19 bytes: ",
+        2,
+        ARRIVAL_BYTES - 1,
+        ANSWER_BYTES - 1,
+        TALLY_BYTES,
+    );
+    wrong::show_slot(
+        b"tally of 31 bytes: ",
+        2,
+        0,
+        ANSWER_BYTES - 1,
+        TALLY_BYTES - 1,
+    );
+    wrong::show_slot(
+        b"answer of 455 bytes: ",
+        2,
+        0,
+        ANSWER_BYTES - 1,
+        TALLY_BYTES,
+    );
 }
 
 // 3, in the first slot and after the last.

@@ -1,8 +1,15 @@
 // What the program prints: a line for each show, a piece for each call.
+use crate::stage::Answer;
+use crate::stage::Tally;
+use layout::DEPARTURE_BYTES;
+use layout::FIRST_PROPOSALS;
+use layout::PORTS;
+use layout::SECOND_PROPOSALS;
 use libc::STDOUT_FILENO;
 use table::word::read_u32;
 ghost use Prim.Native.Nat.{_+_, _≤_};
 ghost use lib.ListN.{length};
+ghost use Rattle.layout.specs.Answer.{departureSize, answerSize};
 
 // The number of a refusal, and the record's place.
 pub(crate) fn say_refusal(result: u64) {
@@ -12,24 +19,24 @@ pub(crate) fn say_refusal(result: u64) {
 }
 
 // The departures and, if the first phase made any, the proposals of the two phases.
-pub(crate) fn say_answer(answer: &[u8; 456]) {
+pub(crate) fn say_answer(answer: &Answer) {
     if !say_departures(answer) {
         say(b"none");
     }
-    if read_u32(answer, 448) != 0 {
-        tell_word(b" by proposals ", answer, 448);
-        tell_word(b" and ", answer, 452);
+    if read_u32(answer, FIRST_PROPOSALS) != 0 {
+        tell_word(b" by proposals ", answer, FIRST_PROPOSALS);
+        tell_word(b" and ", answer, SECOND_PROPOSALS);
     }
     say(b", ");
 }
 
 // The departures, outputs rising. Whether there was one.
-fn say_departures(answer: &[u8; 456]) -> bool {
+fn say_departures(answer: &Answer) -> bool {
     let mut said = false;
     let mut output = 0;
-    while output < 16 {
-        if read_u32(answer, 28 * output) != 0 {
-            say_departure(answer, 28 * output, said);
+    while output < PORTS {
+        if read_u32(answer, DEPARTURE_BYTES * output) != 0 {
+            say_departure(answer, DEPARTURE_BYTES * output, said);
             said = true;
         }
         output += 1;
@@ -38,8 +45,8 @@ fn say_departures(answer: &[u8; 456]) -> bool {
 }
 
 // A departure, after others or as the first.
-fn say_departure(answer: &[u8; 456], at: usize, after: bool)
-    requires { ⌜ at + 28 ≤ 456 ⌝ }
+fn say_departure(answer: &Answer, at: usize, after: bool)
+    requires { ⌜ at + departureSize ≤ answerSize ⌝ }
 {
     if after {
         say(b" and ");
@@ -50,7 +57,7 @@ fn say_departure(answer: &[u8; 456], at: usize, after: bool)
 }
 
 // The tally's cells.
-pub(crate) fn say_cells(tally: &[u8; 32]) {
+pub(crate) fn say_cells(tally: &Tally) {
     tell_word(b"cells in ", tally, 16);
     tell_word(b", out ", tally, 24);
     say(b", ");

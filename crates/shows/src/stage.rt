@@ -6,14 +6,30 @@ use crate::say::say_refusal;
 use crate::say::say_verdict;
 use crate::shadow;
 use crate::shadow::Shadow;
+use layout::ANSWER_BYTES;
+use layout::ARRIVAL_BYTES;
+use layout::DEPARTURES_BYTES;
+use layout::PORTS;
+use layout::TABLE_BYTES;
+use layout::TALLY_BYTES;
 use table::word::read_u32;
 ghost use Prim.Native.Nat.{_≤_};
 ghost use lib.ListN.{length};
 
-// The bytes of a table and of a tally.
-pub(crate) type Table = [u8; 16416];
+// The bytes of a table, a tally and an answer, and of the arrivals of a show's call.
+pub(crate) type Table = [u8; TABLE_BYTES];
 
-pub(crate) type Tally = [u8; 32];
+pub(crate) type Tally = [u8; TALLY_BYTES];
+
+pub(crate) type Answer = [u8; ANSWER_BYTES];
+
+type Arrivals = [u8; MOST_BYTES];
+
+// A show lends at most one record more than can be accepted.
+const MOST_BYTES: usize = (PORTS + 1) * ARRIVAL_BYTES;
+
+// The numbers of the departures of an answer.
+const SENT: usize = DEPARTURES_BYTES / 4;
 
 // A show of so many slot calls on a fresh switch. A row is an arrival: the number of its call, counted from 0, then input, output,
 // flow, rank and tag. A show that is not told aloud tells its refusals, and its cells at the end.
@@ -25,8 +41,8 @@ pub(crate) fn show(
     rows: &[[u32; 6]],
     aloud: bool,
 ) {
-    let mut table = [0u8; 16416];
-    let mut tally = [0u8; 32];
+    let mut table = [0u8; TABLE_BYTES];
+    let mut tally = [0u8; TALLY_BYTES];
     let mut shadow = shadow::fresh(ports, first);
     say(name);
     crossbar::start(ports, first, &mut table);
@@ -81,9 +97,9 @@ fn step(
     records: &[[u32; 6]],
     aloud: bool,
 ) -> bool {
-    let mut arrivals = [0u8; 340];
-    let mut answer = [0u8; 456];
-    let mut sent = [0u32; 112];
+    let mut arrivals = [0u8; MOST_BYTES];
+    let mut answer = [0u8; ANSWER_BYTES];
+    let mut sent = [0u32; SENT];
     let length = lend(&mut arrivals, records);
     let result = slot_with(table, &arrivals, length, &mut answer, tally);
     let right = shadow::slot(shadow, records, &mut sent);
@@ -95,26 +111,26 @@ fn step(
     result % 256 + 16 * (result / 256) == right && same_departures(&answer, &sent)
 }
 
-// The records as bytes, up to 17 of them. How many bytes there are.
-fn lend(arrivals: &mut [u8; 340], records: &[[u32; 6]]) -> usize {
+// The records as bytes, as many as there is room for. How many bytes there are.
+fn lend(arrivals: &mut Arrivals, records: &[[u32; 6]]) -> usize {
     let mut k = 0;
-    while k < 340 {
-        if records.len() <= k / 20 {
+    while k < MOST_BYTES {
+        if records.len() <= k / ARRIVAL_BYTES {
             return k;
         }
-        let number = records[k / 20][1 + k % 20 / 4];
+        let number = records[k / ARRIVAL_BYTES][1 + k % ARRIVAL_BYTES / 4];
         arrivals[k] = ((number >> (8 * (k % 4))) % 256) as u8;
         k += 1;
     }
-    340
+    MOST_BYTES
 }
 
 // A slot call with the first of the arrivals.
 fn slot_with(
     table: &mut Table,
-    arrivals: &[u8; 340],
+    arrivals: &Arrivals,
     length: usize,
-    answer: &mut [u8; 456],
+    answer: &mut Answer,
     tally: &mut Tally,
 ) -> u64 {
     let all: &[u8] = arrivals;
@@ -125,9 +141,9 @@ fn slot_with(
 }
 
 // Whether an answer has the departures that the shadow sent, and no others.
-fn same_departures(answer: &[u8; 456], sent: &[u32; 112]) -> bool {
+fn same_departures(answer: &Answer, sent: &[u32; SENT]) -> bool {
     let mut k = 0;
-    while k < 112 {
+    while k < SENT {
         if read_u32(answer, 4 * k) != sent[k] {
             return false;
         }

@@ -5,13 +5,21 @@ use crate::say::say_verdict;
 use crate::shadow;
 use crate::stage::Table;
 use crate::stage::play;
+use layout::ANSWER_BYTES;
+use layout::ARRIVAL_BYTES;
+use layout::TABLE_BYTES;
+use layout::TALLY_BYTES;
 ghost use Prim.Native.Nat.{_≤_};
+ghost use Rattle.layout.specs.Answer.{answerSize};
+ghost use Rattle.layout.specs.Arrivals.{arrivalSize};
+ghost use Rattle.layout.specs.Table.{tableSize};
+ghost use Rattle.layout.specs.TallyBytes.{tallySize};
 
 // A start that is turned back keeps the buffer.
 pub(crate) fn show_start(name: &[u8], ports: u32, length: usize)
-    requires { ⌜ length ≤ 16416 ⌝ }
+    requires { ⌜ length ≤ tableSize ⌝ }
 {
-    let mut buffer = [7u8; 16416];
+    let mut buffer = [7u8; TABLE_BYTES];
     say(name);
     say_refusal(crossbar::start(ports, 0, &mut buffer[0..length]) as u64);
     say_verdict(untouched(&buffer), b"buffer kept\n");
@@ -19,7 +27,7 @@ pub(crate) fn show_start(name: &[u8], ports: u32, length: usize)
 
 fn untouched(buffer: &Table) -> bool {
     let mut k = 0;
-    while k < 16416 {
+    while k < TABLE_BYTES {
         if buffer[k] != 7 {
             return false;
         }
@@ -31,14 +39,14 @@ fn untouched(buffer: &Table) -> bool {
 // A slot call that is turned back between good ones: with `ports` in the table where 2 is right, and so many bytes of arrivals, answer
 // and tally.
 pub(crate) fn show_slot(name: &[u8], ports: u8, arrivals: usize, answer: usize, tally: usize)
-    requires { ⌜ arrivals ≤ 20 ⌝ }
-    requires { ⌜ answer ≤ 456 ⌝ }
-    requires { ⌜ tally ≤ 32 ⌝ }
+    requires { ⌜ arrivals ≤ arrivalSize ⌝ }
+    requires { ⌜ answer ≤ answerSize ⌝ }
+    requires { ⌜ tally ≤ tallySize ⌝ }
 {
     let first = [[0, 0, 0, 0, 5, 1], [0, 1, 0, 0, 3, 2]];
     let second = [[0, 1, 1, 0, 4, 3]];
-    let mut table = [0u8; 16416];
-    let mut counts = [0u8; 32];
+    let mut table = [0u8; TABLE_BYTES];
+    let mut counts = [0u8; TALLY_BYTES];
     let mut shadow = shadow::fresh(2, 0);
     say(name);
     crossbar::start(2, 0, &mut table);
@@ -49,13 +57,13 @@ pub(crate) fn show_slot(name: &[u8], ports: u8, arrivals: usize, answer: usize, 
 }
 
 fn wrong_slot(table: &mut Table, ports: u8, arrivals: usize, answer: usize, tally: usize)
-    requires { ⌜ arrivals ≤ 20 ⌝ }
-    requires { ⌜ answer ≤ 456 ⌝ }
-    requires { ⌜ tally ≤ 32 ⌝ }
+    requires { ⌜ arrivals ≤ arrivalSize ⌝ }
+    requires { ⌜ answer ≤ answerSize ⌝ }
+    requires { ⌜ tally ≤ tallySize ⌝ }
 {
-    let record = [0u8; 20];
-    let mut buffer = [0u8; 456];
-    let mut counts = [0u8; 32];
+    let record = [0u8; ARRIVAL_BYTES];
+    let mut buffer = [0u8; ANSWER_BYTES];
+    let mut counts = [0u8; TALLY_BYTES];
     table[4] = ports;
     let result = crossbar::slot(
         table,

@@ -13,7 +13,7 @@ use Rattle.laws.specs.Lists.{all?, upTo}
 use Rattle.laws.proofs.Lists.{all?-i}
 use Rattle.laws.proofs.Numbers.{length-numbersFrom}
 use Rattle.laws.proofs.Tests.{and-i, and-l, and-r}
-use Rattle.cell.specs.Limits.{cellLimit, portLimit, fits32, portsInRange}
+use Rattle.cell.specs.Limits.{sectionRoom, portLimit, fits32, portsInRange}
 use Rattle.model.specs.State.{Switch}
 use Rattle.model.specs.Sound.{sound, soundSections}
 use Rattle.layout.specs.Number.{bytesOf, numberOf, numberAt, word}
@@ -62,7 +62,7 @@ module _ (bs : List ℕ) (h : bytes? bs ≡ true) (t : Table bs) where
   few-ports : word bs 4 ≤ portLimit
   few-ports = portsInRange-e (word bs 4) (t .ports)
 
-  few-entries : (i : ℕ) → i < portLimit → countIn bs i ≤ cellLimit
+  few-entries : (i : ℕ) → i < portLimit → countIn bs i ≤ sectionRoom
   few-entries i port = roomOf-le (word bs 4) i (countIn bs i) (rows i port .few)
 
   sections-at : stateOf bs .sections ≡ map (sectionAt bs) (upTo (word bs 4))

@@ -19,15 +19,14 @@ use Rattle.laws.proofs.Lists.{none?-e, none?-by-some?, all?-i, all?-e, all?-mon
 use Rattle.sets.specs.Sets.{pushed, setFrom, either, sizeOf}
 use Rattle.sets.proofs.Members.{setFrom-lt, either-setFrom, setFrom-full}
 use Rattle.sets.proofs.Operations.{or-none-of}
-use Rattle.cell.specs.Limits.{portLimit, cellLimit}
+use Rattle.cell.specs.Limits.{portLimit, sectionRoom}
 use Rattle.model.specs.State.{Entry}
 use Rattle.model.specs.Sound.{otherSlot}
 use Rattle.layout.specs.Number.{word}
-use Rattle.layout.specs.Table.{tableSize}
+use Rattle.layout.specs.Table.{tableSize, entryLimit}
 use Rattle.layout.specs.Entry.{entryAt}
 use Rattle.layout.specs.Records.{recordStart, placeByteAt, between, entriesBetween}
 use Rattle.table.specs.Check.{isEntry, inReach, lowPlace, highPlace, Collected, MarksBelow}
-use Rattle.table.specs.Entries.{recordLimit}
 use Rattle.layout.proofs.Records.{between-nil, between-cons, between-each, between-mem, entriesBetween-nil}
 use Rattle.layout.proofs.Records.{entriesBetween-cons}
 use Rattle.table.proofs.Fields.{isEntry-i, isEntry-e, known-bytes}
@@ -83,7 +82,7 @@ record Passes (ports clock : ℕ) (bs : List ℕ) (k : ℕ) : Type 0 where
   reach : reached ports clock bs k ≡ true
 
 module _ (ports clock : ℕ) (bs : List ℕ) (known : (i : ℕ) → Fits w8 (getD bs i 0)) (size : length bs ≡ tableSize)
-    (few : ports ≤ portLimit) (k : ℕ) (within : k < recordLimit) where
+    (few : ports ≤ portLimit) (k : ℕ) (within : k < entryLimit) where
   entry-passes : isEntry ports clock bs k ≡ true → Passes ports clock bs k
   unfolding noSpare inReach
   entry-passes t =
@@ -160,7 +159,7 @@ module _ (ports clock : ℕ) (bs : List ℕ) (from to mark : ℕ) (marks : List 
 
   module _ (again : Bool) (bits low high k : ℕ)
       (w : Collecting ports clock bs from to mark marks again bits low high k) (more : from < k) where
-    pub collecting-room : to ≤ from + cellLimit → (low < 2 ^ 63) × (high < 2 ^ 63)
+    pub collecting-room : to ≤ from + sectionRoom → (low < 2 ^ 63) × (high < 2 ^ 63)
     collecting-room few =
         let few-left : to - k ≤ 63 = omega arith in
         let most : 2 ^ (to - k) ≤ 2 ^ 63 = pow-mono few-left in (
@@ -218,7 +217,7 @@ module _ (ports clock : ℕ) (bs : List ℕ) (from to mark : ℕ) (marks : List 
 
   -- what the pass finds, of the bytes of a table
   module _ (known : (i : ℕ) → Fits w8 (getD bs i 0)) (size : length bs ≡ tableSize) (few : ports ≤ portLimit)
-      (last : to ≤ recordLimit) (again : Bool) (bits low high k : ℕ)
+      (last : to ≤ entryLimit) (again : Bool) (bits low high k : ℕ)
       (w : Collecting ports clock bs from to mark marks again bits low high k) where
     passed : {j : ℕ} → List·Memᴰ j (between k to) → isEntry ports clock bs j ≡ true → Passes ports clock bs j
     passed {j} m =
@@ -242,14 +241,14 @@ module _ (ports clock : ℕ) (bs : List ℕ) (from to mark : ℕ) (marks : List 
         }
 
     -- the sets together have as many positions as there are records exactly if each has a place
-    placed-all : to - k ≤ cellLimit → eqb (sizeOf (either low high)) (to - k) ≡ all? (placed bs) (between k to)
+    placed-all : to - k ≤ sectionRoom → eqb (sizeOf (either low high)) (to - k) ≡ all? (placed bs) (between k to)
     unfolding between
     placed-all fits =
         ap₂ (λ l h. eqb (sizeOf (either l h)) (to - k)) (w .lows) (w .highs)
         ∙ ap (λ s. eqb (sizeOf s) (to - k)) (either-setFrom (lowPlace bs) (highPlace bs) k (to - k) fits)
         ∙ setFrom-full (placed bs) k (to - k) fits
 
-    pub collecting-end : to ≤ from + cellLimit → k ≤ from
+    pub collecting-end : to ≤ from + sectionRoom → k ≤ from
         → Collected ports clock bs from to
         (eqb (bitAnd bits spareBits) 0 && eqb (sizeOf (either low high)) (to - from)) again low high
     collecting-end fits h =

@@ -13,7 +13,7 @@ use mir.Val.{Fits}
 use Rattle.laws.specs.Lists.{all?}
 use Rattle.laws.proofs.Tests.{same, and-i, and-l, and-r}
 use Rattle.laws.proofs.Lists.{all?-mono}
-use Rattle.cell.specs.Limits.{portLimit, flowLimit, cellLimit, fits32}
+use Rattle.cell.specs.Limits.{portLimit, flowLimit, sectionRoom, fits32}
 use Rattle.model.specs.State.{Entry, listed, crossed, buffered, isListed, isCrossed, isBuffered}
 use Rattle.model.specs.Sound.{soundEntry}
 use Rattle.layout.specs.Number.{bytesOf, numberOf, numberAt, word, sameBytes}
@@ -118,7 +118,7 @@ module _ (bs : List ℕ) (h : bytes? bs ≡ true) (size : length bs ≡ tableSiz
       → entryBytes (entryAt bs k) ≡ recordAt bs k
   unfolding entryAt recordAt placeByteAt
   exact-i low high zero =
-      entryBytes-i (k / cellLimit) (recordAt bs k) recordAt-bytes length-record
+      entryBytes-i (k / sectionRoom) (recordAt bs k) recordAt-bytes length-record
       (place-i (placeByteAt bs k) low high) (recordAt-byte bs k 3 (lit≤ tt) ∙ zero)
 
   exact-place : entryBytes (entryAt bs k) ≡ recordAt bs k → placeByteAt bs k ≡ placeByte (entryAt bs k .place)
@@ -148,7 +148,7 @@ module _ (ports clock : ℕ) (bs : List ℕ) (h : bytes? bs ≡ true) (size : le
         let e = entryAt bs k in
         let exact = exact-i bs h size k within (f .low) (f .high) (f .zero) in
         and-i _ _ (ap (sameBytes (entryBytes e)) (sym exact) ∙ sameBytes-refl (entryBytes e))
-        (and-i _ _ (eq-eqb (e .cell .input) (k / cellLimit) (entryAt-input bs k))
+        (and-i _ _ (eq-eqb (e .cell .input) (k / sectionRoom) (entryAt-input bs k))
         (and-i _ _ (lt-ltb (e .cell .output) ports (f .output))
         (and-i _ _ (lt-ltb (e .cell .flow) flowLimit (f .flow))
         (and-i _ _ (rank-fits bs h size k within)
@@ -159,9 +159,9 @@ module _ (ports clock : ℕ) (bs : List ℕ) (h : bytes? bs ≡ true) (size : le
     isEntry-e t =
         let e = entryAt bs k in
         let bytes : Bool = sameBytes (entryBytes e) (recordAt bs k) in
-        let good : soundEntry ports clock (k / cellLimit) e ≡ true = and-r bytes _ t in
+        let good : soundEntry ports clock (k / sectionRoom) e ≡ true = and-r bytes _ t in
         let exact : entryBytes e ≡ recordAt bs k =
-        sameBytes-exact (entryBytes e) (recordAt bs k) (and-l bytes (soundEntry ports clock (k / cellLimit) e) t) in
+        sameBytes-exact (entryBytes e) (recordAt bs k) (and-l bytes (soundEntry ports clock (k / sectionRoom) e) t) in
         let output : ltb (e .cell .output) ports ≡ true = search (and-l, and-r) in
         let flow : ltb (e .cell .flow) flowLimit ≡ true = search (and-l, and-r) in
         let slot : ltb (e .cell .slot) clock ≡ true = search (and-l, and-r) depth 7 in
@@ -182,7 +182,7 @@ pub isEntry-inRange : (ports clock : ℕ) (bs : List ℕ) (k : ℕ) → ports �
 unfolding isEntry soundEntry inRange
 isEntry-inRange ports clock bs k few t =
     let e = entryAt bs k in
-    let good : soundEntry ports clock (k / cellLimit) e ≡ true = and-r (sameBytes (entryBytes e) (recordAt bs k)) _ t in
+    let good : soundEntry ports clock (k / sectionRoom) e ≡ true = and-r (sameBytes (entryBytes e) (recordAt bs k)) _ t in
     let output : ltb (e .cell .output) ports ≡ true = search (and-l, and-r) in
     let flow : ltb (e .cell .flow) flowLimit ≡ true = search (and-l, and-r) in
     and-i _ _ (lt-ltb (e .cell .output) portLimit (omega (arith, ltb-true))) flow

@@ -23,17 +23,17 @@ use Rattle.sets.proofs.Members.{in-members, members-in, members-rising, first-b
 use Rattle.sets.proofs.Members.{setOf-is, setFrom-fits, has-setFrom, has-withOne, withOne-lt, has-withoutOne}
 use Rattle.sets.proofs.Members.{numbersFrom-shift}
 use Rattle.cell.specs.Flow.{sameFlow}
-use Rattle.cell.specs.Limits.{cellLimit, fits32}
+use Rattle.cell.specs.Limits.{sectionRoom, fits32}
 use Rattle.cell.specs.Order.{over, key}
 use Rattle.cell.proofs.Flow.{flow-i, flow-e, flow-sym, flow-trans}
 use Rattle.cell.proofs.Keys.{over-key-input}
 use Rattle.model.specs.State.{Entry, isListed}
 use Rattle.model.specs.Sound.{together}
 use Rattle.layout.specs.Entry.{entryAt}
-use Rattle.layout.specs.Table.{tableSize}
+use Rattle.layout.specs.Table.{tableSize, entryLimit}
 use Rattle.layout.specs.Records.{recordStart, between}
 use Rattle.table.specs.Check.{inRange, entriesIn, breaksFlow, MarksBelow}
-use Rattle.table.specs.Entries.{flowNumber, recordLimit}
+use Rattle.table.specs.Entries.{flowNumber}
 use Rattle.table.specs.Handed.{isFirst, isHead, headsIn}
 use Rattle.layout.proofs.Records.{entryAt-input, entryAt-slot}
 use Rattle.layout.proofs.Number.{bytes?, word-fits, fits32-below}
@@ -114,7 +114,7 @@ pub record Good (first : ℕ) (e : Entry) : Type 0 where
 
 -- the entries at positions of a section, where all are in range
 pub section-good : (bs : List ℕ) → bytes? bs ≡ true → length bs ≡ tableSize → (first chosen : ℕ)
-    → first + cellLimit ≤ recordLimit → _≡_ {A = ℕ} (first % cellLimit) 0
+    → first + sectionRoom ≤ entryLimit → _≡_ {A = ℕ} (first % sectionRoom) 0
     → all? inRange (entriesIn bs first chosen) ≡ true
     → (g : Entry) → List·Memᴰ g (entriesIn bs first chosen) → Good first g
 unfolding entriesIn
@@ -195,14 +195,14 @@ passed-none q set passed left v some =
     go a none t early (inr m) = clash (in-members left m .1) (first-before left a early)
 
 -- of the listed entries of a run: those that the table's rules call heads
-pub heads-set : (bs : List ℕ) (first n : ℕ) → n ≤ cellLimit → _≡_ {A = ℕ} (first % cellLimit) 0
+pub heads-set : (bs : List ℕ) (first n : ℕ) → n ≤ sectionRoom → _≡_ {A = ℕ} (first % sectionRoom) 0
     → headsIn bs first (setFrom (λ k. isListed (entryAt bs k .place)) first n)
-    ≡ setFrom (isFirst bs (first / cellLimit)) first n
+    ≡ setFrom (isFirst bs (first / sectionRoom)) first n
 unfolding headsIn isFirst isHead between upTo
 heads-set bs first n few start =
-    sym (setOf-is (isHead bs first listed) (setFrom (isFirst bs (first / cellLimit)) first n)
-    (setFrom-fits (isFirst bs (first / cellLimit)) first n few)
-    (λ j h. has-setFrom (isFirst bs (first / cellLimit)) first n j
+    sym (setOf-is (isHead bs first listed) (setFrom (isFirst bs (first / sectionRoom)) first n)
+    (setFrom-fits (isFirst bs (first / sectionRoom)) first n few)
+    (λ j h. has-setFrom (isFirst bs (first / sectionRoom)) first n j
     ∙ split (ltb j n) (isIn (first + j)) _ _ (λ t. front j (ltb-true j n t))
     ∙ ap (λ b. b && none? (λ a. has listed a && ofFlow (entryAt bs (first + a)) (entryAt bs (first + j))) (upTo j))
     (sym (has-setFrom isIn first n j))))
@@ -219,12 +219,12 @@ heads-set bs first n few start =
 
     front : (j : ℕ) → j < n
         → none? (λ a. isIn a && ofFlow (entryAt bs a) (entryAt bs (first + j)))
-        (between (cellLimit * (first / cellLimit)) (first + j))
+        (between (sectionRoom * (first / sectionRoom)) (first + j))
         ≡ none? (λ a. has listed a && ofFlow (entryAt bs (first + a)) (entryAt bs (first + j))) (upTo j)
     front j inside =
         let e = entryAt bs (first + j) in
-        let from : cellLimit * (first / cellLimit) ≡ first + 0 = omega arith in
-        let size : first + j - cellLimit * (first / cellLimit) ≡ j = omega arith in
+        let from : sectionRoom * (first / sectionRoom) ≡ first + 0 = omega arith in
+        let size : first + j - sectionRoom * (first / sectionRoom) ≡ j = omega arith in
         ap (none? (λ a. isIn a && ofFlow (entryAt bs a) e))
         (ap₂ numbersFrom from size ∙ sym (numbersFrom-shift first 0 j))
         ∙ none?-map (λ a. isIn a && ofFlow (entryAt bs a) e) (λ a. first + a) (numbersFrom 0 j)

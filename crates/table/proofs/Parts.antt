@@ -14,7 +14,7 @@ use Rattle.laws.specs.Lists.{keep, all?, pairwise, numbersFrom}
 use Rattle.laws.proofs.Tests.{either, and-i, and-l, and-r}
 use Rattle.laws.proofs.Lists.{all?-i, all?-e, all?-mono}
 use Rattle.laws.proofs.Numbers.{length-numbersFrom}
-use Rattle.cell.specs.Limits.{cellLimit, portLimit}
+use Rattle.cell.specs.Limits.{sectionRoom, portLimit}
 use Rattle.model.specs.State.{Entry, isListed}
 use Rattle.model.specs.Sound.{soundEntry, soundSection, soundSections, sound, together, otherSlot, otherCrosspoint}
 use Rattle.layout.specs.Number.{bytesOf, sameBytes}
@@ -128,7 +128,7 @@ module _ (bs : List ℕ) where
       ∙ sym (replicate-append-replicate entrySize (entrySize * n) 0)
       ∙ ap (λ l. replicate entrySize 0 ++ l) (zeros-joined (k + 1) n)
 
-  sectionBytes-joined : (k n m : ℕ) → n + m ≡ cellLimit
+  sectionBytes-joined : (k n m : ℕ) → n + m ≡ sectionRoom
       → sectionBytes (map (entryAt bs) (numbersFrom k n))
       ≡ joined entryOf-at (numbersFrom k n) ++ joined zeros (numbersFrom (k + n) m)
   unfolding sectionBytes
@@ -140,7 +140,7 @@ module _ (bs : List ℕ) where
       ap₂ _++_ (entriesBytes-joined (numbersFrom k n)) (ap (λ n. replicate n 0) rest ∙ zeros-joined (k + n) m)
 
   -- the section of an input that may have so many entries
-  module _ (i : ℕ) (few : countIn bs i ≤ cellLimit) where
+  module _ (i : ℕ) (few : countIn bs i ≤ sectionRoom) where
     abbrev first : ℕ
     first = firstRecord i
 
@@ -148,35 +148,35 @@ module _ (bs : List ℕ) where
     end = firstRecord i + countIn bs i
 
     abbrev last : ℕ
-    last = firstRecord i + cellLimit
+    last = firstRecord i + sectionRoom
 
     used : end - first ≡ countIn bs i
     used = omega arith
 
-    unused : last - end ≡ cellLimit - countIn bs i
+    unused : last - end ≡ sectionRoom - countIn bs i
     unused = omega arith
 
     sectionBytes-at : sectionBytes (sectionAt bs i)
         ≡ joined entryOf-at (between first end) ++ joined zeros (between end last)
     unfolding sectionAt entriesBetween between
     sectionBytes-at =
-        rw (used, unused) (sectionBytes-joined first (countIn bs i) (cellLimit - countIn bs i) (omega arith))
+        rw (used, unused) (sectionBytes-joined first (countIn bs i) (sectionRoom - countIn bs i) (omega arith))
 
-    records-split : recordsAt first cellLimit ≡ recordsAt first (end - first) ++ recordsAt end (last - end)
+    records-split : recordsAt first sectionRoom ≡ recordsAt first (end - first) ++ recordsAt end (last - end)
     records-split =
-        let all : cellLimit ≡ countIn bs i + (cellLimit - countIn bs i) = omega arith in
-        rw (used, unused) (ap (recordsAt first) all ∙ recordsAt-add first (countIn bs i) (cellLimit - countIn bs i))
+        let all : sectionRoom ≡ countIn bs i + (sectionRoom - countIn bs i) = omega arith in
+        rw (used, unused) (ap (recordsAt first) all ∙ recordsAt-add first (countIn bs i) (sectionRoom - countIn bs i))
 
     -- its bytes are right exactly if each record is: an entry's or an unused one's
     section-i : all? (λ k. sameBytes (entryOf-at k) (recordAt bs k)) (between first end) ≡ true
-        → all? (isUnused bs) (between end last) ≡ true → sectionBytes (sectionAt bs i) ≡ recordsAt first cellLimit
+        → all? (isUnused bs) (between end last) ≡ true → sectionBytes (sectionAt bs i) ≡ recordsAt first sectionRoom
     unfolding between isUnused
     section-i entries rest =
         sectionBytes-at
         ∙ ap₂ _++_ (joined-i entryOf-at first (end - first) entries) (joined-i zeros end (last - end) rest)
         ∙ sym records-split
 
-    section-e : recordStart last ≤ length bs → sectionBytes (sectionAt bs i) ≡ recordsAt first cellLimit
+    section-e : recordStart last ≤ length bs → sectionBytes (sectionAt bs i) ≡ recordsAt first sectionRoom
         → (all? (λ k. sameBytes (entryOf-at k) (recordAt bs k)) (between first end) ≡ true)
         × (all? (isUnused bs) (between end last) ≡ true)
     unfolding between isUnused
@@ -190,11 +190,11 @@ module _ (bs : List ℕ) where
           joined-e zeros end (last - end) (λ k. refl) (omega arith) (parts .1),
         )
 
-pub roomOf-le : (ports i n : ℕ) → n ≤ roomOf ports i → n ≤ cellLimit
+pub roomOf-le : (ports i n : ℕ) → n ≤ roomOf ports i → n ≤ sectionRoom
 unfolding roomOf
 roomOf-le ports i n h = go (ltb i ports) refl h
   where
-    go : (b : Bool) → ltb i ports ≡ b → n ≤ cond b cellLimit 0 → n ≤ cellLimit
+    go : (b : Bool) → ltb i ports ≡ b → n ≤ cond b sectionRoom 0 → n ≤ sectionRoom
     go true e h = h
     go false e h = omega arith
 
@@ -202,7 +202,7 @@ pub roomOf-none : (ports i : ℕ) → ports ≤ i → _≡_ {A = ℕ} (roomOf po
 unfolding roomOf
 roomOf-none ports i h = rw (le-ltb i ports h)
 
-pub roomOf-port : (ports i : ℕ) → i < ports → roomOf ports i ≡ cellLimit
+pub roomOf-port : (ports i : ℕ) → i < ports → roomOf ports i ≡ sectionRoom
 unfolding roomOf
 roomOf-port ports i h = rw (lt-ltb i ports h)
 
@@ -210,7 +210,7 @@ roomOf-port ports i h = rw (lt-ltb i ports h)
 record Asked (ports clock : ℕ) (bs : List ℕ) (i : ℕ) : Type 0 where
   count : countIn bs i ≤ roomOf ports i
   entries : all? (isEntry ports clock bs) (between (firstRecord i) (firstRecord i + countIn bs i)) ≡ true
-  unused : all? (isUnused bs) (between (firstRecord i + countIn bs i) (firstRecord i + cellLimit)) ≡ true
+  unused : all? (isUnused bs) (between (firstRecord i + countIn bs i) (firstRecord i + sectionRoom)) ≡ true
   lists : together (keep (λ e. isListed (e .place)) (sectionAt bs i)) ≡ true
   slots : pairwise otherSlot (sectionAt bs i) ≡ true
   crosspoints : pairwise otherCrosspoint (sectionAt bs i) ≡ true
@@ -238,7 +238,7 @@ module _ (ports clock : ℕ) (bs : List ℕ) (i : ℕ) where
 -- what a section of a table is: it has room for its entries, its bytes are theirs, and they are sound
 pub record Section (ports clock : ℕ) (bs : List ℕ) (i : ℕ) : Type 0 where
   pub few : countIn bs i ≤ roomOf ports i
-  pub exact : sectionBytes (sectionAt bs i) ≡ recordsAt bs (firstRecord i) cellLimit
+  pub exact : sectionBytes (sectionAt bs i) ≡ recordsAt bs (firstRecord i) sectionRoom
   pub sound : soundSection ports clock i (sectionAt bs i) ≡ true
 
 module _ (ports clock : ℕ) (bs : List ℕ) (size : length bs ≡ tableSize) (i : ℕ) (port : i < portLimit) where
@@ -252,11 +252,11 @@ module _ (ports clock : ℕ) (bs : List ℕ) (size : length bs ≡ tableSize) (i
   abbrev soundAt : ℕ → Bool
   soundAt k = soundEntry ports clock i (entryAt bs k)
 
-  input-at : (k : ℕ) → countIn bs i ≤ cellLimit → List·Memᴰ k (between here next) → k / cellLimit ≡ i
+  input-at : (k : ℕ) → countIn bs i ≤ sectionRoom → List·Memᴰ k (between here next) → k / sectionRoom ≡ i
   input-at k few m = let b = between-mem here next m in omega arith
 
   -- an entry is one of a table exactly if its bytes are its record and it is sound
-  entries-i : countIn bs i ≤ cellLimit
+  entries-i : countIn bs i ≤ sectionRoom
       → all? (λ k. sameBytes (entryOf-at bs k) (recordAt bs k)) (between here next) ≡ true
       → all? soundAt (between here next) ≡ true → all? (isEntry ports clock bs) (between here next) ≡ true
   unfolding isEntry
@@ -269,7 +269,7 @@ module _ (ports clock : ℕ) (bs : List ℕ) (size : length bs ≡ tableSize) (i
   unfolding isEntry
   entries-exact h = all?-mono (isEntry ports clock bs) _ (between here next) (λ k m e. and-l _ _ e) h
 
-  entries-sound : countIn bs i ≤ cellLimit → all? (isEntry ports clock bs) (between here next) ≡ true
+  entries-sound : countIn bs i ≤ sectionRoom → all? (isEntry ports clock bs) (between here next) ≡ true
       → all? soundAt (between here next) ≡ true
   unfolding isEntry
   entries-sound few h =
@@ -280,7 +280,7 @@ module _ (ports clock : ℕ) (bs : List ℕ) (size : length bs ≡ tableSize) (i
   pub isSection-i : Section ports clock bs i → isSection ports clock bs i ≡ true
   unfolding soundSection sectionAt
   isSection-i s =
-      let few : countIn bs i ≤ cellLimit = roomOf-le ports i (countIn bs i) (s .few) in
+      let few : countIn bs i ≤ sectionRoom = roomOf-le ports i (countIn bs i) (s .few) in
       let bytes = section-e bs i few (omega arith) (s .exact) in
       let asked : soundSection ports clock i (sectionAt bs i) ≡ true = s .sound in
       let sounds : all? (soundEntry ports clock i) (entriesBetween bs here next) ≡ true = search (and-l, and-r) in
@@ -298,15 +298,15 @@ module _ (ports clock : ℕ) (bs : List ℕ) (size : length bs ≡ tableSize) (i
   unfolding soundSection sectionAt
   isSection-e h =
       let q = isSection-asked ports clock bs i h in
-      let few : countIn bs i ≤ cellLimit = roomOf-le ports i (countIn bs i) (q .count) in
-      let size : length (sectionAt bs i) ≤ cellLimit = omega (arith, length-entriesBetween bs here next) in
+      let few : countIn bs i ≤ sectionRoom = roomOf-le ports i (countIn bs i) (q .count) in
+      let size : length (sectionAt bs i) ≤ sectionRoom = omega (arith, length-entriesBetween bs here next) in
       let sounds : all? (soundEntry ports clock i) (entriesBetween bs here next) ≡ true =
       all?-entriesBetween (soundEntry ports clock i) bs here next ∙ entries-sound few (q .entries) in
       record {
         few = q .count;
         exact = section-i bs i few (entries-exact (q .entries)) (q .unused);
         sound =
-            and-i _ _ (le-leb (length (sectionAt bs i)) cellLimit size)
+            and-i _ _ (le-leb (length (sectionAt bs i)) sectionRoom size)
             (and-i _ _ sounds (and-i _ _ (q .lists) (and-i _ _ (q .slots) (q .crosspoints))));
       }
 
@@ -331,7 +331,7 @@ module _ (ports clock : ℕ) (bs : List ℕ) (size : length bs ≡ tableSize) wh
 
   -- the records of an input, and those behind it
   section-cons : (i : ℕ)
-      → recordsAt bs (firstRecord i) cellLimit ++ drop (sectionStart (i + 1)) bs ≡ drop (sectionStart i) bs
+      → recordsAt bs (firstRecord i) sectionRoom ++ drop (sectionStart (i + 1)) bs ≡ drop (sectionStart i) bs
   section-cons i =
       let start : recordStart (firstRecord i) ≡ sectionStart i = omega arith in
       let next : sectionStart i + sectionSize ≡ sectionStart (i + 1) = omega arith in
@@ -346,7 +346,7 @@ module _ (ports clock : ℕ) (bs : List ℕ) (size : length bs ≡ tableSize) wh
   unfolding sectionAt entriesBetween
   sectionAt-nil i e = ap (map (entryAt bs)) (between-nil (firstRecord i) (firstRecord i + countIn bs i) (omega arith))
 
-  byte-one : (n : ℕ) → n ≤ cellLimit → bytesOf 1 n ≡ n ∷ []
+  byte-one : (n : ℕ) → n ≤ sectionRoom → bytesOf 1 n ≡ n ∷ []
   unfolding bytesOf
   byte-one n h =
       let same : n % 256 ≡ n = omega arith in
@@ -382,7 +382,7 @@ module _ (ports clock : ℕ) (bs : List ℕ) (size : length bs ≡ tableSize) wh
     counts-i zero i m all rest = refl
     counts-i (suc n) i m all rest =
         let port : i < portLimit = omega arith in
-        let few : countIn bs i ≤ cellLimit = roomOf-le ports i (countIn bs i) (rows i port .few) in
+        let few : countIn bs i ≤ sectionRoom = roomOf-le ports i (countIn bs i) (rows i port .few) in
         countsBytes-cons n i m (none-i i m port rest)
         ∙ ap₂ _++_ (byte-one (countIn bs i) few) (counts-i n (i + 1) (pred m) (omega arith) (omega arith))
         ∙ sym (count-cons i n port)
@@ -419,7 +419,7 @@ module _ (ports clock : ℕ) (bs : List ℕ) (size : length bs ≡ tableSize) wh
   few-e i zero empty rest sounds = omega (arith, empty refl)
   few-e i (suc m) empty rest sounds =
       let es = sectionAt bs i in
-      let few : length es ≤ cellLimit = soundSection-size ports clock i es (and-l _ _ sounds) in
+      let few : length es ≤ sectionRoom = soundSection-size ports clock i es (and-l _ _ sounds) in
       omega (arith, roomOf-port ports i (omega arith), length-sectionAt i)
 
   sound-e : (i m : ℕ) → (_≡_ {A = ℕ} m 0 → _≡_ {A = ℕ} (countIn bs i) 0)
@@ -444,13 +444,13 @@ module _ (ports clock : ℕ) (bs : List ℕ) (size : length bs ≡ tableSize) wh
       let port : i < portLimit = omega arith in
       let empty : _≡_ {A = ℕ} m 0 → _≡_ {A = ℕ} (countIn bs i) 0 = none-e n i m port counts in
       let room : countIn bs i ≤ roomOf ports i = few-e i m empty rest sounds in
-      let few : countIn bs i ≤ cellLimit = roomOf-le ports i (countIn bs i) room in
+      let few : countIn bs i ≤ sectionRoom = roomOf-le ports i (countIn bs i) room in
       let es = sectionAt bs i in
       let whole : length (sectionBytes es) ≡ sectionSize = length-sectionBytes es (omega (arith, length-sectionAt i)) in
       let bytes =
       append-same (sectionBytes (sectionAt bs i)) (sectionsBytes n (sectionsFrom (i + 1) (pred m)))
-      (recordsAt bs (firstRecord i) cellLimit) (drop (sectionStart (i + 1)) bs) sectionSize whole
-      (length-recordsAt bs (firstRecord i) cellLimit (omega arith))
+      (recordsAt bs (firstRecord i) sectionRoom) (drop (sectionStart (i + 1)) bs) sectionSize whole
+      (length-recordsAt bs (firstRecord i) sectionRoom (omega arith))
       (sym (sectionsBytes-cons n i m empty) ∙ sections ∙ sym (section-cons i)) in
       let numbers =
       append-same (bytesOf 1 (countIn bs i)) (countsBytes n (sectionsFrom (i + 1) (pred m))) (countIn bs i ∷ [])

@@ -12,17 +12,16 @@ use Rattle.laws.proofs.Tests.{and-false-l, and-false-r}
 use Rattle.laws.proofs.Lists.{all?-i, all?-e, mem-keep-in}
 use Rattle.laws.proofs.Pairwise.{pairwise-both}
 use Rattle.sets.specs.Sets.{setFrom, minus, both}
-use Rattle.cell.specs.Limits.{portLimit, cellLimit}
+use Rattle.cell.specs.Limits.{portLimit, sectionRoom}
 use Rattle.model.specs.State.{Entry, isListed, isCrossed, isBuffered}
 use Rattle.model.specs.Sound.{together, otherSlot, otherCrosspoint}
 use Rattle.layout.specs.Entry.{entryAt, countIn}
-use Rattle.layout.specs.Table.{tableSize}
+use Rattle.layout.specs.Table.{tableSize, entryLimit}
 use Rattle.layout.specs.Records.{placeByteAt, between, entriesBetween, firstRecord}
 use Rattle.layout.proofs.Number.{bytes?}
 use Rattle.layout.proofs.Records.{between-each}
 use Rattle.table.specs.Check.{isEntry, isUnused, roomOf, areSound, isSection, inRange, entriesIn}
 use Rattle.table.specs.Check.{otherOutput, Collected}
-use Rattle.table.specs.Entries.{recordLimit}
 use Rattle.table.specs.Handed.{isFirst, Sorts, headsIn}
 use Rattle.table.proofs.Fields.{isEntry-e, entries-inRange}
 use Rattle.table.proofs.Flows.{heads-set}
@@ -78,13 +77,13 @@ module _ (ports clock : ℕ) (bs : List ℕ) (input : ℕ) {n : ℕ} (e : n ≡ 
   unfolding isSection
   section-full h = sym (and-false-l roomy _ (lt-leb (countIn bs input) (roomOf ports input) (omega arith)))
 
-  pub section-used : all? (isUnused bs) (between (firstRecord input + n) (firstRecord input + cellLimit)) ≡ false
+  pub section-used : all? (isUnused bs) (between (firstRecord input + n) (firstRecord input + sectionRoom)) ≡ false
       → false ≡ isSection ports clock bs input
   unfolding isSection
   section-used h = sym (and-false-r roomy _ (and-false-l _ _ (rw e at h)))
 
   pub section-sound : n ≤ roomOf ports input
-      → all? (isUnused bs) (between (firstRecord input + n) (firstRecord input + cellLimit)) ≡ true
+      → all? (isUnused bs) (between (firstRecord input + n) (firstRecord input + sectionRoom)) ≡ true
       → areSound ports clock bs (firstRecord input) (firstRecord input + n) ≡ isSection ports clock bs input
   unfolding isSection
   section-sound few unused =
@@ -92,7 +91,7 @@ module _ (ports clock : ℕ) (bs : List ℕ) (input : ℕ) {n : ℕ} (e : n ≡ 
       let end = first + countIn bs input in
       ap (λ k. areSound ports clock bs first (first + k)) e
       ∙ sym
-      (ap (λ b. b && (all? (isUnused bs) (between end (first + cellLimit)) && areSound ports clock bs first end))
+      (ap (λ b. b && (all? (isUnused bs) (between end (first + sectionRoom)) && areSound ports clock bs first end))
       (le-leb (countIn bs input) (roomOf ports input) (omega arith))
       ∙ ap (λ b. b && areSound ports clock bs first end) (rw e at unused))
 
@@ -105,13 +104,13 @@ pub record Found (bs : List ℕ) (first end low high : ℕ) : Type 0 where
   pub crossed : pairwise otherOutput (entriesIn bs first (minus high low))
       ≡ pairwise otherCrosspoint (entriesBetween bs first end)
   pub crossed-range : all? inRange (entriesIn bs first (minus high low)) ≡ true
-  pub sorts : _≡_ {A = ℕ} (first % cellLimit) 0
-      → Sorts bs (first / cellLimit) (end - first) (minus low high) (headsIn bs first (minus low high)) (minus high low)
+  pub sorts : _≡_ {A = ℕ} (first % sectionRoom) 0
+      → Sorts bs (first / sectionRoom) (end - first) (minus low high) (headsIn bs first (minus low high)) (minus high low)
       (both low high)
 
 module _ (ports clock : ℕ) (bs : List ℕ) (bytes : bytes? bs ≡ true) (size : length bs ≡ tableSize)
-    (ports-few : ports ≤ portLimit) (first end : ℕ) (room : first + cellLimit ≤ recordLimit) (start : first ≤ end)
-    (few : end ≤ first + cellLimit) (good again : Bool) (low high : ℕ)
+    (ports-few : ports ≤ portLimit) (first end : ℕ) (room : first + sectionRoom ≤ entryLimit) (start : first ≤ end)
+    (few : end ≤ first + sectionRoom) (good again : Bool) (low high : ℕ)
     (w : Collected ports clock bs first end good again low high) (t : good ≡ true) where
   abbrev run : List Entry
   run = entriesBetween bs first end
@@ -171,13 +170,13 @@ module _ (ports clock : ℕ) (bs : List ℕ) (bytes : bytes? bs ≡ true) (size 
         crossed-range = ap (all? inRange) crossed-run ∙ kept-range (λ e. isCrossed (e .place));
         sorts =
             λ aligned.
-            let at : first ≡ cellLimit * (first / cellLimit) = omega arith in
+            let at : first ≡ sectionRoom * (first / sectionRoom) = omega arith in
             record {
               listed-is = listed-of ∙ ap (λ k. setFrom (λ k. isListed (entryAt bs k .place)) k n) at;
               heads-is =
                   ap (headsIn bs first) listed-of
                   ∙ heads-set bs first n (omega arith) aligned
-                  ∙ ap (λ k. setFrom (isFirst bs (first / cellLimit)) k n) at;
+                  ∙ ap (λ k. setFrom (isFirst bs (first / sectionRoom)) k n) at;
               crossed-is = crossed-of ∙ ap (λ k. setFrom (λ k. isCrossed (entryAt bs k .place)) k n) at;
               buffered-is = buffered-of ∙ ap (λ k. setFrom (λ k. isBuffered (entryAt bs k .place)) k n) at;
             };

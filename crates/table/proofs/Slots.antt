@@ -21,7 +21,7 @@ use Rattle.laws.proofs.Pairwise.{pairwise-nil, pairwise-snoc, pairwise-split}
 use Rattle.sets.specs.Sets.{positions, members, withOne, firstOf, restOf}
 use Rattle.sets.proofs.Members.{Visited, visited-start, visited-next, visited-cons, visited-end, visited-member}
 use Rattle.sets.proofs.Members.{members-none, members-with, members-in, in-members, withOne-lt}
-use Rattle.cell.specs.Limits.{cellLimit}
+use Rattle.cell.specs.Limits.{sectionRoom}
 use Rattle.model.specs.State.{Entry}
 use Rattle.model.specs.Sound.{otherSlot}
 use Rattle.layout.specs.Entry.{entryAt}
@@ -175,7 +175,7 @@ module _ (bs : List ℕ) (first : ℕ) where
           ∙ keep-append (slotIs n) l (e ∷ [])
           ∙ ap (λ m. keep (slotIs n) l ++ m) (keep-pass (slotIs n) e [] own ∙ ap (λ m. e ∷ m) (keep-nil (slotIs n))))
 
-      pub met-next : k < first + cellLimit → Met bs first (k + 1) (set met n (withOne (getD met n 0) (k - first)))
+      pub met-next : k < first + sectionRoom → Met bs first (k + 1) (set met n (withOne (getD met n 0) (k - first)))
       met-next room =
           record {
             low = omega (arith, w .low);

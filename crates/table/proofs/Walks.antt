@@ -14,7 +14,7 @@ use Rattle.laws.proofs.Numbers.{numbersFrom-add}
 use Rattle.sets.specs.Sets.{setFrom, minus, both, members}
 use Rattle.sets.proofs.Operations.{or-none}
 use Rattle.sets.proofs.Members.{minus-setFrom, both-setFrom, setFrom-ext, members-setFrom}
-use Rattle.cell.specs.Limits.{portLimit, flowLimit, cellLimit}
+use Rattle.cell.specs.Limits.{portLimit, flowLimit, sectionRoom}
 use Rattle.model.specs.State.{Entry, isListed, isCrossed, isBuffered}
 use Rattle.layout.specs.Entry.{entryAt}
 use Rattle.layout.specs.Records.{placeByteAt, between, entriesBetween}
@@ -127,7 +127,7 @@ pub entriesAt-more : (bs : List ℕ) (first : ℕ) (js : List ℕ) (j : ℕ)
 entriesAt-more bs first js j = map-append (λ j. entryAt bs (first + j)) js (j ∷ [])
 
 -- those of a run that pass a test
-pub entriesIn-keep : (p : Entry → Bool) (bs : List ℕ) (first n : ℕ) → n ≤ cellLimit
+pub entriesIn-keep : (p : Entry → Bool) (bs : List ℕ) (first n : ℕ) → n ≤ sectionRoom
     → entriesIn bs first (setFrom (λ k. p (entryAt bs k)) first n) ≡ keep p (entriesBetween bs first (first + n))
 unfolding entriesIn entriesBetween between
 entriesIn-keep p bs first n few =
@@ -154,7 +154,7 @@ by-place P one two three (suc (suc (suc zero))) low high = three
 by-place P one two three (suc (suc (suc (suc b)))) low high = absurd (omega arith)
 
 -- the listed, the crossed and the buffered of a run of entries, by the digits of their places
-module _ (bs : List ℕ) (first n : ℕ) (few : n ≤ cellLimit)
+module _ (bs : List ℕ) (first n : ℕ) (few : n ≤ sectionRoom)
     (places : (j : ℕ) → j < n → (1 ≤ placeByteAt bs (first + j)) × (placeByteAt bs (first + j) ≤ 3)) where
   pub listed-set : minus (setFrom (lowPlace bs) first n) (setFrom (highPlace bs) first n)
       ≡ setFrom (λ k. isListed (entryAt bs k .place)) first n

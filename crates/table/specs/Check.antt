@@ -7,7 +7,7 @@ use lib.Dec.{ltb, leb, eqb}
 use lib.ListN.{length, getD, replicate}
 use Rattle.laws.specs.Lists.{keep, all?, pairwise}
 use Rattle.sets.specs.Sets.{setFrom, members}
-use Rattle.cell.specs.Limits.{portLimit, cellLimit, flowInRange}
+use Rattle.cell.specs.Limits.{portLimit, sectionRoom, flowInRange}
 use Rattle.model.specs.State.{Entry, isListed}
 use Rattle.model.specs.Sound.{soundEntry, together, otherSlot, otherCrosspoint}
 use Rattle.layout.specs.Number.{sameBytes}
@@ -18,7 +18,7 @@ use Rattle.layout.specs.Records.{recordAt, placeByteAt, between, entriesBetween
 -- a record is the bytes of its entry, and the entry is sound
 unfoldable pub isEntry : ℕ → ℕ → List ℕ → ℕ → Bool
 isEntry ports clock bs k =
-    sameBytes (entryBytes (entryAt bs k)) (recordAt bs k) && soundEntry ports clock (k / cellLimit) (entryAt bs k)
+    sameBytes (entryBytes (entryAt bs k)) (recordAt bs k) && soundEntry ports clock (k / sectionRoom) (entryAt bs k)
 
 -- a record is not used
 unfoldable pub isUnused : List ℕ → ℕ → Bool
@@ -34,7 +34,7 @@ inReach ports clock e = ltb (e .cell .output) ports && ltb (e .cell .slot) clock
 
 -- how many entries an input may have: none where the switch does not have it
 unfoldable pub roomOf : ℕ → ℕ → ℕ
-roomOf ports input = cond (ltb input ports) cellLimit 0
+roomOf ports input = cond (ltb input ports) sectionRoom 0
 
 -- records from one up to another are sound entries, one by one and together
 unfoldable pub areSound : ℕ → ℕ → List ℕ → ℕ → ℕ → Bool
@@ -50,7 +50,7 @@ isSection ports clock bs input =
     let first = firstRecord input in
     let end = first + countIn bs input in
     leb (countIn bs input) (roomOf ports input)
-    && (all? (isUnused bs) (between end (first + cellLimit)) && areSound ports clock bs first end)
+    && (all? (isUnused bs) (between end (first + sectionRoom)) && areSound ports clock bs first end)
 
 ------------------------------------------------------------------------
 -- one pass over a section

@@ -1,13 +1,9 @@
 -- What is written into a record, and the numbers of its flow.
 use Prim.Native.Nat.{ℕ, _+_, _*_}
 use Rattle.cell.specs.declared.Cell.{Cell}
-use Rattle.cell.specs.Limits.{portLimit, flowLimit, cellLimit}
+use Rattle.cell.specs.Limits.{flowLimit}
 use Rattle.model.specs.State.{Entry}
 use Rattle.layout.specs.Table.{placeOf}
-
--- how many records a table has
-abbrev pub recordLimit : ℕ
-recordLimit = portLimit * cellLimit
 
 -- an entry with this byte for its place
 unfoldable pub entryWith : Cell → ℕ → Entry

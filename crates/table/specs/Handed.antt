@@ -8,7 +8,7 @@ use lib.ListN.{length, getD}
 use Rattle.laws.specs.Lists.{none?, upTo}
 use Rattle.sets.specs.Sets.{has, setFrom, setOf}
 use Rattle.cell.specs.Flow.{sameFlow}
-use Rattle.cell.specs.Limits.{cellLimit}
+use Rattle.cell.specs.Limits.{sectionRoom, portLimit}
 use Rattle.model.specs.State.{isListed, isCrossed, isBuffered}
 use Rattle.layout.specs.Entry.{entryAt, countIn}
 use Rattle.layout.specs.Records.{between}
@@ -18,32 +18,32 @@ unfoldable pub isFirst : List ℕ → ℕ → ℕ → Bool
 isFirst bs input k =
     isListed (entryAt bs k .place)
     && none? (λ a. isListed (entryAt bs a .place) && sameFlow (entryAt bs a .cell) (entryAt bs k .cell))
-    (between (cellLimit * input) k)
+    (between (sectionRoom * input) k)
 
 -- each input's sets
 pub record Handed (bs listed heads crossed buffered : List ℕ) : Type 0 where
-  pub listed-size : length listed ≡ 16
-  pub heads-size : length heads ≡ 16
-  pub crossed-size : length crossed ≡ 16
-  pub buffered-size : length buffered ≡ 16
-  pub listed-at : (input : ℕ) → input < 16
-      → getD listed input 0 ≡ setFrom (λ k. isListed (entryAt bs k .place)) (cellLimit * input) (countIn bs input)
-  pub heads-at : (input : ℕ) → input < 16
-      → getD heads input 0 ≡ setFrom (isFirst bs input) (cellLimit * input) (countIn bs input)
-  pub crossed-at : (input : ℕ) → input < 16
-      → getD crossed input 0 ≡ setFrom (λ k. isCrossed (entryAt bs k .place)) (cellLimit * input) (countIn bs input)
-  pub buffered-at : (input : ℕ) → input < 16
-      → getD buffered input 0 ≡ setFrom (λ k. isBuffered (entryAt bs k .place)) (cellLimit * input) (countIn bs input)
+  pub listed-size : length listed ≡ portLimit
+  pub heads-size : length heads ≡ portLimit
+  pub crossed-size : length crossed ≡ portLimit
+  pub buffered-size : length buffered ≡ portLimit
+  pub listed-at : (input : ℕ) → input < portLimit
+      → getD listed input 0 ≡ setFrom (λ k. isListed (entryAt bs k .place)) (sectionRoom * input) (countIn bs input)
+  pub heads-at : (input : ℕ) → input < portLimit
+      → getD heads input 0 ≡ setFrom (isFirst bs input) (sectionRoom * input) (countIn bs input)
+  pub crossed-at : (input : ℕ) → input < portLimit
+      → getD crossed input 0 ≡ setFrom (λ k. isCrossed (entryAt bs k .place)) (sectionRoom * input) (countIn bs input)
+  pub buffered-at : (input : ℕ) → input < portLimit
+      → getD buffered input 0 ≡ setFrom (λ k. isBuffered (entryAt bs k .place)) (sectionRoom * input) (countIn bs input)
 
 ------------------------------------------------------------------------
 -- as the code makes them
 
 -- the sets of the first n entries of an input
 pub record Sorts (bs : List ℕ) (input n listed heads crossed buffered : ℕ) : Type 0 where
-  pub listed-is : listed ≡ setFrom (λ k. isListed (entryAt bs k .place)) (cellLimit * input) n
-  pub heads-is : heads ≡ setFrom (isFirst bs input) (cellLimit * input) n
-  pub crossed-is : crossed ≡ setFrom (λ k. isCrossed (entryAt bs k .place)) (cellLimit * input) n
-  pub buffered-is : buffered ≡ setFrom (λ k. isBuffered (entryAt bs k .place)) (cellLimit * input) n
+  pub listed-is : listed ≡ setFrom (λ k. isListed (entryAt bs k .place)) (sectionRoom * input) n
+  pub heads-is : heads ≡ setFrom (isFirst bs input) (sectionRoom * input) n
+  pub crossed-is : crossed ≡ setFrom (λ k. isCrossed (entryAt bs k .place)) (sectionRoom * input) n
+  pub buffered-is : buffered ≡ setFrom (λ k. isBuffered (entryAt bs k .place)) (sectionRoom * input) n
 
 -- of the entries at a set of positions of a section: one that none of its flow stands before
 unfoldable pub isHead : List ℕ → ℕ → ℕ → ℕ → Bool

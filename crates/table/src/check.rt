@@ -2,23 +2,24 @@
 // input the count, the unused records, the entries in one pass, and what is asked of the entries together. The sets of
 // positions that the check makes of a section are handed on.
 use crate::entry;
-use crate::entry::CELLS;
 use crate::word;
 use cell::Switch;
+use layout::CELLS;
+use layout::PORTS;
+use layout::TABLE_BYTES;
 ghost use mathlib.Core.Bool.{true, false, not, _||_};
 ghost use mathlib.Core.Path.{_≡_};
 ghost use Prim.Native.Nat.{_+_, _-_, _*_, _/_, _%_, _<_, _≤_};
 ghost use lib.Dec.{eqb};
 ghost use lib.ListN.{length};
 ghost use Rattle.laws.specs.Lists.{some?, all?, pairwise};
-ghost use Rattle.cell.specs.Limits.{portLimit, cellLimit};
+ghost use Rattle.cell.specs.Limits.{portLimit, sectionRoom};
 ghost use Rattle.model.specs.Sound.{together, otherSlot};
 ghost use Rattle.layout.specs.Entry.{entryAt, countIn};
-ghost use Rattle.layout.specs.Table.{tableSize, isTable};
+ghost use Rattle.layout.specs.Table.{tableSize, isTable, entryLimit};
 ghost use Rattle.layout.specs.Records.{between, entriesBetween};
 ghost use Rattle.table.specs.Check.{isSection, isUnused, roomOf, areSound, inRange, inReach, sameSlot};
 ghost use Rattle.table.specs.Check.{entriesIn, otherOutput, breaksFlow, Collected, MarksBelow};
-ghost use Rattle.table.specs.Entries.{recordLimit};
 ghost use Rattle.table.specs.Handed.{Handed, Sorts, headsIn};
 
 // What one pass over the entries of a section finds: whether all are entries, whether two may have one slot, and the
@@ -59,10 +60,10 @@ const SPARE_BITS: u32 = 0xfffc_f8f0;
 pub fn is_table(bytes: &[u8]) -> bool
     ensures { λ r. ⌜ r ≡ isTable (now (bytes .entry)) ⌝ }
 {
-    let mut listed = [0u64; entry::PORTS];
-    let mut heads = [0u64; entry::PORTS];
-    let mut crossed = [0u64; entry::PORTS];
-    let mut buffered = [0u64; entry::PORTS];
+    let mut listed = [0u64; PORTS];
+    let mut heads = [0u64; PORTS];
+    let mut crossed = [0u64; PORTS];
+    let mut buffered = [0u64; PORTS];
     sort_table(bytes, &mut listed, &mut heads, &mut crossed, &mut buffered)
 }
 
@@ -70,16 +71,16 @@ pub fn is_table(bytes: &[u8]) -> bool
 // the heads of its list.
 pub fn sort_table(
     bytes: &[u8],
-    listed: &mut [u64; entry::PORTS],
-    heads: &mut [u64; entry::PORTS],
-    crossed: &mut [u64; entry::PORTS],
-    buffered: &mut [u64; entry::PORTS],
+    listed: &mut [u64; PORTS],
+    heads: &mut [u64; PORTS],
+    crossed: &mut [u64; PORTS],
+    buffered: &mut [u64; PORTS],
 ) -> bool
     ensures { λ r. ⌜ r ≡ isTable (now (bytes .entry)) ⌝ }
     ensures { λ _. ⌜ (isTable (now (bytes .entry)) ≡ true → Handed (now (bytes .entry)) (now (listed .exit))
         (now (heads .exit)) (now (crossed .exit)) (now (buffered .exit))) ⌝ }
 {
-    if bytes.len() != entry::TABLE_BYTES {
+    if bytes.len() != TABLE_BYTES {
         return false;
     }
     if word::read_u32(bytes, 0) != entry::LAYOUT {
@@ -115,15 +116,15 @@ fn are_sections(
     buffered: &mut [u64],
 ) -> bool
     requires { ⌜ (length (now bytes) ≡ tableSize) × (ports ≤ portLimit) ⌝ }
-    requires { ⌜ (length (now listed) ≡ 16) × (length (now heads) ≡ 16) × (length (now crossed) ≡ 16)
-        × (length (now buffered) ≡ 16) ⌝ }
+    requires { ⌜ (length (now listed) ≡ portLimit) × (length (now heads) ≡ portLimit) × (length (now crossed) ≡ portLimit)
+        × (length (now buffered) ≡ portLimit) ⌝ }
     ensures { λ r. ⌜ r ≡ all? (isSection ports clock (now (bytes .entry))) (between 0 portLimit) ⌝ }
     ensures { λ r. ⌜ (r ≡ true → Handed (now (bytes .entry)) (now (listed .exit)) (now (heads .exit))
         (now (crossed .exit)) (now (buffered .exit))) ⌝ }
 {
     let mut marks = [0u8; 256];
     let mut i = 0;
-    while i < entry::PORTS {
+    while i < PORTS {
         let section = is_section(bytes, ports, clock, i, &mut marks);
         if !section.sound {
             return false;
@@ -190,7 +191,7 @@ fn room(ports: u32, input: usize) -> usize
 // Whether each of these records is zero, of which there are at most those of a section. The bits of whole blocks are
 // gathered, the last block's first, so that the block before it may reach into it; nothing else is looked at twice.
 fn are_unused(bytes: &[u8], from: usize, to: usize) -> bool
-    requires { ⌜ (length (now bytes) ≡ tableSize) × (from ≤ to) × (to ≤ recordLimit) ⌝ }
+    requires { ⌜ (length (now bytes) ≡ tableSize) × (from ≤ to) × (to ≤ entryLimit) ⌝ }
     ensures { λ r. ⌜ r ≡ all? (isUnused (now (bytes .entry))) (between from to) ⌝ }
 {
     if to < from + BLOCK {
@@ -207,7 +208,7 @@ fn are_unused(bytes: &[u8], from: usize, to: usize) -> bool
 
 // The bits of these records.
 fn bits_of(bytes: &[u8], from: usize, to: usize) -> u64
-    requires { ⌜ (length (now bytes) ≡ tableSize) × (from ≤ to) × (to ≤ recordLimit) ⌝ }
+    requires { ⌜ (length (now bytes) ≡ tableSize) × (from ≤ to) × (to ≤ entryLimit) ⌝ }
     ensures { λ r. ⌜ eqb r 0 ≡ all? (isUnused (now (bytes .entry))) (between from to) ⌝ }
 {
     let mut bits = 0;
@@ -221,7 +222,7 @@ fn bits_of(bytes: &[u8], from: usize, to: usize) -> u64
 
 // The bits of a record.
 fn record_bits(bytes: &[u8], k: usize) -> u64
-    requires { ⌜ (length (now bytes) ≡ tableSize) × (k < recordLimit) ⌝ }
+    requires { ⌜ (length (now bytes) ≡ tableSize) × (k < entryLimit) ⌝ }
     ensures { λ r. ⌜ eqb r 0 ≡ isUnused (now (bytes .entry)) k ⌝ }
 {
     word::read_u64(bytes, entry::start_of(k)) | word::read_u64(bytes, entry::start_of(k) + 8)
@@ -239,10 +240,10 @@ fn are_sound(
     marks: &mut [u8; 256],
 ) -> Sorted
     requires { ⌜ (length (now bytes) ≡ tableSize) × (ports ≤ portLimit) × (mark < 255) × MarksBelow mark (now marks) ⌝ }
-    requires { ⌜ (first + cellLimit ≤ recordLimit) × (first % cellLimit ≡ 0) ⌝ }
-    requires { ⌜ (first ≤ end) × (end ≤ first + cellLimit) ⌝ }
+    requires { ⌜ (first + sectionRoom ≤ entryLimit) × (first % sectionRoom ≡ 0) ⌝ }
+    requires { ⌜ (first ≤ end) × (end ≤ first + sectionRoom) ⌝ }
     ensures { λ r. ⌜ r .sound ≡ areSound ports clock (now (bytes .entry)) first end ⌝ }
-    ensures { λ r. ⌜ (r .sound ≡ true → Sorts (now (bytes .entry)) (first / cellLimit) (end - first)
+    ensures { λ r. ⌜ (r .sound ≡ true → Sorts (now (bytes .entry)) (first / sectionRoom) (end - first)
         (r .listed) (r .heads) (r .crossed) (r .buffered)) ⌝ }
     ensures { λ _. ⌜ MarksBelow (mark + 2) (now (marks .exit)) ⌝ }
 {
@@ -281,7 +282,7 @@ fn collect(
     mark: u8,
     marks: &mut [u8; 256],
 ) -> Places
-    requires { ⌜ (length (now bytes) ≡ tableSize) × (from ≤ to) × (to ≤ recordLimit) × (to ≤ from + cellLimit) ⌝ }
+    requires { ⌜ (length (now bytes) ≡ tableSize) × (from ≤ to) × (to ≤ entryLimit) × (to ≤ from + sectionRoom) ⌝ }
     requires { ⌜ (ports ≤ portLimit) × MarksBelow mark (now marks) ⌝ }
     ensures { λ r. ⌜ Collected ports clock (now (bytes .entry)) from to (r .good) (r .again) (r .low) (r .high) ⌝ }
     ensures { λ _. ⌜ MarksBelow (mark + 1) (now (marks .exit)) ⌝ }
@@ -321,7 +322,7 @@ fn collect(
 
 // Whether the output of a record is one of the switch's, and its slot before the clock.
 fn in_reach(bytes: &[u8], ports: u32, clock: u32, k: usize) -> bool
-    requires { ⌜ (length (now bytes) ≡ tableSize) × (k < recordLimit) ⌝ }
+    requires { ⌜ (length (now bytes) ≡ tableSize) × (k < entryLimit) ⌝ }
     ensures { λ r. ⌜ r ≡ inReach ports clock (entryAt (now (bytes .entry)) k) ⌝ }
 {
     if ports <= entry::output_of(bytes, k) as u32 {
@@ -333,8 +334,8 @@ fn in_reach(bytes: &[u8], ports: u32, clock: u32, k: usize) -> bool
 // Whether no two entries have one slot; asked only if two may. Entries are compared whose slots have one low byte, and no
 // others: `met` has the positions of those passed, byte by byte.
 fn slots_differ(bytes: &[u8], may: bool, first: usize, end: usize) -> bool
-    requires { ⌜ (length (now bytes) ≡ tableSize) × (first + cellLimit ≤ recordLimit) ⌝ }
-    requires { ⌜ (first ≤ end) × (end ≤ first + cellLimit) ⌝ }
+    requires { ⌜ (length (now bytes) ≡ tableSize) × (first + sectionRoom ≤ entryLimit) ⌝ }
+    requires { ⌜ (first ≤ end) × (end ≤ first + sectionRoom) ⌝ }
     ensures { λ r. ⌜ r ≡ (not may || pairwise otherSlot (entriesBetween (now (bytes .entry)) first end)) ⌝ }
 {
     if !may {
@@ -356,7 +357,7 @@ fn slots_differ(bytes: &[u8], may: bool, first: usize, end: usize) -> bool
 
 // Whether an entry has the slot of one at these positions.
 fn shares_slot(bytes: &[u8], k: usize, first: usize, others: u64) -> bool
-    requires { ⌜ (length (now bytes) ≡ tableSize) × (k < recordLimit) × (first + cellLimit ≤ recordLimit) ⌝ }
+    requires { ⌜ (length (now bytes) ≡ tableSize) × (k < entryLimit) × (first + sectionRoom ≤ entryLimit) ⌝ }
     ensures { λ r. ⌜ r ≡ some? (sameSlot (entryAt (now (bytes .entry)) k)) (entriesIn (now (bytes .entry)) first others) ⌝ }
 {
     let slot = entry::slot_of(bytes, k);
@@ -373,7 +374,7 @@ fn shares_slot(bytes: &[u8], k: usize, first: usize, others: u64) -> bool
 // Whether no two of the entries at these positions go to one output. The outputs passed are a set; nothing branches on
 // them, as that would be guessed badly.
 fn crosspoints_differ(bytes: &[u8], first: usize, crossed: u64) -> bool
-    requires { ⌜ (length (now bytes) ≡ tableSize) × (first + cellLimit ≤ recordLimit) ⌝ }
+    requires { ⌜ (length (now bytes) ≡ tableSize) × (first + sectionRoom ≤ entryLimit) ⌝ }
     requires { ⌜ all? inRange (entriesIn (now bytes) first crossed) ≡ true ⌝ }
     ensures { λ r. ⌜ r ≡ pairwise otherOutput (entriesIn (now (bytes .entry)) first crossed) ⌝ }
 {
@@ -393,7 +394,7 @@ fn crosspoints_differ(bytes: &[u8], first: usize, crossed: u64) -> bool
 // first of their flow. `last` is the flow of the entry before; the flows passed are marked. Nothing branches on them,
 // as that would be guessed badly.
 fn flows_together(bytes: &[u8], first: usize, listed: u64, mark: u8, marks: &mut [u8; 256]) -> Flows
-    requires { ⌜ (length (now bytes) ≡ tableSize) × (first + cellLimit ≤ recordLimit) × (first % cellLimit ≡ 0) ⌝ }
+    requires { ⌜ (length (now bytes) ≡ tableSize) × (first + sectionRoom ≤ entryLimit) × (first % sectionRoom ≡ 0) ⌝ }
     requires { ⌜ all? inRange (entriesIn (now bytes) first listed) ≡ true ⌝ }
     requires { ⌜ MarksBelow mark (now marks) ⌝ }
     ensures { λ r. ⌜ r .together ≡ together (entriesIn (now (bytes .entry)) first listed) ⌝ }

@@ -2,31 +2,23 @@
 // count of an input at 16 + input. The record k = 64 * input + position stands at byte 32 + 16 * k.
 // A caller shows that the bytes have a table's length and that there is such a record; the bytes may be any.
 use cell::Cell;
-use cell::Switch;
+use layout::CELLS;
+use layout::ENTRY_BYTES;
+use layout::HEADER_BYTES;
 ghost use mathlib.Core.Path.{_≡_};
 ghost use mathlib.Core.List.{_++_};
 ghost use Prim.Native.Nat.{_+_, _*_, _%_, _<_, _≤_};
 ghost use lib.ListN.{length, take, drop, set};
 ghost use Rattle.cell.specs.Order.{key};
+ghost use Rattle.cell.specs.Limits.{portLimit};
 ghost use Rattle.layout.specs.Number.{bytesOf};
-ghost use Rattle.layout.specs.Table.{tableSize, placeOf, entryBytes};
+ghost use Rattle.layout.specs.Table.{tableSize, placeOf, entryBytes, entryLimit, entrySize};
 ghost use Rattle.layout.specs.Entry.{entryAt, portsIn, clockIn, countIn};
 ghost use Rattle.layout.specs.Records.{placeByteAt, recordStart, recordAt};
 ghost use Rattle.table.specs.Entries.{entryWith, flowWord, flowNumber};
 
-// The sizes of a table, its header and a record, in bytes; the number of the layout.
-pub const TABLE_BYTES: usize = 16416;
-
-pub const HEADER_BYTES: usize = 32;
-
-pub const ENTRY_BYTES: usize = 16;
-
+// The number of the layout.
 pub const LAYOUT: u32 = 1;
-
-// The limits of the switch, as indexes: its ports, and the cells of an input.
-pub const PORTS: usize = Switch::PORTS as usize;
-
-pub const CELLS: usize = Switch::CELLS as usize;
 
 // The byte of a place: in the list, at the crosspoint, in the output's buffer.
 pub const LISTED: u8 = 1;
@@ -60,14 +52,14 @@ pub fn write_clock(bytes: &mut [u8], clock: u32)
 
 // How many entries an input has.
 pub fn count_of(bytes: &[u8], input: usize) -> usize
-    requires { ⌜ (length (now bytes) ≡ tableSize) × (input < 16) ⌝ }
+    requires { ⌜ (length (now bytes) ≡ tableSize) × (input < portLimit) ⌝ }
     ensures { λ r. ⌜ r ≡ countIn (now (bytes .entry)) input ⌝ }
 {
     bytes[16 + input] as usize
 }
 
 pub fn write_count(bytes: &mut [u8], input: usize, count: usize)
-    requires { ⌜ (length (now bytes) ≡ tableSize) × (input < 16) × (count < 256) ⌝ }
+    requires { ⌜ (length (now bytes) ≡ tableSize) × (input < portLimit) × (count < 256) ⌝ }
     ensures { λ _. ⌜ now (bytes .exit) ≡ set (now (bytes .entry)) (16 + input) count ⌝ }
 {
     bytes[16 + input] = count as u8;
@@ -75,7 +67,7 @@ pub fn write_count(bytes: &mut [u8], input: usize, count: usize)
 
 // The cell of a record.
 pub fn cell_of(bytes: &[u8], k: usize) -> Cell
-    requires { ⌜ (length (now bytes) ≡ tableSize) × (k < 1024) ⌝ }
+    requires { ⌜ (length (now bytes) ≡ tableSize) × (k < entryLimit) ⌝ }
     ensures { λ r. ⌜ r ≡ entryAt (now (bytes .entry)) k .cell ⌝ }
 {
     Cell {
@@ -89,14 +81,14 @@ pub fn cell_of(bytes: &[u8], k: usize) -> Cell
 }
 
 pub fn output_of(bytes: &[u8], k: usize) -> u8
-    requires { ⌜ (length (now bytes) ≡ tableSize) × (k < 1024) ⌝ }
+    requires { ⌜ (length (now bytes) ≡ tableSize) × (k < entryLimit) ⌝ }
     ensures { λ r. ⌜ r ≡ entryAt (now (bytes .entry)) k .cell .output ⌝ }
 {
     bytes[start_of(k)]
 }
 
 pub fn flow_of(bytes: &[u8], k: usize) -> u8
-    requires { ⌜ (length (now bytes) ≡ tableSize) × (k < 1024) ⌝ }
+    requires { ⌜ (length (now bytes) ≡ tableSize) × (k < entryLimit) ⌝ }
     ensures { λ r. ⌜ r ≡ entryAt (now (bytes .entry)) k .cell .flow ⌝ }
 {
     bytes[start_of(k) + 1]
@@ -113,7 +105,7 @@ pub fn flow_word(c: Cell) -> u16
 
 // That of an entry: the first two bytes of its record.
 pub fn flow_word_of(bytes: &[u8], k: usize) -> u16
-    requires { ⌜ (length (now bytes) ≡ tableSize) × (k < 1024) ⌝ }
+    requires { ⌜ (length (now bytes) ≡ tableSize) × (k < entryLimit) ⌝ }
     ensures { λ r. ⌜ (r ≡ flowWord (entryAt (now (bytes .entry)) k .cell)) × (entryAt (now (bytes .entry)) k .cell .output < 256) ⌝ }
 {
     output_of(bytes, k) as u16 + 256 * flow_of(bytes, k) as u16
@@ -121,8 +113,8 @@ pub fn flow_word_of(bytes: &[u8], k: usize) -> u16
 
 // The number of an entry's flow among the 128 that its input can have.
 pub fn flow_number(bytes: &[u8], k: usize) -> usize
-    requires { ⌜ (length (now bytes) ≡ tableSize) × (k < 1024) ⌝ }
-    requires { ⌜ (entryAt (now bytes) k .cell .output < 16) × (entryAt (now bytes) k .cell .flow < 8) ⌝ }
+    requires { ⌜ (length (now bytes) ≡ tableSize) × (k < entryLimit) ⌝ }
+    requires { ⌜ (entryAt (now bytes) k .cell .output < portLimit) × (entryAt (now bytes) k .cell .flow < 8) ⌝ }
     ensures { λ r. ⌜ (r ≡ flowNumber (entryAt (now (bytes .entry)) k)) × (r < 128) ⌝ }
 {
     8 * output_of(bytes, k) as usize + flow_of(bytes, k) as usize
@@ -130,7 +122,7 @@ pub fn flow_number(bytes: &[u8], k: usize) -> usize
 
 // The byte of its place.
 pub fn place_of(bytes: &[u8], k: usize) -> u8
-    requires { ⌜ (length (now bytes) ≡ tableSize) × (k < 1024) ⌝ }
+    requires { ⌜ (length (now bytes) ≡ tableSize) × (k < entryLimit) ⌝ }
     ensures { λ r. ⌜ (r ≡ placeByteAt (now (bytes .entry)) k) × (placeOf r ≡ entryAt (now (bytes .entry)) k .place) ⌝ }
 {
     bytes[start_of(k) + 2]
@@ -138,28 +130,28 @@ pub fn place_of(bytes: &[u8], k: usize) -> u8
 
 // Moves an entry: the byte of its place is written.
 pub fn write_place(bytes: &mut [u8], k: usize, place: u8)
-    requires { ⌜ (length (now bytes) ≡ tableSize) × (k < 1024) ⌝ }
+    requires { ⌜ (length (now bytes) ≡ tableSize) × (k < entryLimit) ⌝ }
     ensures { λ _. ⌜ now (bytes .exit) ≡ set (now (bytes .entry)) (recordStart k + 2) place ⌝ }
 {
     bytes[start_of(k) + 2] = place;
 }
 
 pub fn rank_of(bytes: &[u8], k: usize) -> u32
-    requires { ⌜ (length (now bytes) ≡ tableSize) × (k < 1024) ⌝ }
+    requires { ⌜ (length (now bytes) ≡ tableSize) × (k < entryLimit) ⌝ }
     ensures { λ r. ⌜ r ≡ entryAt (now (bytes .entry)) k .cell .rank ⌝ }
 {
     crate::word::read_u32(bytes, start_of(k) + 4)
 }
 
 pub fn tag_of(bytes: &[u8], k: usize) -> u32
-    requires { ⌜ (length (now bytes) ≡ tableSize) × (k < 1024) ⌝ }
+    requires { ⌜ (length (now bytes) ≡ tableSize) × (k < entryLimit) ⌝ }
     ensures { λ r. ⌜ r ≡ entryAt (now (bytes .entry)) k .cell .tag ⌝ }
 {
     crate::word::read_u32(bytes, start_of(k) + 8)
 }
 
 pub fn slot_of(bytes: &[u8], k: usize) -> u32
-    requires { ⌜ (length (now bytes) ≡ tableSize) × (k < 1024) ⌝ }
+    requires { ⌜ (length (now bytes) ≡ tableSize) × (k < entryLimit) ⌝ }
     ensures { λ r. ⌜ r ≡ entryAt (now (bytes .entry)) k .cell .slot ⌝ }
 {
     crate::word::read_u32(bytes, start_of(k) + 12)
@@ -167,7 +159,7 @@ pub fn slot_of(bytes: &[u8], k: usize) -> u32
 
 // The low byte of its slot. Not the slot's remainder: the compiler would load the slot in two parts.
 pub fn slot_byte_of(bytes: &[u8], k: usize) -> u8
-    requires { ⌜ (length (now bytes) ≡ tableSize) × (k < 1024) ⌝ }
+    requires { ⌜ (length (now bytes) ≡ tableSize) × (k < entryLimit) ⌝ }
     ensures { λ r. ⌜ r ≡ entryAt (now (bytes .entry)) k .cell .slot % 256 ⌝ }
 {
     bytes[start_of(k) + 12]
@@ -175,7 +167,7 @@ pub fn slot_byte_of(bytes: &[u8], k: usize) -> u8
 
 // The key of its cell's output priority.
 pub fn key_of(bytes: &[u8], k: usize) -> u64
-    requires { ⌜ (length (now bytes) ≡ tableSize) × (k < 1024) ⌝ }
+    requires { ⌜ (length (now bytes) ≡ tableSize) × (k < entryLimit) ⌝ }
     ensures { λ r. ⌜ r ≡ key (entryAt (now (bytes .entry)) k .cell) ⌝ }
 {
     cell::key(cell_of(bytes, k))
@@ -183,7 +175,7 @@ pub fn key_of(bytes: &[u8], k: usize) -> u64
 
 // The first byte of a record.
 pub fn start_of(k: usize) -> usize
-    requires { ⌜ k < 1024 ⌝ }
+    requires { ⌜ k < entryLimit ⌝ }
     ensures { λ r. ⌜ r ≡ recordStart k ⌝ }
 {
     HEADER_BYTES + ENTRY_BYTES * k
@@ -191,9 +183,9 @@ pub fn start_of(k: usize) -> usize
 
 // Writes an entry into a record.
 pub fn write_entry(bytes: &mut [u8], k: usize, c: Cell, place: u8)
-    requires { ⌜ (length (now bytes) ≡ tableSize) × (k < 1024) ⌝ }
+    requires { ⌜ (length (now bytes) ≡ tableSize) × (k < entryLimit) ⌝ }
     requires { ⌜ (c .output < 256) × (c .flow < 256) × (1 ≤ place) × (place ≤ 3) ⌝ }
-    ensures { λ _. ⌜ now (bytes .exit) ≡ take (recordStart k) (now (bytes .entry)) ++ (entryBytes (entryWith c place) ++ drop (recordStart k + 16) (now (bytes .entry))) ⌝ }
+    ensures { λ _. ⌜ now (bytes .exit) ≡ take (recordStart k) (now (bytes .entry)) ++ (entryBytes (entryWith c place) ++ drop (recordStart k + entrySize) (now (bytes .entry))) ⌝ }
 {
     let at = start_of(k);
     crate::word::write_u32(bytes, at, c.output + 256 * c.flow + 65536 * place as u32);
@@ -204,8 +196,8 @@ pub fn write_entry(bytes: &mut [u8], k: usize, c: Cell, place: u8)
 
 // Copies a record over another.
 pub fn copy_record(bytes: &mut [u8], from: usize, to: usize)
-    requires { ⌜ (length (now bytes) ≡ tableSize) × (from < 1024) × (to < 1024) ⌝ }
-    ensures { λ _. ⌜ now (bytes .exit) ≡ take (recordStart to) (now (bytes .entry)) ++ (recordAt (now (bytes .entry)) from ++ drop (recordStart to + 16) (now (bytes .entry))) ⌝ }
+    requires { ⌜ (length (now bytes) ≡ tableSize) × (from < entryLimit) × (to < entryLimit) ⌝ }
+    ensures { λ _. ⌜ now (bytes .exit) ≡ take (recordStart to) (now (bytes .entry)) ++ (recordAt (now (bytes .entry)) from ++ drop (recordStart to + entrySize) (now (bytes .entry))) ⌝ }
 {
     let old = start_of(from);
     let new = start_of(to);

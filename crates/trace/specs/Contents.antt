@@ -1,5 +1,5 @@
 -- Scope 7.2: the contents of a text and what the writer makes of them.
-use Prim.Native.Nat.{ℕ, _+_}
+use Prim.Native.Nat.{ℕ, _+_, _*_}
 use mathlib.Core.Bool.{Bool, true, false, _&&_}
 use mathlib.Core.List.{List, [], _∷_, _++_}
 use lib.ListN.{length}
@@ -22,6 +22,13 @@ pub record Contents : Type 0 where
 -- a block has at most 16 arrivals
 abbrev pub blockLimit : ℕ
 blockLimit = 16
+
+-- each of them five numbers, a line each, after the slot's own line
+abbrev pub blockNumbers : ℕ
+blockNumbers = 5 * blockLimit
+
+abbrev pub blockLines : ℕ
+blockLines = 1 + blockNumbers
 
 -- for each arrival `in`, `out`, `flow`, `rank`, `tag`
 unfoldable pub arrivalText : Arrival → List ℕ

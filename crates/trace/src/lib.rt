@@ -1,6 +1,16 @@
 // The trace: one grammar, read by `reader` and written by `writer`. What a line, a block and a whole text mean is in specs/.
 use cell::Refusal;
 
+// So many arrivals a block has at most, each of so many numbers: input, output, flow, rank, tag.
+pub const BLOCK_LIMIT: u32 = 16;
+
+pub const FIELDS: usize = 5;
+
+// So many numbers a block's arrivals have at most, and with the slot's own line so many lines the block.
+pub const NUMBERS: usize = BLOCK_LIMIT as usize * FIELDS;
+
+pub const BLOCK_LINES: u32 = NUMBERS as u32 + 1;
+
 // The key of a line, in a trace or in what the player writes.
 pub enum Key {
     Ports,

@@ -14,10 +14,12 @@ use mathlib.Core.Logic.{_⊎_}
 use mathlib.Core.Path.{_≡_}
 use lib.ListN.{length, drop}
 use Rattle.cell.specs.declared.Cell.{Cell}
+use Rattle.cell.specs.Limits.{portLimit}
 use Rattle.model.specs.Checks.{Outcome, done, refused}
 use Rattle.model.specs.Crossbar.{Course}
 use Rattle.trace.specs.declared.Key.the-variants.{Slot}
 use Rattle.trace.specs.Line.{line}
+use Rattle.trace.specs.Contents.{blockLines}
 use Rattle.layout.specs.Entry.{clockIn}
 use Rattle.layout.specs.Host.{filled, tableAfter}
 use Rattle.layout.specs.Number.{word}
@@ -35,9 +37,12 @@ standing Playing l table = playing l (stateOf table)
 standing Ended l table = ended
 standing TurnedBack l table = turnedBack
 
--- what one turn can write: the line of a slot and sixteen departures of five lines, 16 + 16 * 76 bytes
+-- what one turn can write: the line of a slot, 16 bytes, and sixteen departures of five lines, 76 bytes each
+abbrev pub departureRoom : ℕ
+departureRoom = 76
+
 abbrev pub turnRoom : ℕ
-turnRoom = 1232
+turnRoom = 16 + portLimit * departureRoom
 
 -- the number of the next line, where the player stands; at an end there is none, and 0 stands for it
 unfoldable pub lineAt : Standing → ℕ
@@ -52,7 +57,7 @@ pub record Stands (stage : Stage) (l : ℕ) (table : List ℕ) : Type 0 where
   pub size : length table ≡ tableSize
   pub number : l ≡ lineAt (standing stage l table)
   pub good : stage ≡ Playing → IsTable table
-  pub few : stage ≡ Playing → l ≤ 3 + 81 * clockIn table
+  pub few : stage ≡ Playing → l ≤ 3 + blockLines * clockIn table
 
 -- a text at the start of a buffer, and how long it is
 pub record Wrote (t buffer after : List ℕ) (n : ℕ) : Type 0 where

@@ -6,7 +6,9 @@ use arrival::Fault;
 use cell::Arrival;
 use cell::Cell;
 use cell::Refusal;
+use layout::HELD;
 use trace::Answer;
+use trace::FIELDS;
 use trace::Key;
 use trace::Opening;
 ghost use mathlib.Core.List.{_++_};
@@ -14,22 +16,24 @@ ghost use mathlib.Core.Option.{some};
 ghost use mathlib.Core.Path.{_≡_};
 ghost use Prim.Native.Nat.{_+_, _*_, _≤_};
 ghost use lib.ListN.{length, take};
+ghost use Rattle.cell.specs.Limits.{portLimit, clockEnd};
 ghost use Rattle.model.specs.Crossbar.{slot};
 ghost use Rattle.trace.specs.declared.Key.the-variants.{Ports, First, Slot};
 ghost use Rattle.trace.specs.Flat.{arrivalsFrom};
 ghost use Rattle.trace.specs.Line.{line};
 ghost use Rattle.trace.specs.Piece.{nextIn, headerIn};
+ghost use Rattle.trace.specs.Contents.{blockLimit, blockNumbers, blockLines};
 ghost use Rattle.writer.specs.Writing.{Put};
-ghost use Rattle.layout.specs.Answer.{departureIn, departuresIn};
+ghost use Rattle.layout.specs.Answer.{departureIn, departuresIn, departuresSize, departureSize};
 ghost use Rattle.layout.specs.Entry.{clockIn};
 ghost use Rattle.layout.specs.Table.{IsTable, stateOf, tableSize};
 ghost use Rattle.play.specs.Player.{departureText, departuresText, lineOf};
 ghost use Rattle.play.specs.Turn.{headerTurn, nextTurn, turn};
-ghost use Rattle.turns.specs.Code.{standing, turnRoom, Took, Stands, Wrote, Turned, Closed};
+ghost use Rattle.turns.specs.Code.{standing, turnRoom, Took, Stands, Wrote, Turned, Closed, departureRoom};
 ghost use Rattle.turns.specs.Code.{SlotPlayed, cellIn};
 
-// What one turn can write at most.
-const TURN_ROOM: usize = 1232;
+// What one turn can write at most: the line of a slot, and sixteen departures of five lines.
+const TURN_ROOM: usize = 16 + layout::PORTS * 76;
 
 // Where the player stands: before the header; before a block or the end; or behind all that it writes, where the trace
 // was played to its end or was turned back.
@@ -148,7 +152,7 @@ fn header_turn(text: &[u8], last: bool, table: &mut [u8], out: &mut [u8]) -> Tur
 // The turn at a block or the end.
 fn next_turn(line: usize, text: &[u8], last: bool, table: &mut [u8], out: &mut [u8]) -> Turn
     requires { ⌜ IsTable (now table) ⌝ }
-    requires { ⌜ line ≤ 3 + 81 * clockIn (now table) ⌝ }
+    requires { ⌜ line ≤ 3 + blockLines * clockIn (now table) ⌝ }
     requires { ⌜ turnRoom ≤ length (now out) ⌝ }
     ensures { λ r. ⌜ Turned (nextTurn line (stateOf (now (table .entry))) (now (text .entry))
         (nextIn last (clockIn (now (table .entry))) (now (text .entry))))
@@ -156,7 +160,7 @@ fn next_turn(line: usize, text: &[u8], last: bool, table: &mut [u8], out: &mut [
         (r .stage) (r .line) (r .used) (r .written) ⌝ }
 {
     let clock = table::entry::clock_of(table);
-    let mut numbers = [0u32; reader::NUMBERS];
+    let mut numbers = [0u32; trace::NUMBERS];
     match reader::read_block(text, clock, last, &mut numbers) {
         Answer::Slot(count, used, lines) => {
             match play_slot(line, clock, count, &numbers, table, out) {
@@ -205,15 +209,15 @@ fn play_slot(
     out: &mut [u8],
 ) -> Played
     requires { ⌜ IsTable (now table) ⌝ }
-    requires { ⌜ (clock ≡ clockIn (now table)) × (line ≤ 3 + 81 * clock) ⌝ }
-    requires { ⌜ (length (now numbers) ≡ 80) × (count ≤ 16) ⌝ }
+    requires { ⌜ (clock ≡ clockIn (now table)) × (line ≤ 3 + blockLines * clock) ⌝ }
+    requires { ⌜ (length (now numbers) ≡ blockNumbers) × (count ≤ blockLimit) ⌝ }
     requires { ⌜ turnRoom ≤ length (now out) ⌝ }
     ensures { λ r. ⌜ SlotPlayed (slot (stateOf (now (table .entry))) (some (arrivalsFrom count (now (numbers .entry)))))
         clock line (now (table .entry)) (now (out .entry)) (now (table .exit)) (now (out .exit)) r ⌝ }
 {
     let many = count as usize;
     let records = records_of(numbers, many);
-    let mut answer = [0u8; 456];
+    let mut answer = [0u8; layout::ANSWER_BYTES];
     match lent::sound_slot(table, records, many, &mut answer) {
         Fault::At(refusal, place) => {
             Played::Stopped(writer::put_refusal(out, 0, refusal, line_of(line, place)))
@@ -223,8 +227,8 @@ fn play_slot(
 }
 
 // The first records of a block's numbers.
-fn records_of(numbers: &[u32], count: usize) -> [Arrival; 17]
-    requires { ⌜ (length (now numbers) ≡ 80) × (count ≤ 16) ⌝ }
+fn records_of(numbers: &[u32], count: usize) -> [Arrival; HELD]
+    requires { ⌜ (length (now numbers) ≡ blockNumbers) × (count ≤ blockLimit) ⌝ }
     ensures { λ r. ⌜ take count r ≡ arrivalsFrom count (now (numbers .entry)) ⌝ }
 {
     let none = Arrival {
@@ -234,10 +238,10 @@ fn records_of(numbers: &[u32], count: usize) -> [Arrival; 17]
         rank: 0,
         tag: 0,
     };
-    let mut records = [none; 17];
+    let mut records = [none; HELD];
     let mut n = 0;
     while n < count {
-        records[n] = writer::arrival_at(&numbers[5 * n..]);
+        records[n] = writer::arrival_at(&numbers[FIELDS * n..]);
         n += 1;
     }
     records
@@ -245,13 +249,13 @@ fn records_of(numbers: &[u32], count: usize) -> [Arrival; 17]
 
 // The line that a refusal names: the slot's own, or the first of the record's.
 fn line_of(line: usize, place: u32) -> usize
-    requires { ⌜ line ≤ 3 + 81 * 4294967295 ⌝ }
+    requires { ⌜ line ≤ 3 + blockLines * clockEnd ⌝ }
     ensures { λ r. ⌜ r ≡ lineOf line place ⌝ }
 {
     if place == 0 {
         return line;
     }
-    line + 1 + 5 * (place as usize - 1)
+    line + 1 + FIELDS * (place as usize - 1)
 }
 
 // The lines `ports` and `first`.
@@ -265,8 +269,8 @@ fn put_header(out: &mut [u8], ports: u32, first: u32) -> usize
 
 // The line `slot`, and the departures of an answer.
 fn put_slot(out: &mut [u8], clock: u32, answer: &[u8]) -> usize
-    requires { ⌜ (turnRoom ≤ length (now out)) × (448 ≤ length (now answer)) ⌝ }
-    ensures { λ r. ⌜ Wrote (line Slot clock ++ departuresText (departuresIn 16 (now (answer .entry))))
+    requires { ⌜ (turnRoom ≤ length (now out)) × (departuresSize ≤ length (now answer)) ⌝ }
+    ensures { λ r. ⌜ Wrote (line Slot clock ++ departuresText (departuresIn portLimit (now (answer .entry))))
         (now (out .entry)) (now (out .exit)) r ⌝ }
 {
     let at = writer::put_line(out, 0, Key::Slot, clock);
@@ -275,15 +279,15 @@ fn put_slot(out: &mut [u8], clock: u32, answer: &[u8]) -> usize
 
 // The departures of the sixteen outputs.
 fn put_departures(out: &mut [u8], at: usize, answer: &[u8]) -> usize
-    requires { ⌜ (at + 1216 ≤ length (now out)) × (448 ≤ length (now answer)) ⌝ }
-    ensures { λ r. ⌜ Put (now (out .entry)) at (departuresText (departuresIn 16 (now (answer .entry))))
+    requires { ⌜ (at + portLimit * departureRoom ≤ length (now out)) × (departuresSize ≤ length (now answer)) ⌝ }
+    ensures { λ r. ⌜ Put (now (out .entry)) at (departuresText (departuresIn portLimit (now (answer .entry))))
         (now (out .exit)) r ⌝ }
 {
     let mut place = at;
     let mut output = 0;
-    while output < 16 {
-        let start = 28 * output;
-        let end = start + 28;
+    while output < layout::PORTS {
+        let start = layout::DEPARTURE_BYTES * output;
+        let end = start + layout::DEPARTURE_BYTES;
         place = put_sent(out, place, &answer[start..end]);
         output += 1;
     }
@@ -292,7 +296,7 @@ fn put_departures(out: &mut [u8], at: usize, answer: &[u8]) -> usize
 
 // The departure of one output, if it sends a cell.
 fn put_sent(out: &mut [u8], at: usize, sent: &[u8]) -> usize
-    requires { ⌜ length (now sent) ≡ 28 ⌝ }
+    requires { ⌜ length (now sent) ≡ departureSize ⌝ }
     ensures { λ r. ⌜ Put (now (out .entry)) at (departureText (departureIn (now (sent .entry)))) (now (out .exit)) r ⌝ }
 {
     if table::word::read_u32(sent, 0) == 0 {
@@ -303,7 +307,7 @@ fn put_sent(out: &mut [u8], at: usize, sent: &[u8]) -> usize
 
 // The cell that leaves.
 fn cell_in(sent: &[u8]) -> Cell
-    requires { ⌜ length (now sent) ≡ 28 ⌝ }
+    requires { ⌜ length (now sent) ≡ departureSize ⌝ }
     ensures { λ r. ⌜ r ≡ cellIn (now (sent .entry)) ⌝ }
 {
     Cell {

@@ -8,6 +8,7 @@ use cell::Arrival;
 use cell::Cell;
 use cell::Refusal;
 use cell::Switch;
+use trace::BLOCK_LIMIT;
 use trace::Key;
 use trace::Output;
 ghost use mathlib.Core.Path.{_≡_};
@@ -26,9 +27,8 @@ ghost use Rattle.writer.specs.Writing.{few, flatHasText, placeAfter, Roo
 // A key and `=`, filled up with blanks, and how many bytes they have.
 struct KeyText([u8; 8], usize);
 
-const BLOCK_LIMIT: u32 = 16;
-
-const CLOCK_END: usize = 4294967295;
+// The clock's end, as a count of slots.
+const CLOCK_END: usize = Switch::CLOCK_END as usize;
 
 const LAST_PLACE: usize = 18446744073709551615;
 
