@@ -41,7 +41,7 @@ use Rattle.layout.specs.Table.{stateOf, IsTable}
 use Rattle.layout.proofs.Records.{entryAt-input}
 use Rattle.table.specs.Entries.{flowWord}
 use Rattle.table.proofs.Entries.{flow-word}
-use Rattle.arrival.specs.declared.Fault.the-variants.{Clear, At}
+use Rattle.cell.specs.declared.Fault.the-variants.{Clear, At}
 use Rattle.arrival.specs.Fault.{sectionIn, turnAfter, outranks}
 use Rattle.arrival.proofs.Stored.{section-sound, section-length, section-entry}
 

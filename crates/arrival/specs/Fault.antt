@@ -12,8 +12,8 @@ use Rattle.cell.specs.Cell.{accepted}
 use Rattle.cell.specs.Flow.{sameFlow}
 use Rattle.model.specs.State.{Entry, Switch}
 use Rattle.layout.specs.Table.{stateOf}
-use Rattle.arrival.specs.declared.Fault.{Fault}
-use Rattle.arrival.specs.declared.Fault.the-variants.{Clear, At}
+use Rattle.cell.specs.declared.Fault.{Fault}
+use Rattle.cell.specs.declared.Fault.the-variants.{Clear, At}
 
 -- the entries of an input
 abbrev pub sectionIn : List ℕ → ℕ → List Entry

@@ -22,16 +22,11 @@ ghost use Rattle.arrival.specs.Arrival.{raised, entered, MayEnter, enter
 ghost use Rattle.arrival.specs.Fault.{sectionIn, faultAt, turnAfter, outranks};
 use cell::Arrival;
 use cell::Cell;
+use cell::Fault;
 use cell::Refusal;
 use cell::Switch;
 use layout::CELLS;
 use layout::PORTS;
-
-// What the checks of a slot's records find: nothing, or the first fault and its record's place, from 1.
-pub enum Fault {
-    Clear,
-    At(Refusal, u32),
-}
 
 // The clock moves on by one, before a cell of the slot enters: so the table is sound whenever one has.
 pub fn raise_clock(table: &mut [u8])
@@ -39,8 +34,8 @@ pub fn raise_clock(table: &mut [u8])
     requires { ⌜ clockIn (now table) < clockEnd ⌝ }
     ensures { λ _. ⌜ now (table .exit) ≡ encode (raised (stateOf (now (table .entry)))) ⌝ }
 {
-    let clock = table::entry::clock_of(table);
-    table::entry::write_clock(table, clock + 1);
+    let clock = table::header::clock_of(table);
+    table::header::write_clock(table, clock + 1);
 }
 
 // Lets the cell of a record enter the list of its input, which has room for it. The clock has risen: the cell's slot is
@@ -59,7 +54,7 @@ pub fn arrive(
     ensures { λ _. ⌜ SetsOf (now (table .exit)) (placesIn (now (table .exit))) (now (listed .exit)) (now (heads .exit))
         (now (crossed .exit)) (now (buffered .exit)) ⌝ }
 {
-    let clock = table::entry::clock_of(table);
+    let clock = table::header::clock_of(table);
     let at = enter(table, cell_of(a, clock - 1));
     let input = a.input as usize;
     open_sets(listed, heads, crossed, buffered, input, at - CELLS * input);
@@ -93,7 +88,7 @@ fn no_such_port(table: &[u8], c: Cell) -> bool
     requires { ⌜ IsTable (now table) ⌝ }
     ensures { λ r. ⌜ r ≡ noSuchPort (portsIn (now (table .entry))) c ⌝ }
 {
-    let ports = table::entry::ports_of(table);
+    let ports = table::header::ports_of(table);
     if ports <= c.input as usize {
         return true;
     }
@@ -123,7 +118,7 @@ fn falling_rank(table: &[u8], c: Cell) -> bool
     ensures { λ r. ⌜ r ≡ fallingRank (cells (stateOf (now (table .entry)))) c ⌝ }
 {
     let input = c.input as usize;
-    let end = places::end_of(table, input);
+    let end = table::header::end_of(table, input);
     let flow = table::entry::flow_word(c);
     let mut falling = false;
     let mut k = CELLS * input;
@@ -149,7 +144,7 @@ fn input_full(table: &[u8], c: Cell) -> bool
     requires { ⌜ c .input < portsIn (now table) ⌝ }
     ensures { λ r. ⌜ r ≡ full (cells (stateOf (now (table .entry)))) c ⌝ }
 {
-    Switch::input_full(table::entry::count_of(table, c.input as usize) as u32)
+    Switch::input_full(table::header::count_of(table, c.input as usize) as u32)
 }
 
 // Lets a cell enter the list of its input, which has room for it. Gives the number of its entry.
@@ -161,11 +156,11 @@ fn enter(table: &mut [u8], c: Cell) -> usize
     ensures { λ r. ⌜ r ≡ sectionRoom * c .input + enterPlace c (sectionIn (now (table .entry)) (c .input)) ⌝ }
 {
     let input = c.input as usize;
-    let count = table::entry::count_of(table, input);
+    let count = table::header::count_of(table, input);
     let at = new_place(table, c);
     move_up(table, at, CELLS * input + count);
     table::entry::write_entry(table, at, c, table::entry::LISTED);
-    table::entry::write_count(table, input, count + 1);
+    table::header::write_count(table, input, count + 1);
     at
 }
 
@@ -203,7 +198,7 @@ fn new_place(table: &[u8], c: Cell) -> usize
 {
     let input = c.input as usize;
     let first = CELLS * input;
-    let end = places::end_of(table, input);
+    let end = table::header::end_of(table, input);
     let flow = table::entry::flow_word(c);
     let mut k = end;
     while first < k {
@@ -223,7 +218,7 @@ fn in_list(table: &[u8], k: usize, c: Cell, flow: u16) -> bool
     requires { ⌜ (k / sectionRoom ≡ c .input) × (flow ≡ flowWord c) × (c .output < 256) ⌝ }
     ensures { λ r. ⌜ r ≡ inListOf c (entryAt (now (table .entry)) k) ⌝ }
 {
-    table::word::read_u32(table, table::entry::start_of(k)) == flow as u32 + 65536
+    layout::word::read_u32(table, table::entry::start_of(k)) == flow as u32 + 65536
 }
 
 // Moves the entries from `at` up to `end` one place up.

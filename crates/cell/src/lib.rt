@@ -77,6 +77,12 @@ impl Refusal {
     }
 }
 
+// What the checks of a slot's records find: nothing, or the first fault and its record's place, from 1.
+pub enum Fault {
+    Clear,
+    At(Refusal, u32),
+}
+
 // The switch's size and its clock, the number of the next slot; and its limits. What they make of a table's room and of
 // its bytes is in `layout`.
 pub struct Switch {

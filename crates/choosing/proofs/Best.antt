@@ -22,11 +22,13 @@ use Rattle.model.specs.Phase.{Waiting, beats}
 use Rattle.model.proofs.WaitingOrder.{beats-i, beats-output, beats-over, beats-strict}
 use Rattle.layout.proofs.Records.{entryAt-input}
 use Rattle.layout.specs.Entry.{entryAt, portsIn}
+use Rattle.table.specs.Entries.{nowhere, betterOf}
+use Rattle.table.proofs.Better.{better-none}
 use Rattle.places.specs.View.{crosspointAt}
-use Rattle.places.specs.Choices.{nowhere, numberOf, toOutput, bestOf, betterOf, BestAmong, empty, best}
+use Rattle.places.specs.Choices.{numberOf, toOutput, bestOf, BestAmong, empty, best}
 use Rattle.places.specs.Scan.{Holds}
 use Rattle.places.proofs.Choices
-use Rattle.places.proofs.Choices.{Ordered, better-none, best-same}
+use Rattle.places.proofs.Choices.{Ordered, best-same}
 
 ------------------------------------------------------------------------
 -- the first of a list

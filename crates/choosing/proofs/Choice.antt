@@ -30,8 +30,9 @@ use Rattle.model.proofs.WaitingOrder.{ahead-strict, ahead-i, ahead-at, ahead-in
 use Rattle.model.proofs.PhaseMatching.{urgent-all}
 use Rattle.layout.specs.Entry.{portsIn, countIn}
 use Rattle.layout.specs.Table.{placeOf}
+use Rattle.table.specs.Entries.{nowhere}
 use Rattle.places.specs.View.{placesIn, waitingIn, waitingAt, InTable}
-use Rattle.places.specs.Choices.{nowhere, numberOf, ofInput, scheduledOf, candidatesOf}
+use Rattle.places.specs.Choices.{numberOf, ofInput, scheduledOf, candidatesOf}
 use Rattle.places.specs.Scan.{Readable, Bests, someUrgent}
 use Rattle.places.specs.Viewed.{isHead, listedSet, ListsOf, Chosen}
 use Rattle.places.proofs.Window.{waitingAt-at, waitingAt-input, waitingAt-place, inTable-e, inTable-i, inTable-below}

@@ -19,11 +19,12 @@ use Rattle.layout.specs.Entry.{entryAt, portsIn}
 use Rattle.layout.specs.Records.{recordStart}
 use Rattle.layout.proofs.Number.{bytes?, word-fits, fits32-below}
 use Rattle.layout.proofs.Records.{entryAt-rank}
+use Rattle.table.specs.Entries.{nowhere}
+use Rattle.table.proofs.Keys.{over-keys, over-tie}
 use Rattle.places.specs.View.{placesIn, crosspointAt, InTable, Agrees}
-use Rattle.places.specs.Choices.{nowhere, bestOf, empty, best}
+use Rattle.places.specs.Choices.{bestOf, empty, best}
 use Rattle.places.specs.Scan.{Readable, Holds, Bests}
 use Rattle.places.specs.Viewed.{noKey, keyAt, Keyed}
-use Rattle.places.proofs.Keys.{over-keys, over-tie}
 use Rattle.places.proofs.Window.{inTable-below, agrees-holds}
 use Rattle.choosing.specs.Keys.{leastOfFour, leastOf, FirstWith, Leading, LeadingTo}
 use Rattle.choosing.specs.Walk.{BestKnown}

@@ -23,8 +23,9 @@ use Rattle.sets.proofs.Members.{first-position, members-with, withOne-lt}
 use Rattle.cell.specs.Limits.{sectionRoom}
 use Rattle.model.specs.Phase.{Waiting, ahead, phase}
 use Rattle.layout.specs.Entry.{portsIn, countIn}
+use Rattle.table.specs.Entries.{nowhere}
 use Rattle.places.specs.View.{placesIn, waitingIn, waitingAt, window}
-use Rattle.places.specs.Choices.{nowhere, numberOf, scheduledOf, ofInput}
+use Rattle.places.specs.Choices.{numberOf, scheduledOf, ofInput}
 use Rattle.places.specs.Scan.{Readable}
 use Rattle.places.specs.Viewed.{isHead, headSet}
 use Rattle.places.proofs.Window.{waitingAt-at, window-ordered, ofInput-window}

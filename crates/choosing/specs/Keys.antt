@@ -4,8 +4,8 @@ use mathlib.Core.Path.{_≡_}
 use mathlib.Core.List.{List, []}
 use lib.ListN.{length, getD}
 use Rattle.cell.specs.Limits.{portLimit}
+use Rattle.table.specs.Entries.{nowhere}
 use Rattle.places.specs.View.{crosspointAt}
-use Rattle.places.specs.Choices.{nowhere}
 
 -- the least of four numbers of a row, and of all sixteen
 abbrev pub leastOfFour : List ℕ → ℕ → ℕ

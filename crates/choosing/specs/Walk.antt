@@ -10,7 +10,8 @@ use Rattle.laws.specs.Lists.{keep, all?}
 use Rattle.sets.specs.Sets.{positions, members, firstOf, withOne}
 use Rattle.cell.specs.Limits.{portLimit, sectionRoom}
 use Rattle.model.specs.Phase.{Waiting, sameOutput, beats, blocked, crosspointEmpty, Phase, phase, crosspoints}
-use Rattle.places.specs.Choices.{nowhere, ofInput, scheduledOf, bestOf}
+use Rattle.table.specs.Entries.{nowhere}
+use Rattle.places.specs.Choices.{ofInput, scheduledOf, bestOf}
 use Rattle.places.specs.View.{placesIn, waitingIn, waitingAt, InTable, Agrees}
 use Rattle.places.specs.Scan.{Readable, someUrgent}
 use Rattle.places.specs.Viewed.{isHead, keyAt}

@@ -4,7 +4,7 @@
 use layout::CELLS;
 use layout::PORTS;
 use places::Choice;
-use places::NOWHERE;
+use table::priority::NOWHERE;
 ghost use mathlib.Core.Path.{_≡_};
 ghost use mathlib.Core.List.{[]};
 ghost use Prim.Native.Nat.{ℕ, _+_, _≤_, _<_, min};
@@ -13,7 +13,7 @@ ghost use Rattle.cell.specs.Order.{over, key as cellKey};
 ghost use Rattle.cell.specs.Limits.{portLimit};
 ghost use Rattle.layout.specs.Table.{tableSize, entryLimit};
 ghost use Rattle.layout.specs.Entry.{entryAt, portsIn};
-ghost use Rattle.places.specs.Choices.{nowhere};
+ghost use Rattle.table.specs.Entries.{nowhere};
 ghost use Rattle.places.specs.View.{placesIn, waitingIn, waitingAt, Square, Agrees};
 ghost use Rattle.places.specs.Scan.{Readable};
 ghost use Rattle.places.specs.Viewed.{headSet, ListsOf, Keyed, Chosen};
@@ -155,7 +155,7 @@ fn scan_each(
     ensures { λ r. ⌜ ScannedAll (now (table .entry)) (now (scheduled .exit)) (now (urgent .exit)) r ⌝ }
 {
     let mut some = false;
-    let ports = table::entry::ports_of(table);
+    let ports = table::header::ports_of(table);
     let mut input = 0;
     while input < ports {
         let found = scan(table, heads[input], cross, best, least, input);
@@ -239,7 +239,7 @@ fn is_pressing(table: &[u8], k: usize, best: u16, key: u64) -> bool
     requires { ⌜ key ≡ cellKey (entryAt (now table) best .cell) ⌝ }
     ensures { λ r. ⌜ r ≡ over (entryAt (now (table .entry)) k .cell) (entryAt (now (table .entry)) best .cell) ⌝ }
 {
-    places::goes_first(table, table::entry::key_of(table, k), k, key, best as usize)
+    table::priority::goes_first(table, table::entry::key_of(table, k), k, key, best as usize)
 }
 
 // Rule 4 for each input, where some cell is urgent.

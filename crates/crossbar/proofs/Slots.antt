@@ -16,7 +16,7 @@ use Rattle.layout.specs.Arrivals.{recordsOf}
 use Rattle.layout.specs.Host.{resultOf, slotCall, tableAfter, answerAfter, tallyBytesAfter}
 use Rattle.layout.specs.TallyBytes.{tallyOf, tallyBytes, tallySize}
 use Rattle.layout.proofs.Host.{slotCall-tally, tallyBytesAfter-broken}
-use Rattle.arrival.specs.declared.Fault.{Fault}
+use Rattle.cell.specs.declared.Fault.{Fault}
 use Rattle.fabric.specs.Slot.{refusalOf}
 use Rattle.lent.specs.Lent.{lentSlot}
 use Rattle.lent.proofs.FromBytes.{Answered}

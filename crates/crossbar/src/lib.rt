@@ -1,17 +1,13 @@
 // What the chassis host calls: numbers and byte slices, no call with a condition on what it is lent.
-use arrival::Fault;
+use cell::Fault;
 use cell::Refusal;
 use cell::Switch;
 use layout::TABLE_BYTES;
 use layout::TALLY_BYTES;
+use table::header::write_fresh;
 ghost use mathlib.Core.Path.{_≡_};
-ghost use Prim.Native.Nat.{_≤_};
-ghost use lib.ListN.{length};
-ghost use Rattle.model.specs.State.{fresh};
-ghost use Rattle.layout.specs.Table.{encode, tableSize};
-ghost use Rattle.crossbar.specs.Cleared.{cleared};
 ghost use Rattle.crossbar.specs.Lent.{faultResult};
-ghost use Rattle.layout.specs.Host.{checkCall, startCall, bufferAfter, resultOf, filled};
+ghost use Rattle.layout.specs.Host.{checkCall, startCall, bufferAfter, resultOf};
 ghost use Rattle.layout.specs.Host.{slotCall, tableAfter, answerAfter, tallyBytesAfter};
 
 // Writes the table of a fresh switch into the first bytes of the buffer: 0. Refuses with 1 a number of ports that is not
@@ -74,28 +70,5 @@ fn result_of(fault: Fault) -> u64
     match fault {
         Fault::Clear => 0,
         Fault::At(refusal, place) => refusal.number() as u64 + 256 * (place as u64),
-    }
-}
-
-// The table of a fresh switch: its header, and zeros.
-fn write_fresh(switch: Switch, table: &mut [u8])
-    requires { ⌜ tableSize ≤ length (now table) ⌝ }
-    ensures { λ _. ⌜ now (table .exit) ≡ filled (encode (fresh (switch .ports) (switch .clock))) (now (table .entry)) ⌝ }
-{
-    clear(table);
-    table::word::write_u32(table, 0, 1);
-    table::word::write_u32(table, 4, switch.ports);
-    table::word::write_u32(table, 8, switch.clock);
-}
-
-// Zeros where the table goes.
-fn clear(table: &mut [u8])
-    requires { ⌜ tableSize ≤ length (now table) ⌝ }
-    ensures { λ _. ⌜ now (table .exit) ≡ cleared tableSize (now (table .entry)) ⌝ }
-{
-    let mut i = 0;
-    while i < TABLE_BYTES {
-        table[i] = 0;
-        i += 1;
     }
 }

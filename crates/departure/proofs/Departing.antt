@@ -27,7 +27,8 @@ use Rattle.layout.specs.Table.{sectionsBytes, encode, stateOf, IsTable}
 use Rattle.layout.specs.Entry.{entryAt, portsIn, countIn}
 use Rattle.layout.specs.Records.{recordStart, between, entriesBetween, sectionAt}
 use Rattle.layout.proofs.Table.{length-entriesBytes, encode-decode}
-use Rattle.places.specs.Choices.{nowhere, BestAmong, empty, best}
+use Rattle.table.specs.Entries.{nowhere}
+use Rattle.places.specs.Choices.{BestAmong, empty, best}
 use Rattle.places.specs.Scan.{Readable}
 use Rattle.places.specs.View.{InTable, placesIn}
 use Rattle.places.specs.Viewed.{Buffered, BestBuffered}

@@ -8,7 +8,7 @@ use lib.ListN.{getD, set, replicate, length-set, getD-replicate}
 use lib.Seq.{getD-set-same, getD-set-other}
 use Rattle.cell.specs.Limits.{portLimit, sectionRoom}
 use Rattle.laws.proofs.Compared.{Compared, below, equal, above, compare}
-use Rattle.places.specs.Choices.{nowhere}
+use Rattle.table.specs.Entries.{nowhere}
 use Rattle.departure.specs.Departing.{Firsts}
 
 module _ (numbers : List ℕ) where

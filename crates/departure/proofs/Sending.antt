@@ -1,6 +1,6 @@
 -- The departures that go into the answer.
 --     leaves-i, leaves-e, among-leaving   the cells that leave are the outputs' choices
---     departureAt-, departure-            what an output sends, and its bytes
+--     departureAt-                        what an output sends
 --     departuresBytes-                    the bytes of an output's departure among all
 --     sent-                               the answer with one departure more
 --     departures-chosen                   all of them are the definition's
@@ -30,21 +30,21 @@ use Rattle.model.specs.Phase.{Waiting, waiting, beats, among}
 use Rattle.model.specs.Crossbar.{leaving, departuresOf}
 use Rattle.model.proofs.WaitingOrder.{beats-i, beats-output, beats-over, among-i, among-e}
 use Rattle.model.proofs.SlackDeparture.{leaving-in, leaving-buffered, leaving-first}
-use Rattle.layout.specs.Number.{bytesOf}
 use Rattle.layout.specs.Answer.{departureSize, departureBytes, departuresBytes}
 use Rattle.layout.specs.Host.{filled}
 use Rattle.layout.specs.Entry.{entryAt, portsIn}
 use Rattle.layout.specs.Table.{stateOf, IsTable}
 use Rattle.layout.proofs.Answer.{length-departureBytes, length-departuresBytes}
 use Rattle.places.specs.View.{waitingAt, InTable, placesIn, waitingIn}
-use Rattle.places.specs.Choices.{nowhere, Best, BestAmong, empty, best}
+use Rattle.places.specs.Choices.{Best, BestAmong, empty, best}
 use Rattle.places.specs.Scan.{Readable}
 use Rattle.places.specs.Viewed.{Buffered, BestBuffered}
-use Rattle.departure.specs.Departing.{departureAt, sevenBytes, noCell}
+use Rattle.departure.specs.Departing.{departureAt}
 use Rattle.places.proofs.Window
 use Rattle.places.proofs.Own.{table-readable, waitingIn-state, waitingIn-orderly}
 use Rattle.places.proofs.Placed.{length-numbers}
-use Rattle.table.proofs.Put.{put, put-next}
+use Rattle.layout.proofs.Put.{put, put-next}
+use Rattle.table.specs.Entries.{nowhere}
 
 ------------------------------------------------------------------------
 -- the cells that leave are the outputs' choices
@@ -155,15 +155,6 @@ module _ (table : List ℕ) (n : ℕ) where
   pub departureAt-some : n < nowhere → departureAt table n ≡ some (entryAt table n .cell)
   unfolding departureAt
   departureAt-some h = rw (lt-leb nowhere n h, departureAt)
-
-  pub departure-none : (c : Cell) → c ≡ noCell → nowhere ≤ n → sevenBytes 0 c ≡ departureBytes (departureAt table n)
-  unfolding sevenBytes noCell departureBytes bytesOf
-  departure-none c e h = ap (sevenBytes 0) e ∙ ap departureBytes (sym (departureAt-none h))
-
-  pub departure-some : (c : Cell) → c ≡ entryAt table n .cell → n < nowhere
-      → sevenBytes 1 c ≡ departureBytes (departureAt table n)
-  unfolding sevenBytes departureBytes
-  departure-some c e h = ap (sevenBytes 1) e ∙ ap departureBytes (sym (departureAt-some h))
 
 ------------------------------------------------------------------------
 -- the bytes of an output's departure among all

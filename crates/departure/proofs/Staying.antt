@@ -29,9 +29,9 @@ use Rattle.layout.specs.Table.{sectionBytes}
 use Rattle.layout.specs.Entry.{entryAt, countIn}
 use Rattle.layout.specs.Records.{recordStart, recordAt}
 use Rattle.layout.proofs.Table.{length-entryBytes, length-entriesBytes, entriesBytes-append}
-use Rattle.places.specs.Choices.{nowhere}
 use Rattle.departure.specs.Departing.{waitsAt, stays, staying, freeAfter, closedOne, cleared, Removable, removed}
-use Rattle.table.proofs.Put.{put, put-next, drop-put, length-put}
+use Rattle.layout.proofs.Put.{put, put-next, drop-put, length-put}
+use Rattle.table.specs.Entries.{nowhere}
 
 ------------------------------------------------------------------------
 -- one record more is cleared

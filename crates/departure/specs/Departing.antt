@@ -1,6 +1,6 @@
 -- What a departure sends, and what it leaves in the table.
 --     departed                  the switch without the cells that leave
---     departureAt, sevenBytes   what an output with this choice sends
+--     departureAt               what an output with this choice sends
 --     Firsts                    the first cell of each input that leaves
 --     stays, staying            the entries that stay, of a run of them
 --     closedOne, cleared        one entry closes up, records are cleared
@@ -18,11 +18,10 @@ use Rattle.cell.specs.Limits.{portLimit, sectionRoom}
 use Rattle.model.specs.State.{Entry, Switch}
 use Rattle.model.specs.Phase.{Waiting, waiting}
 use Rattle.model.specs.Crossbar.{leaving, without}
-use Rattle.layout.specs.Number.{bytesOf}
 use Rattle.layout.specs.Table.{headerSize, entrySize, sectionSize, tableSize, entryBytes, sectionBytes}
 use Rattle.layout.specs.Entry.{entryAt, countIn}
 use Rattle.layout.specs.Records.{recordStart, recordAt}
-use Rattle.places.specs.Choices.{nowhere}
+use Rattle.table.specs.Entries.{nowhere}
 
 -- the switch without the cells that leave
 unfoldable pub departed : Switch → Switch
@@ -39,17 +38,6 @@ departed s =
 -- what an output with this choice sends
 unfoldable pub departureAt : List ℕ → ℕ → Option Cell
 departureAt table n = elim (leb nowhere n) [ true ↦ none | false ↦ some (entryAt table n .cell) ]
-
--- the numbers of a departure
-unfoldable pub sevenBytes : ℕ → Cell → List ℕ
-sevenBytes sent c =
-    bytesOf 4 sent
-    ++ (bytesOf 4 (c .input)
-    ++ (bytesOf 4 (c .output)
-    ++ (bytesOf 4 (c .flow) ++ (bytesOf 4 (c .rank) ++ (bytesOf 4 (c .tag) ++ bytesOf 4 (c .slot))))))
-
-unfoldable pub noCell : Cell
-noCell = record { input = 0; output = 0; flow = 0; rank = 0; tag = 0; slot = 0 }
 
 ------------------------------------------------------------------------
 -- what stays

@@ -1,10 +1,9 @@
 // Scope 3.9, departure: each output sends the cell of highest output priority in its buffer, if it has one. The view of
 // the table has these cells. They go into the answer, and the sections that lose one close up.
-use cell::Cell;
 use layout::CELLS;
 use layout::DEPARTURE_BYTES;
 use layout::PORTS;
-use places::NOWHERE;
+use table::priority::NOWHERE;
 ghost use mathlib.Core.Path.{_≡_};
 ghost use mathlib.Core.List.{_++_, map};
 ghost use Prim.Native.Nat.{_+_, _*_, _-_, _<_, _≤_};
@@ -19,7 +18,7 @@ ghost use Rattle.layout.specs.Host.{filled};
 ghost use Rattle.layout.specs.Entry.{entryAt, portsIn};
 ghost use Rattle.places.specs.View.{placesIn};
 ghost use Rattle.places.specs.Viewed.{BestBuffered};
-ghost use Rattle.departure.specs.Departing.{departed, departureAt, noCell, sevenBytes, Firsts, freeAfter, closedOne};
+ghost use Rattle.departure.specs.Departing.{departed, departureAt, Firsts, freeAfter, closedOne};
 ghost use Rattle.departure.specs.Departing.{cleared, Removable, removed};
 
 // Fills the departures of the answer, and takes the cells that leave out of the table. `best` has the best buffered
@@ -52,38 +51,10 @@ fn send_one(table: &[u8], number: u16, answer: &mut [u8], at: usize)
     ensures { λ _. ⌜ now (answer .exit) ≡ take at (now (answer .entry)) ++ (departureBytes (departureAt (now (table .entry)) number) ++ drop (at + departureSize) (now (answer .entry))) ⌝ }
 {
     if number >= NOWHERE {
-        write_seven(answer, at, 0, no_cell());
+        answer::write_none(answer, at);
         return;
     }
-    write_seven(answer, at, 1, table::entry::cell_of(table, number as usize));
-}
-
-// What stands in the answer where no cell leaves.
-fn no_cell() -> Cell
-    ensures { λ r. ⌜ r ≡ noCell ⌝ }
-{
-    Cell {
-        input: 0,
-        output: 0,
-        flow: 0,
-        rank: 0,
-        tag: 0,
-        slot: 0,
-    }
-}
-
-// Seven numbers of 32 bits one behind the other.
-fn write_seven(answer: &mut [u8], at: usize, sent: u32, c: Cell)
-    requires { ⌜ at + departureSize ≤ length (now answer) ⌝ }
-    ensures { λ _. ⌜ now (answer .exit) ≡ take at (now (answer .entry)) ++ (sevenBytes sent c ++ drop (at + departureSize) (now (answer .entry))) ⌝ }
-{
-    table::word::write_u32(answer, at, sent);
-    table::word::write_u32(answer, at + 4, c.input);
-    table::word::write_u32(answer, at + 8, c.output);
-    table::word::write_u32(answer, at + 12, c.flow);
-    table::word::write_u32(answer, at + 16, c.rank);
-    table::word::write_u32(answer, at + 20, c.tag);
-    table::word::write_u32(answer, at + 24, c.slot);
+    answer::write_departure(answer, at, table::entry::cell_of(table, number as usize));
 }
 
 // Takes the cells that leave out of the table, input by input.
@@ -92,7 +63,7 @@ fn remove(table: &mut [u8], best: &[u16; PORTS])
     ensures { λ _. ⌜ now (table .exit) ≡ encode (departed (stateOf (now (table .entry)))) ⌝ }
 {
     let firsts = first_leaving(best);
-    let ports = table::entry::ports_of(table);
+    let ports = table::header::ports_of(table);
     let mut input = 0;
     while input < ports {
         remove_from(table, best, input, firsts[input]);
@@ -138,7 +109,7 @@ fn remove_from(table: &mut [u8], best: &[u16; PORTS], input: usize, from: u16)
     if from >= NOWHERE {
         return;
     }
-    let end = places::end_of(table, input);
+    let end = table::header::end_of(table, input);
     let mut free = from as usize;
     let mut k = from as usize;
     while k < end {
@@ -146,7 +117,7 @@ fn remove_from(table: &mut [u8], best: &[u16; PORTS], input: usize, from: u16)
         k += 1;
     }
     clear(table, free, end);
-    table::entry::write_count(table, input, free - CELLS * input);
+    table::header::write_count(table, input, free - CELLS * input);
 }
 
 // One entry: it leaves, or it goes to the free record. Gives the record that is free then.
@@ -180,6 +151,6 @@ fn clear_one(table: &mut [u8], k: usize)
     ensures { λ _. ⌜ now (table .exit) ≡ take (recordStart k) (now (table .entry)) ++ (replicate entrySize 0 ++ drop (recordStart k + entrySize) (now (table .entry))) ⌝ }
 {
     let at = table::entry::start_of(k);
-    table::word::write_u64(table, at, 0);
-    table::word::write_u64(table, at + 8, 0);
+    layout::word::write_u64(table, at, 0);
+    layout::word::write_u64(table, at + 8, 0);
 }

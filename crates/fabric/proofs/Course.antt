@@ -25,7 +25,7 @@ use Rattle.layout.specs.Host.{filled}
 use Rattle.layout.specs.Number.{bytesOf}
 use Rattle.layout.specs.Table.{IsTable, encode, stateOf}
 use Rattle.layout.proofs.Answer.{length-departuresBytes, length-answerBytes}
-use Rattle.table.proofs.Put.{put-next}
+use Rattle.layout.proofs.Put.{put-next}
 use Rattle.places.specs.View.{placesIn}
 use Rattle.places.specs.Viewed.{BestBuffered}
 use Rattle.places.proofs.Placed.{decode-ports}

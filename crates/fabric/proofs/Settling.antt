@@ -22,10 +22,10 @@ use Rattle.model.proofs.PhaseFacts.{scheduled-normal, urgent-blocked}
 use Rattle.model.proofs.PhaseMatching.{straight-i, straight-matched, straight-urgent, match-all, match-kind, match-output}
 use Rattle.model.proofs.PhaseMatching.{scheduled-all}
 use Rattle.layout.specs.Entry.{entryAt}
+use Rattle.table.specs.Entries.{nowhere}
 use Rattle.places.specs.View.{waitingAt, waitingIn, placesIn}
 use Rattle.places.specs.Viewed.{Chosen}
 use Rattle.places.specs.Scan.{Readable}
-use Rattle.places.specs.Choices.{nowhere}
 use Rattle.places.proofs.Window.{waitingAt-at, waitingAt-cell, waitingAt-input}
 use Rattle.moving.proofs.Ports.{numberBy, ByPort, has, lacks, by-none, by-cases, by-one, inputOf, outputOf}
 use Rattle.moving.proofs.Ports.{straight-output, scheduled-input, scheduledOf-by, straightOf-by}

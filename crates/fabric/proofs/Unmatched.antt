@@ -18,7 +18,7 @@ use Rattle.model.specs.Slackness.{Orderly}
 use Rattle.model.proofs.PhaseFacts.{lists-all}
 use Rattle.model.proofs.PhaseMatching.{candidate-listed}
 use Rattle.layout.specs.Entry.{entryAt}
-use Rattle.places.specs.Choices.{nowhere}
+use Rattle.table.specs.Entries.{nowhere}
 use Rattle.places.specs.Scan.{Readable, someUrgent}
 use Rattle.places.specs.View.{waitingIn, placesIn}
 use Rattle.places.specs.Viewed.{Chosen}

@@ -8,8 +8,8 @@ use Rattle.model.specs.Phase.{waiting, phase, moved}
 use Rattle.model.specs.Checks.{Outcome, done, refused}
 use Rattle.model.specs.Crossbar.{Course, leaving, departuresOf, without}
 use Rattle.layout.specs.Table.{IsTable, stateOf}
-use Rattle.arrival.specs.declared.Fault.{Fault}
-use Rattle.arrival.specs.declared.Fault.the-variants.{Clear, At}
+use Rattle.cell.specs.declared.Fault.{Fault}
+use Rattle.cell.specs.declared.Fault.the-variants.{Clear, At}
 use Rattle.places.specs.View.{placesIn}
 use Rattle.places.specs.Viewed.{BestBuffered}
 use Rattle.moving.specs.Moved.{afterPhase}

@@ -2,9 +2,9 @@
 use choosing::choose;
 use layout::PORTS;
 use moving::move_cells;
-use places::NOWHERE;
 use proposing::Matched;
 use proposing::find_matching;
+use table::priority::NOWHERE;
 ghost use mathlib.Core.Bool.{false};
 ghost use mathlib.Core.List.{[]};
 ghost use mathlib.Core.Path.{_≡_};

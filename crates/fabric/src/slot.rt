@@ -1,23 +1,19 @@
 // Scope 3, one slot, on the table of a sound state from where its cells have arrived: the two phases and departure.
 use crate::phase::phase;
 use departure::depart;
-use layout::FIRST_PROPOSALS;
 use layout::PORTS;
-use layout::SECOND_PROPOSALS;
 use loading::load;
 use places::NO_KEY;
-use places::NOWHERE;
+use table::priority::NOWHERE;
 ghost use mathlib.Core.Path.{_≡_};
 ghost use Prim.Native.Nat.{_≤_};
-ghost use mathlib.Core.List.{_++_};
-ghost use lib.ListN.{length, take, drop, replicate};
+ghost use lib.ListN.{length, replicate};
 ghost use Rattle.cell.specs.Limits.{portLimit};
-ghost use Rattle.places.specs.Choices.{nowhere};
 ghost use Rattle.model.specs.Crossbar.{answerOf};
-ghost use Rattle.layout.specs.Answer.{answerBytes, answerSize, departuresSize};
+ghost use Rattle.layout.specs.Answer.{answerBytes, answerSize};
 ghost use Rattle.layout.specs.Host.{filled};
-ghost use Rattle.layout.specs.Number.{bytesOf};
 ghost use Rattle.layout.specs.Table.{IsTable, encode, stateOf};
+ghost use Rattle.table.specs.Entries.{nowhere};
 ghost use Rattle.places.specs.View.{placesIn};
 ghost use Rattle.places.specs.Viewed.{SetsOf};
 ghost use Rattle.fabric.specs.Slot.{courseOf, Scheduled};
@@ -48,7 +44,7 @@ pub fn run(
     let mut best = [NOWHERE; PORTS];
     let proposals = schedule(table, listed, heads, crossed, buffered, &mut best);
     depart(table, &best, answer);
-    write_proposals(answer, proposals);
+    answer::write_proposals(answer, proposals.first, proposals.second);
 }
 
 // The two phases, on a view of the table that is made once, from the sets of its cells by place. `best` is lent with no
@@ -77,13 +73,4 @@ fn schedule(
     let first = made[0];
     let second = made[1];
     Proposals { first, second }
-}
-
-// The answer's last eight bytes.
-fn write_proposals(answer: &mut [u8], proposals: Proposals)
-    requires { ⌜ answerSize ≤ length (now answer) ⌝ }
-    ensures { λ _. ⌜ now (answer .exit) ≡ take departuresSize (now (answer .entry)) ++ ((bytesOf 4 (proposals .first) ++ bytesOf 4 (proposals .second)) ++ drop answerSize (now (answer .entry))) ⌝ }
-{
-    table::word::write_u32(answer, FIRST_PROPOSALS, proposals.first);
-    table::word::write_u32(answer, SECOND_PROPOSALS, proposals.second);
 }

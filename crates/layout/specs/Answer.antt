@@ -20,13 +20,17 @@ departuresSize = portLimit * departureSize
 abbrev pub answerSize : ℕ
 answerSize = departuresSize + 8
 
-unfoldable pub departureBytes : Option Cell → List ℕ
-departureBytes none = replicate departureSize 0
-departureBytes (some c) =
-    bytesOf 4 1
+-- a number and the six fields of a cell
+abbrev pub sevenBytes : ℕ → Cell → List ℕ
+sevenBytes sent c =
+    bytesOf 4 sent
     ++ (bytesOf 4 (c .input)
     ++ (bytesOf 4 (c .output)
     ++ (bytesOf 4 (c .flow) ++ (bytesOf 4 (c .rank) ++ (bytesOf 4 (c .tag) ++ bytesOf 4 (c .slot))))))
+
+unfoldable pub departureBytes : Option Cell → List ℕ
+departureBytes none = replicate departureSize 0
+departureBytes (some c) = sevenBytes 1 c
 
 -- so many departures, none at the outputs that the switch does not have
 unfoldable pub departuresBytes : ℕ → List (Option Cell) → List ℕ
@@ -37,21 +41,20 @@ departuresBytes (suc n) (d ∷ ds) = departureBytes d ++ departuresBytes n ds
 unfoldable pub answerBytes : Answer → List ℕ
 answerBytes a = departuresBytes portLimit (a .departures) ++ (bytesOf 4 (a .first) ++ bytesOf 4 (a .second))
 
+-- the cell of a departure
+abbrev pub cellIn : List ℕ → Cell
+cellIn bs =
+    record {
+      input = word bs 4;
+      output = word bs 8;
+      flow = word bs 12;
+      rank = word bs 16;
+      tag = word bs 20;
+      slot = word bs 24;
+    }
+
 unfoldable pub departureIn : List ℕ → Option Cell
-departureIn bs =
-    elim (eqb (word bs 0) 0) [
-      | true ↦ none
-      | false ↦
-          some
-          (record {
-            input = word bs 4;
-            output = word bs 8;
-            flow = word bs 12;
-            rank = word bs 16;
-            tag = word bs 20;
-            slot = word bs 24;
-          })
-    ]
+departureIn bs = elim (eqb (word bs 0) 0) [ true ↦ none | false ↦ some (cellIn bs) ]
 
 unfoldable pub departuresIn : ℕ → List ℕ → List (Option Cell)
 departuresIn zero bs = []

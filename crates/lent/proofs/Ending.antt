@@ -20,17 +20,18 @@ use Rattle.layout.specs.Host.{filled, tableAfter, answerAfter}
 use Rattle.layout.specs.Table.{stateOf, encode, IsTable}
 use Rattle.layout.proofs.Table.{sound-ports}
 use Rattle.places.proofs.Placed.{length-numbers}
-use Rattle.arrival.specs.declared.Fault.{Fault}
-use Rattle.arrival.specs.declared.Fault.the-variants.{Clear, At}
+use Rattle.cell.specs.declared.Fault.{Fault}
+use Rattle.cell.specs.declared.Fault.the-variants.{Clear, At}
+use Rattle.answer.specs.Code.{sentIn}
 use Rattle.arrival.proofs.Faults.{clear-not}
 use Rattle.arrival.proofs.Stored.{table-sound}
 use Rattle.fabric.specs.Slot.{courseOf, refusalOf}
 use Rattle.lent.specs.declared.running.Ended.{Ended}
 use Rattle.tally.specs.Counted.{countedAs}
-use Rattle.lent.specs.Ended.{sentIn, takenOutcome, endedOf}
+use Rattle.lent.specs.Ended.{takenOutcome, endedOf}
 use Rattle.lent.specs.Looked.{recordsSlot}
 use Rattle.lent.specs.Taken.{Taken}
-use Rattle.lent.proofs.Departures.{sent-filled}
+use Rattle.answer.proofs.Departures.{sent-filled}
 
 ------------------------------------------------------------------------
 -- the code

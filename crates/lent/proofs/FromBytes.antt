@@ -26,8 +26,8 @@ use Rattle.layout.specs.Table.{decode}
 use Rattle.layout.specs.TallyBytes.{tallyOf, tallyBytes}
 use Rattle.layout.proofs.Arrivals.{recordsOf-whole, recordsOf-broken, length-arrivalsOf}
 use Rattle.layout.proofs.Records.{numberAt-part}
-use Rattle.arrival.specs.declared.Fault.{Fault}
-use Rattle.arrival.specs.declared.Fault.the-variants.{At}
+use Rattle.cell.specs.declared.Fault.{Fault}
+use Rattle.cell.specs.declared.Fault.the-variants.{At}
 use Rattle.fabric.specs.Slot.{refusalOf}
 use Rattle.tally.specs.Counted.{countedAs}
 use Rattle.lent.specs.Lent.{lentSlot, arrivalAt}

@@ -1,4 +1,3 @@
-pub mod Departures
 pub mod Ending
 pub mod Few
 pub mod FromBytes

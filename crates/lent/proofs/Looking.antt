@@ -38,8 +38,8 @@ use Rattle.layout.specs.Host.{slotOf}
 use Rattle.layout.specs.Table.{stateOf, decode, isTable, IsTable}
 use Rattle.layout.specs.TallyBytes.{tallySize}
 use Rattle.layout.proofs.Table.{isTable-some, decode-sound, sound-clock, sound-ports}
-use Rattle.arrival.specs.declared.Fault.{Fault}
-use Rattle.arrival.specs.declared.Fault.the-variants.{Clear, At}
+use Rattle.cell.specs.declared.Fault.{Fault}
+use Rattle.cell.specs.declared.Fault.the-variants.{Clear, At}
 use Rattle.arrival.specs.Fault.{coming, faultAt, turnAfter}
 use Rattle.arrival.proofs.Faults.{port-input, turn-after, clear-not}
 use Rattle.arrival.proofs.Stored.{table-sound, table-ports, table-clock, ports-below}

@@ -16,8 +16,8 @@ use Rattle.model.specs.Checks.{done}
 use Rattle.model.specs.Crossbar.{arrive}
 use Rattle.layout.specs.Entry.{clockIn}
 use Rattle.layout.specs.Table.{stateOf, encode}
-use Rattle.arrival.specs.declared.Fault.{Fault}
-use Rattle.arrival.specs.declared.Fault.the-variants.{Clear, At}
+use Rattle.cell.specs.declared.Fault.{Fault}
+use Rattle.cell.specs.declared.Fault.the-variants.{Clear, At}
 use Rattle.arrival.specs.Arrival.{raised, entered, arrived, Arriving, MayEnter}
 use Rattle.arrival.specs.Fault.{coming}
 use Rattle.arrival.proofs.Faults.{clear-not}

@@ -3,20 +3,14 @@ use Prim.Native.Nat.{ℕ}
 use mathlib.Core.Bool.{true, false}
 use mathlib.Core.List.{List}
 use Rattle.laws.specs.Lists.{count}
-use Rattle.cell.specs.Limits.{portLimit}
 use Rattle.model.specs.Checks.{Outcome, done, refused}
 use Rattle.model.specs.Crossbar.{Course}
 use Rattle.model.specs.Tally.{isSent}
-use Rattle.layout.specs.Answer.{departuresIn}
 use Rattle.layout.specs.Table.{stateOf}
-use Rattle.arrival.specs.declared.Fault.{Fault}
-use Rattle.arrival.specs.declared.Fault.the-variants.{Clear, At}
+use Rattle.cell.specs.declared.Fault.{Fault}
+use Rattle.cell.specs.declared.Fault.the-variants.{Clear, At}
 use Rattle.fabric.specs.Slot.{courseOf}
 use Rattle.lent.specs.declared.running.Ended.{Ended}
-
--- how many of the sixteen outputs send a cell
-unfoldable pub sentIn : List ℕ → ℕ
-sentIn answer = count isSent (departuresIn portLimit answer)
 
 -- what a slot comes to, from the table after its arrivals
 unfoldable pub takenOutcome : List ℕ → Fault → Outcome Course

@@ -15,8 +15,8 @@ use Rattle.layout.specs.Entry.{portsIn, clockIn}
 use Rattle.layout.specs.Host.{slotOf}
 use Rattle.layout.specs.Table.{stateOf, decode, IsTable}
 use Rattle.layout.specs.TallyBytes.{tallySize}
-use Rattle.arrival.specs.declared.Fault.{Fault}
-use Rattle.arrival.specs.declared.Fault.the-variants.{Clear, At}
+use Rattle.cell.specs.declared.Fault.{Fault}
+use Rattle.cell.specs.declared.Fault.the-variants.{Clear, At}
 use Rattle.arrival.specs.Arrival.{Arriving}
 use Rattle.arrival.specs.Fault.{coming, turnAfter}
 use Rattle.lent.specs.declared.records.Checked.{Checked}

@@ -6,8 +6,8 @@ use Rattle.cell.specs.declared.Arrival.{Arrival}
 use Rattle.model.specs.Checks.{done, refused}
 use Rattle.layout.specs.Answer.{answerSize}
 use Rattle.layout.specs.Table.{stateOf, encode, IsTable}
-use Rattle.arrival.specs.declared.Fault.{Fault}
-use Rattle.arrival.specs.declared.Fault.the-variants.{Clear, At}
+use Rattle.cell.specs.declared.Fault.{Fault}
+use Rattle.cell.specs.declared.Fault.the-variants.{Clear, At}
 use Rattle.arrival.specs.Arrival.{raised, arrived}
 use Rattle.places.specs.View.{placesIn}
 use Rattle.places.specs.Viewed.{SetsOf}

@@ -1,10 +1,10 @@
 // The records that a slot is lent, taken: they are looked at, and if none has a fault their cells arrive.
 use crate::records::Checked;
 use crate::records::check_records;
-use arrival::Fault;
 use arrival::arrive;
 use arrival::raise_clock;
 use cell::Arrival;
+use cell::Fault;
 use layout::HELD;
 use layout::PORTS;
 ghost use mathlib.Core.Path.{_≡_};
@@ -13,7 +13,7 @@ ghost use lib.ListN.{take};
 ghost use Rattle.cell.specs.Limits.{clockEnd};
 ghost use Rattle.layout.specs.Entry.{clockIn};
 ghost use Rattle.layout.specs.Table.{IsTable};
-ghost use Rattle.arrival.specs.declared.Fault.the-variants.{Clear};
+ghost use Rattle.cell.specs.declared.Fault.the-variants.{Clear};
 ghost use Rattle.arrival.specs.Arrival.{Arriving};
 ghost use Rattle.lent.specs.Looked.{Looked, heldLimit};
 ghost use Rattle.lent.specs.Taken.{Begun, Entered, SetsIf, Taken};

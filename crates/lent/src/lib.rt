@@ -4,9 +4,9 @@ pub mod bytes;
 mod records;
 mod running;
 
-use arrival::Fault;
 use arriving::take_held;
 use cell::Arrival;
+use cell::Fault;
 use cell::Tally;
 use layout::HELD;
 use layout::PORTS;

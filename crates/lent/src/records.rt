@@ -1,8 +1,8 @@
 // The records of a slot, looked at one by one.
-use arrival::Fault;
 use arrival::cell_of;
 use arrival::check_record;
 use cell::Arrival;
+use cell::Fault;
 use cell::Refusal;
 use cell::Switch;
 use layout::ANSWER_BYTES;
@@ -106,7 +106,7 @@ pub fn clock_refusal(table: &[u8]) -> Fault
     requires { ⌜ IsTable (now table) ⌝ }
     ensures { λ r. ⌜ ((room : ℕ) → answerSize ≤ room → Before (now (table .entry)) room r) ⌝ }
 {
-    if table::entry::clock_of(table) == Switch::CLOCK_END {
+    if table::header::clock_of(table) == Switch::CLOCK_END {
         return Fault::At(Refusal::ClockEnd, 0);
     }
     Fault::Clear
@@ -122,7 +122,7 @@ fn check_next(table: &[u8], checked: Checked, n: usize, a: Arrival) -> Checked
     let Fault::Clear = fault else {
         return checked;
     };
-    let c = cell_of(a, table::entry::clock_of(table));
+    let c = cell_of(a, table::header::clock_of(table));
     let found = check_record(table, checked.turn, (n + 1) as u32, c);
     let Fault::Clear = found else {
         return Checked {

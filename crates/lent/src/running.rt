@@ -1,7 +1,6 @@
 // The course of a slot whose records have been taken.
-use arrival::Fault;
+use cell::Fault;
 use fabric::slot::run;
-use layout::DEPARTURE_BYTES;
 use layout::PORTS;
 ghost use mathlib.Core.Path.{_≡_};
 ghost use Prim.Native.Nat.{_≤_};
@@ -9,9 +8,9 @@ ghost use lib.ListN.{length};
 ghost use Rattle.layout.specs.Answer.{answerSize};
 ghost use Rattle.layout.specs.Host.{tableAfter, answerAfter};
 ghost use Rattle.layout.specs.Table.{IsTable};
-ghost use Rattle.arrival.specs.declared.Fault.the-variants.{Clear};
+ghost use Rattle.cell.specs.declared.Fault.the-variants.{Clear};
 ghost use Rattle.lent.specs.Taken.{SetsIf};
-ghost use Rattle.lent.specs.Ended.{takenOutcome, endedOf, sentIn};
+ghost use Rattle.lent.specs.Ended.{takenOutcome, endedOf};
 
 // What came of a slot: its refusal if it is turned back, and its departures if it ran.
 pub struct Ended {
@@ -48,22 +47,6 @@ pub fn run_taken(
     Ended {
         fault,
         ran: true,
-        departures: departures_in(answer),
+        departures: answer::departures_in(answer),
     }
-}
-
-// How many departures an answer has.
-fn departures_in(answer: &[u8]) -> u64
-    requires { ⌜ answerSize ≤ length (now answer) ⌝ }
-    ensures { λ r. ⌜ r ≡ sentIn (now (answer .entry)) ⌝ }
-{
-    let mut count: u64 = 0;
-    let mut output: usize = 0;
-    while output < PORTS {
-        if table::word::read_u32(answer, DEPARTURE_BYTES * output) != 0 {
-            count += 1;
-        }
-        output += 1;
-    }
-    count
 }

@@ -25,11 +25,13 @@ use Rattle.layout.specs.Entry.{entryAt, portsIn}
 use Rattle.layout.specs.Table.{placeOf, stateOf, IsTable}
 use Rattle.layout.proofs.Number.{fits32-below}
 use Rattle.layout.proofs.Table.{decode-bytes}
-use Rattle.places.specs.Choices.{nowhere, betterOf, BestAmong, empty}
+use Rattle.table.specs.Entries.{nowhere, betterOf}
+use Rattle.table.proofs.Better.{better-first, better-over, better-under}
+use Rattle.table.proofs.Keys.{slot-below, over-keys}
+use Rattle.places.specs.Choices.{BestAmong, empty}
 use Rattle.places.specs.View.{waitingAt, waitingIn, placesIn, InTable}
 use Rattle.places.specs.Viewed.{noKey, keyAt, Buffered, bufferedSet}
-use Rattle.places.proofs.Choices.{Ordered, best-same, best-more, better-first, better-over, better-under}
-use Rattle.places.proofs.Keys.{slot-below, over-keys}
+use Rattle.places.proofs.Choices.{Ordered, best-same, best-more}
 use Rattle.places.proofs.Own.{table-readable, waitingIn-orderly}
 use Rattle.places.proofs.Placed.{decode-entry}
 use Rattle.places.proofs.Window.{inTable-i, inTable-below}

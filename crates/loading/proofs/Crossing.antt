@@ -22,7 +22,7 @@ use Rattle.model.proofs.PhaseLimits.{apart-e}
 use Rattle.model.proofs.WaitingOrder.{crosspoint-i}
 use Rattle.layout.specs.Entry.{entryAt, portsIn}
 use Rattle.layout.specs.Table.{placeOf, IsTable}
-use Rattle.places.specs.Choices.{nowhere}
+use Rattle.table.specs.Entries.{nowhere}
 use Rattle.places.specs.View.{waitingAt, waitingIn, InTable, crosspointAt, placesIn}
 use Rattle.places.specs.Scan.{Readable}
 use Rattle.places.specs.Viewed.{noKey, keyAt, crossedSet}

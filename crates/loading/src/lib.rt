@@ -12,7 +12,7 @@ ghost use Rattle.cell.specs.Order.{key as cellKey};
 ghost use Rattle.cell.specs.Limits.{sectionRoom, portLimit};
 ghost use Rattle.layout.specs.Table.{IsTable};
 ghost use Rattle.layout.specs.Entry.{entryAt, portsIn};
-ghost use Rattle.places.specs.Choices.{betterOf};
+ghost use Rattle.table.specs.Entries.{betterOf};
 ghost use Rattle.places.specs.View.{InTable, placesIn};
 ghost use Rattle.places.specs.Viewed.{keyAt, listedSet, headSet, crossedSet, bufferedSet, Buffered};
 ghost use Rattle.places.specs.Viewed.{SetsOf, NoSets, Occupied, Blank};
@@ -41,7 +41,7 @@ pub fn fill_sets(
     ensures { λ _. ⌜ SetsOf (now (table .entry)) (placesIn (now (table .entry))) (now (listed .exit))
         (now (heads .exit)) (now (crossed .exit)) (now (buffered .exit)) ⌝ }
 {
-    let ports = table::entry::ports_of(table);
+    let ports = table::header::ports_of(table);
     let mut input = 0;
     while input < ports {
         let places = sort(table, input);
@@ -70,7 +70,7 @@ pub fn load(
     ensures { λ _. ⌜ Occupied (now (table .entry)) (now (cross .exit)) (now (keys .exit)) (now (best .exit)) ⌝ }
 {
     let mut rivals = [NO_KEY; PORTS];
-    let ports = table::entry::ports_of(table);
+    let ports = table::header::ports_of(table);
     let mut input = 0;
     while input < ports {
         load_crossed(table, input, crossed[input], cross, keys);
@@ -89,7 +89,7 @@ fn sort(table: &[u8], input: usize) -> Places
     let first = CELLS * input;
     let mut low = 0;
     let mut high = 0;
-    let mut k = places::end_of(table, input);
+    let mut k = table::header::end_of(table, input);
     while first < k {
         k -= 1;
         let place = table::entry::place_of(table, k);
@@ -212,5 +212,5 @@ fn is_better(table: &[u8], k: usize, key: u64, held: u16, rival: u64) -> bool
     if key != rival {
         return key < rival;
     }
-    places::goes_first(table, key, k, rival, held as usize)
+    table::priority::goes_first(table, key, k, rival, held as usize)
 }

@@ -14,9 +14,9 @@ use Rattle.cell.specs.Limits.{sectionRoom}
 use Rattle.model.specs.State.{isCrossed}
 use Rattle.layout.specs.Entry.{entryAt}
 use Rattle.layout.specs.Table.{placeOf, entryOf}
+use Rattle.table.specs.Entries.{nowhere}
 use Rattle.places.specs.View.{waitingAt, crosspointAt, InTable, Agrees, Square}
 use Rattle.places.specs.Scan.{Readable}
-use Rattle.places.specs.Choices.{nowhere}
 use Rattle.moving.specs.Moves.{written, put, sending, pulling}
 use Rattle.places.proofs.Window.{inTable-e, inTable-i, inTable-below}
 use Rattle.moving.proofs.Written.{hit, hit-miss, length-written, written-hit, written-miss}

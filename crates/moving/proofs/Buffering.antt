@@ -19,7 +19,8 @@ use Rattle.model.specs.Slackness.{Orderly}
 use Rattle.model.proofs.WaitingOrder.{beats-total, beats-over}
 use Rattle.layout.specs.Entry.{entryAt}
 use Rattle.layout.specs.Table.{placeOf}
-use Rattle.places.specs.Choices.{nowhere, BestAmong}
+use Rattle.table.specs.Entries.{nowhere}
+use Rattle.places.specs.Choices.{BestAmong}
 use Rattle.places.specs.Scan.{Readable}
 use Rattle.places.specs.View.{waitingAt, inTable, InTable}
 use Rattle.places.specs.Viewed.{Buffered, BestBuffered}

@@ -27,7 +27,7 @@ use Rattle.model.proofs.SoundPhase.{phase-sound}
 use Rattle.layout.specs.Entry.{portsIn, countIn}
 use Rattle.layout.specs.Table.{tableSize, encode, stateOf, IsTable}
 use Rattle.layout.proofs.Table.{decode-sound, decode-encode, stateOf-encode, encode-decode}
-use Rattle.places.specs.Choices.{nowhere}
+use Rattle.table.specs.Entries.{nowhere}
 use Rattle.places.specs.View.{inTable, InTable, placesIn, waitingIn}
 use Rattle.places.specs.Sections.{entryPlaced, sectionPlaced, sectionsPlaced}
 use Rattle.places.proofs.Encoding.{statePlaced, encode-placed}

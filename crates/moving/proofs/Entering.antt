@@ -18,10 +18,11 @@ use Rattle.cell.proofs.Order.{over-total}
 use Rattle.model.specs.Phase.{crosspoints}
 use Rattle.layout.specs.Entry.{entryAt, portsIn}
 use Rattle.layout.proofs.Records.{entryAt-input}
+use Rattle.table.specs.Entries.{nowhere, betterOf}
+use Rattle.table.proofs.Better.{better-none}
 use Rattle.places.specs.View.{inTable, crosspointAt, InTable, Agrees, Square}
 use Rattle.places.specs.Scan.{Readable, Bests}
-use Rattle.places.specs.Choices.{nowhere, betterOf}
-use Rattle.places.proofs.Choices.{Ordered, better-none, best-same, best-more}
+use Rattle.places.proofs.Choices.{Ordered, best-same, best-more}
 use Rattle.places.proofs.Window.{agrees-holds, inTable-below}
 use Rattle.choosing.proofs.Best.{Crossed, BestUpTo, of-best}
 use Rattle.moving.specs.Moves.{written, put, sending, entered, entering}

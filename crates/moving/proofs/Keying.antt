@@ -11,7 +11,7 @@ use Rattle.laws.proofs.Tests.{either, cond-fail}
 use Rattle.cell.specs.Limits.{sectionRoom}
 use Rattle.cell.specs.Order.{key}
 use Rattle.layout.specs.Entry.{entryAt}
-use Rattle.places.specs.Choices.{nowhere}
+use Rattle.table.specs.Entries.{nowhere}
 use Rattle.places.specs.View.{crosspointAt, Square}
 use Rattle.places.specs.Viewed.{noKey, keyAt, Keyed}
 use Rattle.moving.specs.Moves.{put, sending, keying, pulling, unkeying, Bound}

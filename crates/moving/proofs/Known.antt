@@ -7,9 +7,9 @@ use Rattle.cell.specs.Limits.{sectionRoom}
 use Rattle.model.specs.State.{isCrossed}
 use Rattle.model.specs.Phase.{Waiting}
 use Rattle.layout.specs.Entry.{portsIn}
+use Rattle.table.specs.Entries.{nowhere}
 use Rattle.places.specs.View.{waitingAt, inTable, InTable}
 use Rattle.places.specs.Scan.{Readable}
-use Rattle.places.specs.Choices.{nowhere}
 use Rattle.places.proofs.Window.{inTable-e, inTable-below, waitingAt-cell, waitingAt-input, waitingAt-place}
 use Rattle.moving.proofs.Agreeing.{outputAt, crossedAt}
 

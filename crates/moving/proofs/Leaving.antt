@@ -33,9 +33,8 @@ use Rattle.model.proofs.PhaseFacts.{firsts, lists-i, lists-all, lists-listed}
 use Rattle.layout.specs.Entry.{entryAt, countIn}
 use Rattle.layout.specs.Table.{placeOf}
 use Rattle.layout.proofs.Records.{entryAt-input}
-use Rattle.table.specs.Entries.{flowWord}
+use Rattle.table.specs.Entries.{flowWord, nowhere}
 use Rattle.table.proofs.Entries.{flow-word}
-use Rattle.places.specs.Choices.{nowhere}
 use Rattle.places.specs.Scan.{Readable}
 use Rattle.places.specs.View.{waitingAt, inTable, InTable}
 use Rattle.places.specs.Viewed.{isHead, listedSet, headSet, ListsOf}

@@ -28,10 +28,11 @@ use Rattle.model.proofs.PhaseMatching.{straight-all, straight-urgent, sent-all,
 use Rattle.model.proofs.PhasePlaces.{straight-listed, sent-listed, listed-not-crossed, listed-not-buffered, crossed-not-buffered}
 use Rattle.layout.specs.Entry.{portsIn}
 use Rattle.layout.specs.Table.{placeOf, encode, stateOf, IsTable}
+use Rattle.table.specs.Entries.{nowhere}
 use Rattle.places.specs.View.{waitingAt, inTable, crosspointAt, InTable, Agrees, Square, placesIn}
 use Rattle.places.specs.Viewed.{ListsOf, Keyed, BestBuffered, Viewed}
 use Rattle.places.specs.Scan.{Readable, Holds, Bests}
-use Rattle.places.specs.Choices.{nowhere, numberOf, toOutput, bestOf}
+use Rattle.places.specs.Choices.{numberOf, toOutput, bestOf}
 use Rattle.places.proofs.Encoding.{statePlaced}
 use Rattle.places.proofs.Own.{length-placesIn, table-readable, waitingIn-orderly}
 use Rattle.places.proofs.Placing.{Kept, kept-trans, kept-view}

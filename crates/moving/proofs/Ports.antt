@@ -19,7 +19,8 @@ use Rattle.model.proofs.WaitingOrder.{among-e, ahead-total, beats-total}
 use Rattle.model.proofs.PhaseFacts.{scheduled-one, sent-scheduled, pulled-one}
 use Rattle.model.proofs.PhaseMatching.{straight-matched, match-output, scheduled-all}
 use Rattle.model.proofs.PhaseMatching.{pulled-all}
-use Rattle.places.specs.Choices.{nowhere, numberOf, ofInput, toOutput, scheduledOf}
+use Rattle.table.specs.Entries.{nowhere}
+use Rattle.places.specs.Choices.{numberOf, ofInput, toOutput, scheduledOf}
 use Rattle.moving.specs.Moves.{straightOf, sentOf, pulledOf}
 use Rattle.choosing.proofs.Best.{numberOf-first, numberOf-none}
 use Rattle.moving.proofs.Written.{hit, Hit, hit-i, hit-e}

@@ -10,7 +10,7 @@ use lib.ListN.{length, set, replicate, length-set}
 use Rattle.cell.specs.Limits.{sectionRoom, portLimit}
 use Rattle.layout.specs.Entry.{entryAt}
 use Rattle.layout.specs.Table.{tableSize}
-use Rattle.places.specs.Choices.{nowhere}
+use Rattle.table.specs.Entries.{nowhere}
 use Rattle.places.specs.View.{Square, placesIn}
 use Rattle.places.specs.Viewed.{noKey, keyAt}
 use Rattle.places.proofs.Placing.{Kept, kept-same, kept-trans, placed-kept, placesIn-placed}

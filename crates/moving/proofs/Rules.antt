@@ -14,8 +14,7 @@ use Rattle.laws.proofs.Tests.{or-l, or-r, or-false, and-false-l, cond-pass, con
 use Rattle.sets.specs.Sets.{positions, withOne, withoutOne, from, firstOf}
 use Rattle.cell.specs.Limits.{sectionRoom, portLimit}
 use Rattle.layout.specs.Entry.{entryAt}
-use Rattle.table.specs.Entries.{flowWord}
-use Rattle.places.specs.Choices.{nowhere}
+use Rattle.table.specs.Entries.{flowWord, nowhere}
 use Rattle.moving.specs.Moves.{nextOf, headsLeft, straightTo, markOf, sendOf, takeOf}
 
 module _ (scheduled held : List ℕ) (output : ℕ) where

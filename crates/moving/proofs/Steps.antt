@@ -13,7 +13,7 @@ use Rattle.cell.specs.Limits.{sectionRoom}
 use Rattle.cell.specs.Order.{key}
 use Rattle.layout.specs.Entry.{entryAt}
 use Rattle.layout.specs.Table.{tableSize}
-use Rattle.places.specs.Choices.{nowhere, betterOf}
+use Rattle.table.specs.Entries.{nowhere, betterOf}
 use Rattle.places.specs.View.{Square}
 use Rattle.places.specs.Viewed.{noKey, keyAt}
 use Rattle.places.proofs.Placing.{Kept, placed-past}

@@ -20,8 +20,8 @@ use Rattle.cell.specs.Limits.{sectionRoom, portLimit}
 use Rattle.model.specs.Phase.{Phase}
 use Rattle.layout.specs.Entry.{entryAt}
 use Rattle.layout.specs.Records.{recordStart}
-use Rattle.table.specs.Entries.{flowWord}
-use Rattle.places.specs.Choices.{nowhere, numberOf, ofInput, toOutput, betterOf}
+use Rattle.table.specs.Entries.{flowWord, nowhere, betterOf}
+use Rattle.places.specs.Choices.{numberOf, ofInput, toOutput}
 use Rattle.places.specs.Viewed.{noKey, keyAt}
 
 ------------------------------------------------------------------------

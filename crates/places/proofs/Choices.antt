@@ -1,40 +1,18 @@
 -- The choice of an output, cell by cell.
---     better-                which of two numbers is the better
 --     best-same, best-more   the best of the same cells, and of one cell more
-use Prim.Native.Nat.{ℕ, _<_, _≤_}
+use Prim.Native.Nat.{ℕ, _<_}
 use native.Mathlib.Omega.{arith}
 use mathlib.Core.Bool.{Bool, true, false}
 use mathlib.Core.Path.{_≡_, refl, sym, _∙_, subst}
 use mathlib.Core.Logic.{_⊎_, inl, inr}
 use mathlib.Core.List.{List}
-use borrow.Author.Tests.{le-leb, lt-leb}
 use Rattle.laws.proofs.Tests.{clash}
 use Rattle.cell.specs.Order.{over}
 use Rattle.cell.proofs.Order.{over-trans}
 use Rattle.layout.specs.Entry.{entryAt}
-use Rattle.places.specs.Choices.{nowhere, betterOf, BestAmong, empty, best}
-
-------------------------------------------------------------------------
--- the better of two
-
-module _ (table : List ℕ) (held number : ℕ) where
-  pub better-none : nowhere ≤ number → betterOf table held number ≡ held
-  unfolding betterOf
-  better-none h = rw (le-leb nowhere number h)
-
-  pub better-first : number < nowhere → nowhere ≤ held → betterOf table held number ≡ number
-  unfolding betterOf
-  better-first h k = rw (lt-leb nowhere number h, le-leb nowhere held k)
-
-  pub better-over : number < nowhere → held < nowhere
-      → over (entryAt table number .cell) (entryAt table held .cell) ≡ true → betterOf table held number ≡ number
-  unfolding betterOf
-  better-over h k o = rw (lt-leb nowhere number h, lt-leb nowhere held k, o)
-
-  pub better-under : number < nowhere → held < nowhere
-      → over (entryAt table number .cell) (entryAt table held .cell) ≡ false → betterOf table held number ≡ held
-  unfolding betterOf
-  better-under h k o = rw (lt-leb nowhere number h, lt-leb nowhere held k, o)
+use Rattle.places.specs.Choices.{BestAmong, empty, best}
+use Rattle.table.proofs.Better.{better-first, better-over, better-under}
+use Rattle.table.specs.Entries.{nowhere, betterOf}
 
 ------------------------------------------------------------------------
 -- the best of some cells

@@ -24,7 +24,8 @@ use Rattle.layout.specs.Records.{recordStart}
 use Rattle.layout.specs.Table.{tableSize, placeOf}
 use Rattle.layout.proofs.Records.{entryAt-input, entryAt-output, entryAt-flow, entryAt-rank, entryAt-tag, entryAt-slot}
 use Rattle.layout.proofs.Records.{placeByteAt-byte}
-use Rattle.places.specs.Choices.{nowhere, BestAmong, empty, best}
+use Rattle.table.specs.Entries.{nowhere}
+use Rattle.places.specs.Choices.{BestAmong, empty, best}
 use Rattle.places.specs.Scan.{Readable}
 use Rattle.places.specs.View.{waitingAt, window, inTable, InTable, crosspointAt, Agrees, placesIn}
 use Rattle.places.specs.Viewed.{isHead, listedSet, headSet, ListsOf, keyAt, Buffered, BestBuffered, ViewOf}

@@ -1,20 +1,17 @@
 -- The choices of a phase and of a departure as numbers of entries, input by input and output by output; 1,024 where
 -- there is none.
 use Prim.Native.Nat.{ℕ, _<_}
-use mathlib.Core.Bool.{true, cond}
+use mathlib.Core.Bool.{true}
 use mathlib.Core.Path.{_≡_}
 use mathlib.Core.Logic.{_⊎_}
 use mathlib.Core.List.{List, map}
 use mathlib.Core.Option.{Option, none, some}
-use lib.Dec.{leb, eqb}
+use lib.Dec.{eqb}
 use Rattle.laws.specs.Lists.{keep, least, first?}
 use Rattle.cell.specs.Order.{over}
-use Rattle.model.specs.Phase.{Waiting, beats, Phase, phase}
+use Rattle.model.specs.Phase.{Waiting, beats, Phase}
 use Rattle.layout.specs.Entry.{entryAt}
-use Rattle.layout.specs.Table.{entryLimit}
-
-abbrev pub nowhere : ℕ
-nowhere = entryLimit
+use Rattle.table.specs.Entries.{nowhere}
 
 unfoldable pub numberOf : Option Waiting → ℕ
 numberOf none = nowhere
@@ -40,13 +37,6 @@ bestOf crosspoints output = numberOf (first? (toOutput output (least beats cross
 
 ------------------------------------------------------------------------
 -- the choice of an output, cell by cell
-
--- of two numbers of cells the one that an output sends first; either may be of none
-unfoldable pub betterOf : List ℕ → ℕ → ℕ → ℕ
-betterOf table held number =
-    cond (leb nowhere number) held
-    (cond (leb nowhere held) number
-    (cond (over (entryAt table number .cell) (entryAt table held .cell)) number held))
 
 -- one of some cells is over every other
 pub record Best (table : List ℕ) (Among : ℕ → Type 0) (n : ℕ) : Type 0 where

@@ -19,7 +19,8 @@ use Rattle.model.specs.State.{isListed, isCrossed, isBuffered}
 use Rattle.model.specs.Phase.{Waiting, ahead, lists, phase}
 use Rattle.layout.specs.Entry.{entryAt, countIn}
 use Rattle.layout.specs.Table.{placeOf}
-use Rattle.places.specs.Choices.{nowhere, BestAmong, candidatesOf}
+use Rattle.table.specs.Entries.{nowhere}
+use Rattle.places.specs.Choices.{BestAmong, candidatesOf}
 use Rattle.places.specs.Scan.{someUrgent, Scheduled, Bests}
 use Rattle.places.specs.View.{waitingAt, inTable, InTable, crosspointAt, Square, Agrees, placesIn, waitingIn}
 

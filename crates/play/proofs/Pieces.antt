@@ -37,11 +37,12 @@ use Rattle.trace.specs.Reader.{Cursor, Next, slotAhead, finished, faulty, next,
 use Rattle.trace.proofs.Line.{length-line}
 use Rattle.trace.proofs.Blocks.{next-exact}
 use Rattle.trace.proofs.RoundTrip.{header-exact}
+use Rattle.trace.specs.Lines.{departuresText, refusalText}
 use Rattle.reader.specs.Reading.{from}
 use Rattle.reader.proofs.Answers.{headerIn-more, headerIn-known, nextIn-more, nextIn-known}
 use Rattle.reader.proofs.Pieces.{onwardNext, next-onwards, behindHeader, header-append}
 use Rattle.reader.proofs.Whole.{nil-text, next-nil, next-shorter}
-use Rattle.play.specs.Player.{Machine, departuresText, refusalText, lineOf}
+use Rattle.play.specs.Player.{Machine, lineOf}
 use Rattle.play.specs.Player.{playFrom, crossbar, playCrossbar}
 use Rattle.play.specs.Turn.{Standing, opening, playing, ended, turnedBack, Over, at-end, at-refusal}
 use Rattle.play.specs.Turn.{Turn, ending, slotTurn, nextTurn, headerTurn, turn, followed, turns}

@@ -26,7 +26,8 @@ use Rattle.trace.specs.Reader.{Header, opened, refusedAt, header}
 use Rattle.trace.proofs.Blocks.{at, number-exact, blockFits-e, Stands, next-exact}
 use Rattle.trace.proofs.RoundTrip.{header-bad-ports, header-bad-size, header-bad-first, header-opened}
 use Rattle.trace.proofs.RoundTrip.{Opens, header-exact}
-use Rattle.play.specs.Player.{departuresText, refusalText, lineOf, playFrom, play}
+use Rattle.trace.specs.Lines.{departuresText, refusalText}
+use Rattle.play.specs.Player.{lineOf, playFrom, play}
 use Rattle.play.specs.Player.{crossbar, pifo, playCrossbar, playPifo}
 use Rattle.play.proofs.Written.{play-finished, play-faulty, play-refused, play-done, play-turned-back, play-opened}
 

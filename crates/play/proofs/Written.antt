@@ -14,7 +14,8 @@ use Rattle.model.specs.Checks.{done, refused}
 use Rattle.trace.specs.declared.Key.the-variants.{Ports, First, Slot, End}
 use Rattle.trace.specs.Line.{line}
 use Rattle.trace.specs.Reader.{Cursor, slotAhead, finished, faulty, next, opened, refusedAt, header}
-use Rattle.play.specs.Player.{Machine, departuresText, refusalText, lineOf, playFrom, play}
+use Rattle.trace.specs.Lines.{departuresText, refusalText}
+use Rattle.play.specs.Player.{Machine, lineOf, playFrom, play}
 
 module _ {S : Type 0} (m : Machine S) where
   module _ (most clock : ℕ) (s : S) (c : Cursor) where

@@ -1,42 +1,25 @@
 -- Scope 8: the player, as text in, text out, over any switch that answers slot calls. `playCrossbar` is
 -- the player; `playPifo` is what it would be over the PIFO switch.
 use Prim.Native.Nat.{ℕ, zero, suc, _+_, _*_}
-use mathlib.Core.Bool.{true, false}
-use mathlib.Core.List.{List, [], _∷_, _++_}
-use mathlib.Core.Option.{Option, none, some}
+use mathlib.Core.List.{List, _++_}
+use mathlib.Core.Option.{Option, some}
 use lib.ListN.{length}
 use Rattle.cell.specs.declared.Arrival.{Arrival}
 use Rattle.cell.specs.declared.Cell.{Cell}
-use Rattle.cell.specs.declared.Refusal.{Refusal}
 use Rattle.cell.specs.declared.Refusal.the-variants.{BadLine}
-use Rattle.cell.specs.Refusal.{number}
 use Rattle.model.specs.Checks.{Outcome, done, refused}
 use Rattle.model.specs.Crossbar.{slot}
 use Rattle.model.specs.Pifo.{Pifo, freshPifo, slotPifo}
 use Rattle.model.specs.State.{Switch, fresh}
-use Rattle.trace.specs.declared.Key.the-variants.{Ports, First, Slot, In, Out, Flow, Rank, Tag, End, Refused, Line}
+use Rattle.trace.specs.declared.Key.the-variants.{Ports, First, Slot, End}
 use Rattle.trace.specs.Line.{line}
-use Rattle.trace.specs.Reader.{Cursor, Next, slotAhead, finished, faulty, next, Header, opened, refusedAt, header}
+use Rattle.trace.specs.Reader.{Cursor, slotAhead, finished, faulty, next, opened, refusedAt, header}
+use Rattle.trace.specs.Lines.{departuresText, refusalText}
 
 -- A switch as the player sees it: fresh, and one slot, which gives the departures and the switch after it.
 pub record Machine (S : Type 0) : Type 0 where
   pub fresh : ℕ → ℕ → S
   pub slot : S → List Arrival → Outcome (List (Option Cell) × S)
-
--- for each departure `out`, `in`, `flow`, `rank`, `tag`
-unfoldable pub departureText : Option Cell → List ℕ
-departureText none = []
-departureText (some c) =
-    line Out (c .output) ++ (line In (c .input) ++ (line Flow (c .flow) ++ (line Rank (c .rank) ++ line Tag (c .tag))))
-
--- outputs rising
-unfoldable pub departuresText : List (Option Cell) → List ℕ
-departuresText [] = []
-departuresText (d ∷ ds) = departureText d ++ departuresText ds
-
--- `refused` with the number, and `line`
-unfoldable pub refusalText : Refusal → ℕ → List ℕ
-refusalText r l = line Refused (number r) ++ line Line l
 
 -- a refusal that names a record names its `in` line, and 3 the `slot` line
 unfoldable pub lineOf : ℕ → ℕ → ℕ

@@ -14,7 +14,8 @@ use Rattle.trace.specs.declared.Key.the-variants.{Ports, First, Slot, End}
 use Rattle.trace.specs.Line.{line}
 use Rattle.trace.specs.Piece.{Piece, known, more, nextIn, headerIn}
 use Rattle.trace.specs.Reader.{Cursor, Next, slotAhead, finished, faulty, Header, opened, refusedAt}
-use Rattle.play.specs.Player.{departuresText, refusalText, lineOf}
+use Rattle.trace.specs.Lines.{departuresText, refusalText}
+use Rattle.play.specs.Player.{lineOf}
 
 -- Where the player stands: before the header; before a block or the end, with the number of the next line and the
 -- switch; or behind all that it writes, where the trace was played to its end or was turned back.

@@ -13,7 +13,7 @@ use Rattle.cell.specs.Limits.{portLimit, sectionRoom}
 use Rattle.cell.specs.Order.{over}
 use Rattle.matching.specs.Matching.{matched, proposals}
 use Rattle.layout.specs.Entry.{entryAt}
-use Rattle.places.specs.Choices.{nowhere}
+use Rattle.table.specs.Entries.{nowhere}
 
 -- the numbers of a set of positions of input i
 unfoldable pub numbersIn : ℕ → ℕ → List ℕ

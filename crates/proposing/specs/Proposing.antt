@@ -9,7 +9,7 @@ use lib.ListN.{getD, set}
 use Rattle.sets.specs.Sets.{headOr, withoutOne}
 use Rattle.cell.specs.Limits.{sectionRoom}
 use Rattle.cell.specs.Order.{over}
-use Rattle.places.specs.Choices.{nowhere}
+use Rattle.table.specs.Entries.{nowhere}
 use Rattle.proposing.specs.Found.{numbersIn, cellAt, outputAt}
 
 -- the first candidate of input i

@@ -3,13 +3,13 @@
 // refused goes on. In whatever order they are asked, the matching is the same.
 use layout::CELLS;
 use layout::PORTS;
-use places::NOWHERE;
+use table::priority::NOWHERE;
 ghost use mathlib.Core.Path.{_≡_};
 ghost use Prim.Native.Nat.{_<_};
 ghost use lib.ListN.{length};
 ghost use Rattle.cell.specs.Limits.{portLimit};
 ghost use Rattle.layout.specs.Table.{tableSize};
-ghost use Rattle.places.specs.Choices.{nowhere};
+ghost use Rattle.table.specs.Entries.{nowhere};
 ghost use Rattle.proposing.specs.Found.{numbersOf, outputAt, ToOutputs, Found};
 ghost use Rattle.proposing.specs.Proposing.{nextIn, Refused, Proposed};
 
@@ -56,7 +56,7 @@ fn propose(table: &[u8], left: &mut [u64; PORTS], held: &mut [u16; PORTS], k: u1
         return NOWHERE;
     }
     let old = holder as usize;
-    if places::is_over(table, new, holder) {
+    if table::priority::is_over(table, new, holder) {
         held[output] = k;
         return refuse(left, old);
     }

@@ -12,7 +12,7 @@ use layout::DEPARTURES_BYTES;
 use layout::PORTS;
 use layout::TABLE_BYTES;
 use layout::TALLY_BYTES;
-use table::word::read_u32;
+use layout::word::read_u32;
 ghost use Prim.Native.Nat.{_≤_};
 ghost use lib.ListN.{length};
 

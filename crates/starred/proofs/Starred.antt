@@ -28,7 +28,8 @@ use Rattle.trace.specs.Line.{keyName, keyText, digitsWithin, decimal, line, aft
 use Rattle.trace.specs.Line.{valueAfter, noLeadingZero, readNumber, readLine}
 use Rattle.trace.specs.Reader.{give, _>>=_, number, exactly, begins, arrival as read-arrival}
 use Rattle.trace.specs.Reader.{arrivals as read-arrivals, block, afterEnd, next, header}
-use Rattle.play.specs.Player.{departureText, departuresText, refusalText, lineOf, playFrom, play, crossbar}
+use Rattle.trace.specs.Lines.{departureText, departuresText, refusalText}
+use Rattle.play.specs.Player.{lineOf, playFrom, play, crossbar}
 use Rattle.play.specs.Player.{pifo, playCrossbar, playPifo}
 use Rattle.model.specs.Calls.{sameDeparture, crossbarAnswers, pifoAnswers, crossbarRuns, pifoRuns, bothRun}
 use Rattle.model.specs.Calls.{arrival, cell, call}

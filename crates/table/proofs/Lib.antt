@@ -1,13 +1,15 @@
 pub mod Accepted
+pub mod Better
 pub mod Collecting
 pub mod Crossed
 pub mod Entries
 pub mod Fields
 pub mod Flows
+pub mod Fresh
 pub mod Handed
+pub mod Keys
 pub mod Marks
 pub mod Parts
-pub mod Put
 pub mod Sections
 pub mod Slots
 pub mod Spare

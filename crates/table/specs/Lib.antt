@@ -1,3 +1,4 @@
 pub mod Check
+pub mod Cleared
 pub mod Entries
 pub mod Handed

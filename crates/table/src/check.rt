@@ -2,11 +2,12 @@
 // input the count, the unused records, the entries in one pass, and what is asked of the entries together. The sets of
 // positions that the check makes of a section are handed on.
 use crate::entry;
-use crate::word;
+use crate::header;
 use cell::Switch;
 use layout::CELLS;
 use layout::PORTS;
 use layout::TABLE_BYTES;
+use layout::word;
 ghost use mathlib.Core.Bool.{true, false, not, _||_};
 ghost use mathlib.Core.Path.{_≡_};
 ghost use Prim.Native.Nat.{_+_, _-_, _*_, _/_, _%_, _<_, _≤_};
@@ -83,20 +84,20 @@ pub fn sort_table(
     if bytes.len() != TABLE_BYTES {
         return false;
     }
-    if word::read_u32(bytes, 0) != entry::LAYOUT {
+    if word::read_u32(bytes, header::LAYOUT_AT) != header::LAYOUT {
         return false;
     }
-    let ports = word::read_u32(bytes, 4);
+    let ports = word::read_u32(bytes, header::PORTS_AT);
     if !Switch::ports_in_range(ports) {
         return false;
     }
-    if word::read_u32(bytes, 12) != 0 {
+    if word::read_u32(bytes, header::ZEROS_AT) != 0 {
         return false;
     }
     are_sections(
         bytes,
         ports,
-        entry::clock_of(bytes),
+        header::clock_of(bytes),
         listed,
         heads,
         crossed,
@@ -148,7 +149,7 @@ fn is_section(bytes: &[u8], ports: u32, clock: u32, input: usize, marks: &mut [u
         (r .listed) (r .heads) (r .crossed) (r .buffered)) ⌝ }
     ensures { λ _. ⌜ MarksBelow (2 * input + 3) (now (marks .exit)) ⌝ }
 {
-    let count = entry::count_of(bytes, input);
+    let count = header::count_of(bytes, input);
     if room(ports, input) < count {
         return unsound();
     }

@@ -11,14 +11,10 @@ ghost use Prim.Native.Nat.{_+_, _*_, _%_, _<_, _≤_};
 ghost use lib.ListN.{length, take, drop, set};
 ghost use Rattle.cell.specs.Order.{key};
 ghost use Rattle.cell.specs.Limits.{portLimit};
-ghost use Rattle.layout.specs.Number.{bytesOf};
 ghost use Rattle.layout.specs.Table.{tableSize, placeOf, entryBytes, entryLimit, entrySize};
-ghost use Rattle.layout.specs.Entry.{entryAt, portsIn, clockIn, countIn};
+ghost use Rattle.layout.specs.Entry.{entryAt};
 ghost use Rattle.layout.specs.Records.{placeByteAt, recordStart, recordAt};
 ghost use Rattle.table.specs.Entries.{entryWith, flowWord, flowNumber};
-
-// The number of the layout.
-pub const LAYOUT: u32 = 1;
 
 // The byte of a place: in the list, at the crosspoint, in the output's buffer.
 pub const LISTED: u8 = 1;
@@ -26,44 +22,6 @@ pub const LISTED: u8 = 1;
 pub const CROSSED: u8 = 2;
 
 pub const BUFFERED: u8 = 3;
-
-// The number of ports.
-pub fn ports_of(bytes: &[u8]) -> usize
-    requires { ⌜ length (now bytes) ≡ tableSize ⌝ }
-    ensures { λ r. ⌜ r ≡ portsIn (now (bytes .entry)) ⌝ }
-{
-    crate::word::read_u32(bytes, 4) as usize
-}
-
-// The clock: the number of the next slot.
-pub fn clock_of(bytes: &[u8]) -> u32
-    requires { ⌜ length (now bytes) ≡ tableSize ⌝ }
-    ensures { λ r. ⌜ r ≡ clockIn (now (bytes .entry)) ⌝ }
-{
-    crate::word::read_u32(bytes, 8)
-}
-
-pub fn write_clock(bytes: &mut [u8], clock: u32)
-    requires { ⌜ length (now bytes) ≡ tableSize ⌝ }
-    ensures { λ _. ⌜ now (bytes .exit) ≡ take 8 (now (bytes .entry)) ++ (bytesOf 4 clock ++ drop 12 (now (bytes .entry))) ⌝ }
-{
-    crate::word::write_u32(bytes, 8, clock);
-}
-
-// How many entries an input has.
-pub fn count_of(bytes: &[u8], input: usize) -> usize
-    requires { ⌜ (length (now bytes) ≡ tableSize) × (input < portLimit) ⌝ }
-    ensures { λ r. ⌜ r ≡ countIn (now (bytes .entry)) input ⌝ }
-{
-    bytes[16 + input] as usize
-}
-
-pub fn write_count(bytes: &mut [u8], input: usize, count: usize)
-    requires { ⌜ (length (now bytes) ≡ tableSize) × (input < portLimit) × (count < 256) ⌝ }
-    ensures { λ _. ⌜ now (bytes .exit) ≡ set (now (bytes .entry)) (16 + input) count ⌝ }
-{
-    bytes[16 + input] = count as u8;
-}
 
 // The cell of a record.
 pub fn cell_of(bytes: &[u8], k: usize) -> Cell
@@ -140,21 +98,21 @@ pub fn rank_of(bytes: &[u8], k: usize) -> u32
     requires { ⌜ (length (now bytes) ≡ tableSize) × (k < entryLimit) ⌝ }
     ensures { λ r. ⌜ r ≡ entryAt (now (bytes .entry)) k .cell .rank ⌝ }
 {
-    crate::word::read_u32(bytes, start_of(k) + 4)
+    layout::word::read_u32(bytes, start_of(k) + 4)
 }
 
 pub fn tag_of(bytes: &[u8], k: usize) -> u32
     requires { ⌜ (length (now bytes) ≡ tableSize) × (k < entryLimit) ⌝ }
     ensures { λ r. ⌜ r ≡ entryAt (now (bytes .entry)) k .cell .tag ⌝ }
 {
-    crate::word::read_u32(bytes, start_of(k) + 8)
+    layout::word::read_u32(bytes, start_of(k) + 8)
 }
 
 pub fn slot_of(bytes: &[u8], k: usize) -> u32
     requires { ⌜ (length (now bytes) ≡ tableSize) × (k < entryLimit) ⌝ }
     ensures { λ r. ⌜ r ≡ entryAt (now (bytes .entry)) k .cell .slot ⌝ }
 {
-    crate::word::read_u32(bytes, start_of(k) + 12)
+    layout::word::read_u32(bytes, start_of(k) + 12)
 }
 
 // The low byte of its slot. Not the slot's remainder: the compiler would load the slot in two parts.
@@ -188,10 +146,10 @@ pub fn write_entry(bytes: &mut [u8], k: usize, c: Cell, place: u8)
     ensures { λ _. ⌜ now (bytes .exit) ≡ take (recordStart k) (now (bytes .entry)) ++ (entryBytes (entryWith c place) ++ drop (recordStart k + entrySize) (now (bytes .entry))) ⌝ }
 {
     let at = start_of(k);
-    crate::word::write_u32(bytes, at, c.output + 256 * c.flow + 65536 * place as u32);
-    crate::word::write_u32(bytes, at + 4, c.rank);
-    crate::word::write_u32(bytes, at + 8, c.tag);
-    crate::word::write_u32(bytes, at + 12, c.slot);
+    layout::word::write_u32(bytes, at, c.output + 256 * c.flow + 65536 * place as u32);
+    layout::word::write_u32(bytes, at + 4, c.rank);
+    layout::word::write_u32(bytes, at + 8, c.tag);
+    layout::word::write_u32(bytes, at + 12, c.slot);
 }
 
 // Copies a record over another.
@@ -201,8 +159,8 @@ pub fn copy_record(bytes: &mut [u8], from: usize, to: usize)
 {
     let old = start_of(from);
     let new = start_of(to);
-    let low = crate::word::read_u64(bytes, old);
-    let high = crate::word::read_u64(bytes, old + 8);
-    crate::word::write_u64(bytes, new, low);
-    crate::word::write_u64(bytes, new + 8, high);
+    let low = layout::word::read_u64(bytes, old);
+    let high = layout::word::read_u64(bytes, old + 8);
+    layout::word::write_u64(bytes, new, low);
+    layout::word::write_u64(bytes, new + 8, high);
 }

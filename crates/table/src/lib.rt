@@ -1,4 +1,5 @@
 // The code that reads and writes the table's bytes, and the check of a table.
 pub mod check;
 pub mod entry;
-pub mod word;
+pub mod header;
+pub mod priority;

@@ -10,7 +10,7 @@ use Rattle.model.specs.Tally.{countTop, raise, afterRun, afterRefused}
 use Rattle.layout.specs.Number.{bytesOf, numberAt}
 use Rattle.layout.specs.TallyBytes.{tallyOf, tallyBytes, tallySize}
 use Rattle.layout.proofs.Number.{length-bytesOf}
-use Rattle.table.proofs.Put.{put, put-next}
+use Rattle.layout.proofs.Put.{put, put-next}
 use Rattle.tally.specs.Counted.{countedAs}
 
 -- a count that has no room for more stops at its top

@@ -51,10 +51,10 @@ pub fn read(bytes: &[u8]) -> Tally
     ensures { λ r. ⌜ r ≡ tallyOf (now (bytes .entry)) ⌝ }
 {
     Tally {
-        run: table::word::read_u64(bytes, 0),
-        refused: table::word::read_u64(bytes, 8),
-        arrived: table::word::read_u64(bytes, 16),
-        departed: table::word::read_u64(bytes, 24),
+        run: layout::word::read_u64(bytes, 0),
+        refused: layout::word::read_u64(bytes, 8),
+        arrived: layout::word::read_u64(bytes, 16),
+        departed: layout::word::read_u64(bytes, 24),
     }
 }
 
@@ -63,8 +63,8 @@ pub fn write(bytes: &mut [u8], t: Tally)
     requires { ⌜ length (now bytes) ≡ tallySize ⌝ }
     ensures { λ _. ⌜ now (bytes .exit) ≡ tallyBytes t ⌝ }
 {
-    table::word::write_u64(bytes, 0, t.run);
-    table::word::write_u64(bytes, 8, t.refused);
-    table::word::write_u64(bytes, 16, t.arrived);
-    table::word::write_u64(bytes, 24, t.departed);
+    layout::word::write_u64(bytes, 0, t.run);
+    layout::word::write_u64(bytes, 8, t.refused);
+    layout::word::write_u64(bytes, 16, t.arrived);
+    layout::word::write_u64(bytes, 24, t.departed);
 }

@@ -22,12 +22,13 @@ use Rattle.trace.specs.declared.Key.the-variants.{Refused, Line}
 use Rattle.trace.specs.Line.{line}
 use Rattle.trace.proofs.Lengths.{length-decimal-below, length-line, length-line-le}
 use Rattle.trace.proofs.Tests.{fits32-i}
+use Rattle.trace.specs.Lines.{refusalText}
 use Rattle.writer.specs.Keys.{keyLength}
 use Rattle.writer.specs.Writing.{lastPlace, Ends, Put}
 use Rattle.writer.proofs.Keys.{length-keyText}
 use Rattle.writer.proofs.Pour.{put-short, put-poured, poured-put, poured-whole, put-then}
 use Rattle.layout.specs.Host.{filled}
-use Rattle.play.specs.Player.{refusalText, lineOf}
+use Rattle.play.specs.Player.{lineOf}
 use Rattle.turns.specs.Code.{turnRoom, Wrote}
 
 -- how long they are

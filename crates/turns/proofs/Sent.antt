@@ -20,15 +20,14 @@ use Rattle.laws.specs.Lists.{all?}
 use Rattle.model.specs.Checks.{noDepartures}
 use Rattle.model.specs.Crossbar.{Course, answerOf}
 use Rattle.trace.specs.declared.Key.the-variants.{In, Out, Flow, Rank, Tag}
+use Rattle.trace.specs.Lines.{departureText, departuresText}
 use Rattle.writer.specs.Writing.{lastPlace, Put}
 use Rattle.writer.proofs.Pour.{put-then}
-use Rattle.layout.specs.Answer.{departureSize, answerBytes, departureIn, departuresIn}
+use Rattle.layout.specs.Answer.{departureSize, answerBytes, departureIn, departuresIn, cellIn}
 use Rattle.layout.specs.Host.{filled}
 use Rattle.layout.specs.Number.{word}
 use Rattle.layout.proofs.Answer.{departureFits, answerBytes-outputs}
 use Rattle.layout.proofs.Number.{bytes?, bytes?-take, bytes?-drop, word-fits}
-use Rattle.play.specs.Player.{departureText, departuresText}
-use Rattle.turns.specs.Code.{cellIn}
 use Rattle.turns.proofs.Lines.{line-le}
 
 -- one departure
@@ -38,11 +37,11 @@ unfolding departureIn
 sent-none bs h = rw (eq-eqb (word bs 0) 0 h, departureIn)
 
 pub sent-some : (bs : List ℕ) → (word bs 0 ≡ 0 → ⊥) → departureIn bs ≡ some (cellIn bs)
-unfolding departureIn cellIn
+unfolding departureIn
 sent-some bs h = rw (ne-eqb (word bs 0) 0 h, departureIn)
 
 cell-le : (bs : List ℕ) → bytes? bs ≡ true → length bs ≡ departureSize → length (departureText (some (cellIn bs))) ≤ 76
-unfolding departureText cellIn
+unfolding departureText
 cell-le bs h size =
     let i = line-le In (word bs 4) (word-fits bs 4 h (rw size (lit≤ tt))) in
     let o = line-le Out (word bs 8) (word-fits bs 8 h (rw size (lit≤ tt))) in

@@ -16,8 +16,9 @@ use Rattle.model.specs.Checks.{Outcome, done, refused}
 use Rattle.model.specs.Crossbar.{Course, answerOf, slot}
 use Rattle.trace.specs.declared.Key.the-variants.{Slot}
 use Rattle.trace.specs.Line.{line}
-use Rattle.arrival.specs.declared.Fault.{Fault}
-use Rattle.arrival.specs.declared.Fault.the-variants.{Clear, At}
+use Rattle.cell.specs.declared.Fault.{Fault}
+use Rattle.cell.specs.declared.Fault.the-variants.{Clear, At}
+use Rattle.trace.specs.Lines.{departuresText, refusalText}
 use Rattle.layout.specs.Answer.{answerBytes, answerSize, departuresIn}
 use Rattle.layout.specs.Host.{filled, tableAfter, answerAfter}
 use Rattle.layout.specs.Table.{IsTable, stateOf, encode}
@@ -29,7 +30,7 @@ use Rattle.lent.specs.Looked.{recordsSlot}
 use Rattle.lent.proofs.Looking.{lent-slot}
 use Rattle.turns.specs.declared.Played.{Played}
 use Rattle.turns.specs.declared.Played.the-variants.{Ran, Stopped}
-use Rattle.play.specs.Player.{departuresText, refusalText, lineOf}
+use Rattle.play.specs.Player.{lineOf}
 use Rattle.turns.specs.Code.{Wrote, slotText, playedOf, SlotPlayed}
 use Rattle.turns.proofs.Sent.{departures-filled}
 

@@ -35,6 +35,7 @@ use Rattle.trace.specs.Reader.{slotAhead, opened, header}
 use Rattle.trace.proofs.Blocks.{number-exact, blockFits-e, next-exact}
 use Rattle.trace.proofs.Flat.{length-numbersOf}
 use Rattle.trace.proofs.RoundTrip.{header-bad-ports, header-bad-size, header-bad-first, header-opened, header-exact}
+use Rattle.trace.specs.Lines.{departuresText, refusalText}
 use Rattle.reader.specs.Reading.{from, numbersAfter, stored}
 use Rattle.reader.proofs.Answered.{opening-open-e, opening-refused-e, opening-short-e}
 use Rattle.reader.proofs.Answered.{Ahead, answer-slot-e, answer-end-e, answer-bad-e, answer-more-e}
@@ -52,7 +53,7 @@ use Rattle.turns.specs.declared.Played.{Played}
 use Rattle.turns.specs.declared.Played.the-variants.{Ran, Stopped}
 use Rattle.turns.specs.declared.Stage.{Stage}
 use Rattle.turns.specs.declared.Stage.the-variants.{Opening as OpeningStage, Playing, Ended, TurnedBack}
-use Rattle.play.specs.Player.{departuresText, refusalText, lineOf}
+use Rattle.play.specs.Player.{lineOf}
 use Rattle.play.specs.Turn.{Standing, playing, ended, turnedBack, Turn, ending, slotTurn, nextTurn, headerTurn, turn}
 use Rattle.turns.specs.Code.{standing, lineAt, tableThen, Stands, Wrote, Turned, Closed, SlotPlayed}
 use Rattle.turns.proofs.Slots.{played-stopped, played-ran}

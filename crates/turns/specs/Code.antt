@@ -6,29 +6,27 @@
 --     Wrote, Turned, Took           what a turn leaves, and what turns leave
 --     Closed                        what the last turn answers
 --     slotText, playedOf, Played    what a block's slot writes and answers
---     cellIn                        the cell of a departure
 use Prim.Native.Nat.{ℕ, zero, suc, _+_, _*_, _-_, _≤_, _<_}
 use mathlib.Core.List.{List, [], _∷_, _++_}
 use mathlib.Core.Bool.{Bool}
 use mathlib.Core.Logic.{_⊎_}
 use mathlib.Core.Path.{_≡_}
 use lib.ListN.{length, drop}
-use Rattle.cell.specs.declared.Cell.{Cell}
 use Rattle.cell.specs.Limits.{portLimit}
 use Rattle.model.specs.Checks.{Outcome, done, refused}
 use Rattle.model.specs.Crossbar.{Course}
 use Rattle.trace.specs.declared.Key.the-variants.{Slot}
 use Rattle.trace.specs.Line.{line}
 use Rattle.trace.specs.Contents.{blockLines}
+use Rattle.trace.specs.Lines.{departuresText, refusalText}
 use Rattle.layout.specs.Entry.{clockIn}
 use Rattle.layout.specs.Host.{filled, tableAfter}
-use Rattle.layout.specs.Number.{word}
 use Rattle.layout.specs.Table.{IsTable, encode, stateOf, tableSize}
 use Rattle.turns.specs.declared.Stage.{Stage}
 use Rattle.turns.specs.declared.Stage.the-variants.{Opening, Playing, Ended, TurnedBack}
 use Rattle.turns.specs.declared.Played.{Played}
 use Rattle.turns.specs.declared.Played.the-variants.{Ran, Stopped}
-use Rattle.play.specs.Player.{departuresText, refusalText, lineOf}
+use Rattle.play.specs.Player.{lineOf}
 use Rattle.play.specs.Turn.{Standing, opening, playing, ended, turnedBack, Turn, turn, turns}
 
 unfoldable pub standing : Stage → ℕ → List ℕ → Standing
@@ -127,15 +125,3 @@ pub record SlotPlayed (o : Outcome Course) (clock l : ℕ) (table buffer table�
   pub result : r ≡ playedOf clock l o
   pub bytes : buffer′ ≡ filled (slotText clock l o) buffer
   pub switch : table′ ≡ tableAfter table o
-
--- the cell of a departure
-unfoldable pub cellIn : List ℕ → Cell
-cellIn bs =
-    record {
-      input = word bs 4;
-      output = word bs 8;
-      flow = word bs 12;
-      rank = word bs 16;
-      tag = word bs 20;
-      slot = word bs 24;
-    }

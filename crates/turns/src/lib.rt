@@ -2,9 +2,8 @@
 // so far, the bytes of the table and a buffer, and keeps the stage and the number of the next line between the turns.
 // Its theorems are on the definitions: over the PIFO switch it writes the same text, and turn by turn it writes the same
 // text however the trace arrives.
-use arrival::Fault;
 use cell::Arrival;
-use cell::Cell;
+use cell::Fault;
 use cell::Refusal;
 use layout::HELD;
 use trace::Answer;
@@ -23,14 +22,15 @@ ghost use Rattle.trace.specs.Flat.{arrivalsFrom};
 ghost use Rattle.trace.specs.Line.{line};
 ghost use Rattle.trace.specs.Piece.{nextIn, headerIn};
 ghost use Rattle.trace.specs.Contents.{blockLimit, blockNumbers, blockLines};
+ghost use Rattle.trace.specs.Lines.{departureText, departuresText};
 ghost use Rattle.writer.specs.Writing.{Put};
 ghost use Rattle.layout.specs.Answer.{departureIn, departuresIn, departuresSize, departureSize};
 ghost use Rattle.layout.specs.Entry.{clockIn};
 ghost use Rattle.layout.specs.Table.{IsTable, stateOf, tableSize};
-ghost use Rattle.play.specs.Player.{departureText, departuresText, lineOf};
+ghost use Rattle.play.specs.Player.{lineOf};
 ghost use Rattle.play.specs.Turn.{headerTurn, nextTurn, turn};
 ghost use Rattle.turns.specs.Code.{standing, turnRoom, Took, Stands, Wrote, Turned, Closed, departureRoom};
-ghost use Rattle.turns.specs.Code.{SlotPlayed, cellIn};
+ghost use Rattle.turns.specs.Code.{SlotPlayed};
 
 // What one turn can write at most: the line of a slot, and sixteen departures of five lines.
 const TURN_ROOM: usize = 16 + layout::PORTS * 76;
@@ -159,7 +159,7 @@ fn next_turn(line: usize, text: &[u8], last: bool, table: &mut [u8], out: &mut [
         (now (text .entry)) (now (table .entry)) (now (out .entry)) (now (table .exit)) (now (out .exit))
         (r .stage) (r .line) (r .used) (r .written) ⌝ }
 {
-    let clock = table::entry::clock_of(table);
+    let clock = table::header::clock_of(table);
     let mut numbers = [0u32; trace::NUMBERS];
     match reader::read_block(text, clock, last, &mut numbers) {
         Answer::Slot(count, used, lines) => {
@@ -299,23 +299,8 @@ fn put_sent(out: &mut [u8], at: usize, sent: &[u8]) -> usize
     requires { ⌜ length (now sent) ≡ departureSize ⌝ }
     ensures { λ r. ⌜ Put (now (out .entry)) at (departureText (departureIn (now (sent .entry)))) (now (out .exit)) r ⌝ }
 {
-    if table::word::read_u32(sent, 0) == 0 {
+    if answer::is_none(sent) {
         return at;
     }
-    writer::put_departure(out, at, cell_in(sent))
-}
-
-// The cell that leaves.
-fn cell_in(sent: &[u8]) -> Cell
-    requires { ⌜ length (now sent) ≡ departureSize ⌝ }
-    ensures { λ r. ⌜ r ≡ cellIn (now (sent .entry)) ⌝ }
-{
-    Cell {
-        input: table::word::read_u32(sent, 4),
-        output: table::word::read_u32(sent, 8),
-        flow: table::word::read_u32(sent, 12),
-        rank: table::word::read_u32(sent, 16),
-        tag: table::word::read_u32(sent, 20),
-        slot: table::word::read_u32(sent, 24),
-    }
+    writer::put_departure(out, at, answer::cell_in(sent))
 }

@@ -13,11 +13,13 @@ use trace::Key;
 use trace::Output;
 ghost use mathlib.Core.Path.{_≡_};
 ghost use mathlib.Core.List.{_++_};
+ghost use mathlib.Core.Option.{some};
 ghost use lib.ListN.{length, getD, drop};
 ghost use Rattle.laws.specs.Lists.{all?};
 ghost use Rattle.cell.specs.Refusal.{number};
-ghost use Rattle.trace.specs.declared.Key.the-variants.{Slot, In, Out, Flow, Rank, Tag, Refused, Line};
+ghost use Rattle.trace.specs.declared.Key.the-variants.{Slot, In, Out, Flow, Rank, Tag};
 ghost use Rattle.trace.specs.Line.{keyText, decimal, line};
+ghost use Rattle.trace.specs.Lines.{departureText, refusalText};
 ghost use Rattle.trace.specs.Contents.{arrivalsText, slotsText, text};
 ghost use Rattle.trace.specs.Flat.{arrivalAt, arrivalsFrom, slotsFrom, fitTogether, contentsOf};
 ghost use Rattle.trace.specs.Flat.{writeFlat, outputOf, bufferAfter};
@@ -63,10 +65,7 @@ pub fn put_line(out: &mut [u8], at: usize, key: Key, n: u32) -> usize
 
 // The lines of a departure, `out`, `in`, `flow`, `rank`, `tag`, if they fit.
 pub fn put_departure(out: &mut [u8], at: usize, cell: Cell) -> usize
-    ensures { λ r. ⌜ Put (now (out .entry)) at
-        (line Out (cell .output)
-        ++ (line In (cell .input) ++ (line Flow (cell .flow) ++ (line Rank (cell .rank) ++ line Tag (cell .tag)))))
-        (now (out .exit)) r ⌝ }
+    ensures { λ r. ⌜ Put (now (out .entry)) at (departureText (some cell)) (now (out .exit)) r ⌝ }
 {
     pour_cell(
         out,
@@ -83,9 +82,7 @@ pub fn put_departure(out: &mut [u8], at: usize, cell: Cell) -> usize
 
 // The lines of a refusal, `refused` and `line`, the line at fault, if they fit.
 pub fn put_refusal(out: &mut [u8], at: usize, refusal: Refusal, fault: usize) -> usize
-    ensures { λ r. ⌜ Put (now (out .entry)) at
-        (line Refused (number refusal) ++ line Line fault)
-        (now (out .exit)) r ⌝ }
+    ensures { λ r. ⌜ Put (now (out .entry)) at (refusalText refusal fault) (now (out .exit)) r ⌝ }
 {
     pour_pair(out, at, Key::Refused, refusal.number(), Key::Line, fault)
 }

@@ -1,14 +1,10 @@
 -- `crossbar::check` meets its contract.
 -- Assumes nothing.
 use mathlib.Core.Path.{sym, _∙_}
-use Rattle.crossbar.proofs.Fresh.{check-passes, check-refuses}
+use Rattle.crossbar.proofs.Calls.{check-passes, check-refuses}
 use borrow.Author.Needs.{needs}
 use Rattle.crossbar.proofs.check.Statement.{statement}
 use Rattle.crossbar.proofs.check.Tie as tie
-use Rattle.crossbar.proofs.check.Reads as reads
-use Rattle.crossbar.proofs.check.Lts as lts
-use Rattle.cell.proofs.Refusal.number.Reads as number-reads
-use Rattle.table.proofs.check.is_table.Reads as is-table-reads
 
 is-table-requires : tie.Need-is-table-requires
 is-table-requires c κs = search needs

@@ -7,16 +7,10 @@ use Rattle.model.specs.State
 use Rattle.layout.specs.Host.{filled}
 use Rattle.layout.specs.Table.{encode}
 use Rattle.layout.proofs.Host.{startCall-size, startCall-short, startCall-done}
-use Rattle.crossbar.proofs.Fresh.{start-refuses, start-runs}
+use Rattle.crossbar.proofs.Calls.{start-refuses, start-runs}
 use borrow.Author.Needs.{needs}
 use Rattle.crossbar.proofs.start.Statement.{statement}
 use Rattle.crossbar.proofs.start.Tie as tie
-use Rattle.crossbar.proofs.start.Reads as reads
-use Rattle.crossbar.proofs.start.Lts as lts
-use Rattle.cell.proofs.Refusal.number.Reads as number-reads
-use Rattle.cell.proofs.Switch.fresh.Reads as fresh-reads
-use Rattle.cell.proofs.Switch.ports_in_range.Reads as ports-in-range-reads
-use Rattle.crossbar.proofs.write_fresh.Reads as write-fresh-reads
 
 ports-in-range-requires : tie.Need-ports-in-range-requires
 ports-in-range-requires c κs = search needs

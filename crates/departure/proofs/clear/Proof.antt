@@ -6,7 +6,7 @@ use borrow.Author.Needs.{needs}
 use lib.ListN.{length, replicate}
 use Rattle.layout.specs.Records.{recordStart}
 use Rattle.departure.specs.Departing.{cleared}
-use Rattle.table.proofs.Put.{put}
+use Rattle.layout.proofs.Put.{put}
 use Rattle.departure.proofs.Staying.{cleared-none, cleared-more}
 use Rattle.departure.proofs.clear.Statement.{statement}
 use Rattle.departure.proofs.clear.Tie as tie

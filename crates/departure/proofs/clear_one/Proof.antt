@@ -5,7 +5,7 @@ use mathlib.Core.Path.{_∙_, ap}
 use borrow.Author.Needs.{needs}
 use Rattle.layout.specs.Number.{bytesOf}
 use Rattle.layout.specs.Records.{recordStart}
-use Rattle.table.proofs.Put.{put, put-two}
+use Rattle.layout.proofs.Put.{put, put-two}
 use Rattle.departure.proofs.Staying.{zero-words}
 use Rattle.departure.proofs.clear_one.Statement.{statement}
 use Rattle.departure.proofs.clear_one.Tie as tie

@@ -1,58 +1,54 @@
 -- The numbers of the departure, or zeros.
-use mathlib.Core.Path.{_∙_, ap}
+use mathlib.Core.Path.{sym, _∙_, ap}
+use mathlib.Core.Option.{some}
 use borrow.Author.Needs.{needs}
-use Rattle.table.proofs.Put.{put}
-use Rattle.departure.proofs.Sending.{departure-none, departure-some}
+use Rattle.layout.specs.Answer.{departureSize, departureBytes}
+use Rattle.layout.proofs.Put.{put}
+use Rattle.departure.proofs.Sending.{departureAt-none, departureAt-some}
 use Rattle.departure.proofs.send_one.Statement.{statement}
 use Rattle.departure.proofs.send_one.Tie as tie
 
-no-cell-requires : tie.Need-no-cell-requires
-no-cell-requires c κs = search needs
-
-write-seven-requires : tie.Need-write-seven-requires
-write-seven-requires c κs = search needs
+write-none-requires : tie.Need-write-none-requires
+write-none-requires c κs = search needs
 
 same-length : tie.Need-same-length
 same-length c = search needs
 
 returns : tie.Need-returns
 returns c =
-    let seven = c .before .before in
-    let cell = seven .before .no-cell in
-    let test = seven .before .before .before .if1 .taken in
-    let a = seven .before .before .before .before .before .before .args in
-    seven .write-seven .ensures
-    ∙ ap (λ bs. put (a .at) 28 bs (a .answer .now))
-    (departure-none (a .table .now) (a .number) (cell .result) (cell .ensures) test)
+    let written = c .before .before in
+    let test = written .before .before .if1 .taken in
+    let a = written .before .before .before .before .before .args in
+    written .write-none .ensures
+    ∙ ap (λ d. put (a .at) departureSize (departureBytes d) (a .answer .now)) (sym (departureAt-none (a .table .now) (a .number) test))
 
 cell-of-requires : tie.Need-cell-of-requires
 cell-of-requires c κs = search needs
 
-write-seven-requires-2 : tie.Need-write-seven-requires-2
-write-seven-requires-2 c κs = search needs
+write-departure-requires : tie.Need-write-departure-requires
+write-departure-requires c κs = search needs
 
 same-length-2 : tie.Need-same-length-2
 same-length-2 c = search needs
 
 returns-2 : tie.Need-returns-2
 returns-2 c =
-    let seven = c .before .before in
-    let cell = seven .before .cell-of in
-    let test = seven .before .before .before .if1 .left in
-    let a = seven .before .before .before .before .before .before .args in
-    seven .write-seven2 .ensures
-    ∙ ap (λ bs. put (a .at) 28 bs (a .answer .now))
-    (departure-some (a .table .now) (a .number) (cell .result) (cell .ensures) test)
+    let written = c .before .before in
+    let cell = written .before .cell-of in
+    let test = written .before .before .before .if1 .left in
+    let a = written .before .before .before .before .before .before .args in
+    written .write-departure .ensures
+    ∙ ap (λ d. put (a .at) departureSize (departureBytes d) (a .answer .now))
+    (ap some (cell .ensures) ∙ sym (departureAt-some (a .table .now) (a .number) test))
 
 pub send-one-spec : {M : Type 1} → statement M
 send-one-spec =
     tie.close
     (tie.spec
-    no-cell-requires
-    write-seven-requires
+    write-none-requires
     same-length
     returns
     cell-of-requires
-    write-seven-requires-2
+    write-departure-requires
     same-length-2
     returns-2)

@@ -5,9 +5,6 @@ use Rattle.measure.proofs.Slots.{slots-accepted, slots-refused}
 use borrow.Author.Needs.{needs}
 use Rattle.measure.proofs.crossbar_trace_slots.Statement.{statement}
 use Rattle.measure.proofs.crossbar_trace_slots.Tie as tie
-use Rattle.measure.proofs.crossbar_trace_slots.Reads as reads
-use Rattle.measure.proofs.crossbar_trace_slots.Lts as lts
-use Rattle.reader.proofs.verify.Reads as verify-reads
 
 verify-requires : tie.Need-verify-requires
 verify-requires c κs = search needs

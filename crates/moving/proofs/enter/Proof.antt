@@ -1,9 +1,9 @@
 -- The best of the cell's output is written.
 use mathlib.Core.Path.{_∙_, ap}
 use lib.ListN.{getD, set}
-use Rattle.places.specs.Choices.{betterOf}
 use Rattle.moving.specs.Moves.{entered}
 use borrow.Author.Needs.{needs}
+use Rattle.table.specs.Entries.{betterOf}
 use Rattle.moving.proofs.enter.Statement.{statement}
 use Rattle.moving.proofs.enter.Tie as tie
 

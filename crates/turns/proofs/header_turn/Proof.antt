@@ -1,7 +1,7 @@
 -- The header's answer says how the turn goes: the trace is opened, refused, or more text is needed.
 use native.Mathlib.Omega.{arith}
 use borrow.Author.Needs.{needs}
-use Rattle.play.specs.Player.{refusalText}
+use Rattle.trace.specs.Lines.{refusalText}
 use Rattle.turns.proofs.Lines.{wrote-refusal}
 use Rattle.turns.proofs.Turns.{header-open, header-refused, header-short}
 use Rattle.turns.proofs.header_turn.Statement.{statement}

@@ -7,8 +7,8 @@ use lib.ListN.{length}
 use Rattle.cell.specs.declared.Refusal.the-variants.{BadLine}
 use Rattle.trace.specs.declared.Key.the-variants.{End}
 use Rattle.trace.proofs.Tests.{fits32-i}
+use Rattle.trace.specs.Lines.{refusalText}
 use Rattle.layout.proofs.Table.{decode-length}
-use Rattle.play.specs.Player.{refusalText}
 use Rattle.turns.proofs.Lines.{line-le, wrote-put, wrote-refusal}
 use Rattle.turns.proofs.Turns.{block-size, numbers-size, next-more, next-end, next-bad, next-stopped, next-ran}
 use Rattle.turns.proofs.next_turn.Statement.{statement}

@@ -4,8 +4,8 @@ use borrow.Author.Needs.{needs}
 use lib.Dec.{lit≤}
 use lib.ListN.{take}
 use Rattle.trace.specs.Flat.{arrivalsFrom}
+use Rattle.trace.specs.Lines.{refusalText}
 use Rattle.writer.proofs.Flat.{fit32-i, arrivalsFrom-fits}
-use Rattle.play.specs.Player.{refusalText}
 use Rattle.turns.proofs.Lines.{wrote-refusal}
 use Rattle.turns.proofs.Slots.{slot-stopped, slot-ran}
 use Rattle.turns.proofs.play_slot.Statement.{statement}

@@ -4,10 +4,10 @@ use native.Mathlib.Omega.{arith}
 use mathlib.Core.Path.{_≡_, refl, _∙_}
 use borrow.Author.Needs.{needs}
 use lib.ListN.{length}
+use Rattle.trace.specs.Lines.{departuresText}
 use Rattle.writer.specs.Writing.{Put}
 use Rattle.layout.specs.Answer.{departuresIn}
 use Rattle.layout.proofs.Number.{bytes?-i}
-use Rattle.play.specs.Player.{departuresText}
 use Rattle.turns.proofs.Lines.{put-nothing}
 use Rattle.turns.proofs.Sent.{put-more}
 use Rattle.turns.proofs.put_departures.Statement.{statement}

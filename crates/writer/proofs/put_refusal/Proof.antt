@@ -1,6 +1,7 @@
 -- `writer::put_refusal` meets its contract: the lines have the refusal's number.
 -- Assumes nothing.
 use borrow.Author.Needs.{needs}
+use Rattle.trace.specs.Lines.{refusalText}
 use Rattle.writer.proofs.put_refusal.Statement.{statement}
 use Rattle.writer.proofs.put_refusal.Tie as tie
 
@@ -14,6 +15,7 @@ same-length : tie.Need-same-length
 same-length c = search needs
 
 returns : tie.Need-returns
+unfolding refusalText
 returns c =
     let w = c .before .before in
     rw (w .before .number .ensures) at (w .pour-pair .ensures)

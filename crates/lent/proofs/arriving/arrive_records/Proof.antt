@@ -10,8 +10,8 @@ use lib.Seq.{getD-take}
 use Rattle.cell.specs.Cell.{accepted, arrivalFits}
 use Rattle.layout.specs.Entry.{clockIn}
 use Rattle.layout.specs.Table.{stateOf, encode}
-use Rattle.arrival.specs.declared.Fault.{Fault}
-use Rattle.arrival.specs.declared.Fault.the-variants.{Clear}
+use Rattle.cell.specs.declared.Fault.{Fault}
+use Rattle.cell.specs.declared.Fault.the-variants.{Clear}
 use Rattle.arrival.specs.Arrival.{entered, Arriving, MayEnter}
 use Rattle.lent.specs.Taken.{Begun, SetsIf}
 use Rattle.lent.proofs.Looking.{no-record, held-length}
