@@ -1,5 +1,5 @@
-// The bytes of a slot's answer: a departure for each of sixteen outputs, 1 and the fields of its cell or zeros, then the
-// proposals of the two phases. A caller shows that the bytes are there.
+// The bytes of a slot's answer: a departure for each of sixteen outputs, 1 and the fields of its cell or zeros, then
+// the proposals of the two phases. A caller shows that the bytes are there.
 use cell::Cell;
 use layout::DEPARTURE_BYTES;
 use layout::FIRST_PROPOSALS;
@@ -11,8 +11,8 @@ ghost use mathlib.Core.Option.{none, some};
 ghost use mathlib.Core.Path.{_≡_};
 ghost use Prim.Native.Nat.{_+_, _≤_};
 ghost use lib.Dec.{eqb};
-ghost use lib.ListN.{length, take, drop};
-ghost use Rattle.layout.specs.Number.{bytesOf, word};
+ghost use lib.ListN.{length};
+ghost use Rattle.layout.specs.Number.{bytesOf, word, put};
 ghost use Rattle.layout.specs.Answer.{departureSize, departuresSize, answerSize, departureBytes, sevenBytes, cellIn};
 ghost use Rattle.answer.specs.Code.{noCell, sentIn};
 
@@ -20,7 +20,7 @@ ghost use Rattle.answer.specs.Code.{noCell, sentIn};
 pub fn write_departure(answer: &mut [u8], at: usize, c: Cell)
     requires { ⌜ at + departureSize ≤ length (now answer) ⌝ }
     ensures { λ _. ⌜ now (answer .exit)
-        ≡ take at (now (answer .entry)) ++ (departureBytes (some c) ++ drop (at + departureSize) (now (answer .entry))) ⌝ }
+        ≡ put at departureSize (departureBytes (some c)) (now (answer .entry)) ⌝ }
 {
     write_seven(answer, at, 1, c);
 }
@@ -29,7 +29,7 @@ pub fn write_departure(answer: &mut [u8], at: usize, c: Cell)
 pub fn write_none(answer: &mut [u8], at: usize)
     requires { ⌜ at + departureSize ≤ length (now answer) ⌝ }
     ensures { λ _. ⌜ now (answer .exit)
-        ≡ take at (now (answer .entry)) ++ (departureBytes none ++ drop (at + departureSize) (now (answer .entry))) ⌝ }
+        ≡ put at departureSize (departureBytes none) (now (answer .entry)) ⌝ }
 {
     write_seven(answer, at, 0, no_cell());
 }
@@ -51,7 +51,7 @@ fn no_cell() -> Cell
 // Seven numbers of 32 bits one behind the other.
 fn write_seven(answer: &mut [u8], at: usize, sent: u32, c: Cell)
     requires { ⌜ at + departureSize ≤ length (now answer) ⌝ }
-    ensures { λ _. ⌜ now (answer .exit) ≡ take at (now (answer .entry)) ++ (sevenBytes sent c ++ drop (at + departureSize) (now (answer .entry))) ⌝ }
+    ensures { λ _. ⌜ now (answer .exit) ≡ put at departureSize (sevenBytes sent c) (now (answer .entry)) ⌝ }
 {
     word::write_u32(answer, at, sent);
     word::write_u32(answer, at + 4, c.input);
@@ -65,8 +65,8 @@ fn write_seven(answer: &mut [u8], at: usize, sent: u32, c: Cell)
 // Puts the proposals of the two phases, the answer's last eight bytes.
 pub fn write_proposals(answer: &mut [u8], first: u32, second: u32)
     requires { ⌜ answerSize ≤ length (now answer) ⌝ }
-    ensures { λ _. ⌜ now (answer .exit) ≡ take departuresSize (now (answer .entry))
-        ++ ((bytesOf 4 first ++ bytesOf 4 second) ++ drop answerSize (now (answer .entry))) ⌝ }
+    ensures { λ _. ⌜ now (answer .exit)
+        ≡ put departuresSize 8 (bytesOf 4 first ++ bytesOf 4 second) (now (answer .entry)) ⌝ }
 {
     word::write_u32(answer, FIRST_PROPOSALS, first);
     word::write_u32(answer, SECOND_PROPOSALS, second);

@@ -25,10 +25,9 @@ use Rattle.model.specs.State.{Entry, isListed}
 use Rattle.model.specs.Crossbar.{inListOf, newEntry, enter}
 use Rattle.model.proofs.SoundArrival.{Enters, front, behind, enters, length-enter}
 use Rattle.layout.specs.Entry.{entryAt, portsIn, countIn}
-use Rattle.layout.specs.Number.{bytesOf}
+use Rattle.layout.specs.Number.{bytesOf, put}
 use Rattle.layout.specs.Records.{recordStart}
 use Rattle.layout.specs.Table.{entrySize, placeOf, entryBytes, entriesBytes, sectionBytes, stateOf, encode, IsTable}
-use Rattle.layout.proofs.Put.{put}
 use Rattle.layout.proofs.Table.{length-entryBytes, length-entriesBytes}
 use Rattle.table.specs.Entries.{entryWith, flowWord}
 use Rattle.table.proofs.Fields.{placeOf-listed}

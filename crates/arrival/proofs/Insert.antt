@@ -14,11 +14,10 @@ use lib.Seq.{set-at}
 use Rattle.laws.specs.Lists.{update}
 use Rattle.cell.specs.Limits.{portLimit, sectionRoom}
 use Rattle.model.specs.State.{Entry, Switch}
-use Rattle.layout.specs.Number.{bytesOf}
+use Rattle.layout.specs.Number.{bytesOf, put}
 use Rattle.layout.specs.Table.{entrySize, sectionSize, layoutNumber, entryBytes, entriesBytes, sectionBytes}
 use Rattle.layout.specs.Table.{sectionsBytes, countsBytes, encode}
 use Rattle.layout.proofs.Number.{length-bytesOf}
-use Rattle.layout.proofs.Put.{put}
 use Rattle.layout.proofs.Table.{length-entriesBytes, entriesBytes-append, length-sectionBytes, length-countsBytes}
 use Rattle.arrival.specs.Arrival.{movedUp}
 

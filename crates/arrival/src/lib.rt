@@ -15,6 +15,7 @@ ghost use Rattle.model.specs.Crossbar.{inListOf};
 ghost use Rattle.layout.specs.Entry.{entryAt, portsIn, clockIn, countIn};
 ghost use Rattle.layout.specs.Records.{recordStart, recordAt};
 ghost use Rattle.layout.specs.Table.{tableSize, entrySize, entryBytes, stateOf, encode, IsTable, entryLimit};
+ghost use Rattle.layout.specs.Table.{HasEntry};
 ghost use Rattle.table.specs.Entries.{flowWord};
 ghost use Rattle.places.specs.View.{placesIn};
 ghost use Rattle.places.specs.Viewed.{SetsOf};
@@ -50,7 +51,8 @@ pub fn arrive(
 )
     requires { ⌜ MayEnter a (now table) ⌝ }
     requires { ⌜ SetsOf (now table) (placesIn (now table)) (now listed) (now heads) (now crossed) (now buffered) ⌝ }
-    ensures { λ _. ⌜ now (table .exit) ≡ encode (entered (accepted (clockIn (now (table .entry)) - 1) a) (stateOf (now (table .entry)))) ⌝ }
+    ensures { λ _. ⌜ now (table .exit)
+        ≡ encode (entered (accepted (clockIn (now (table .entry)) - 1) a) (stateOf (now (table .entry)))) ⌝ }
     ensures { λ _. ⌜ SetsOf (now (table .exit)) (placesIn (now (table .exit))) (now (listed .exit)) (now (heads .exit))
         (now (crossed .exit)) (now (buffered .exit)) ⌝ }
 {
@@ -63,7 +65,8 @@ pub fn arrive(
 // The checks of one record, in their order. `turn` is the lowest input whose turn it is.
 pub fn check_record(table: &[u8], turn: u32, place: u32, c: Cell) -> Fault
     requires { ⌜ IsTable (now table) ⌝ }
-    ensures { λ r. ⌜ ((before : Option Cell) → turnAfter before ≡ turn → r ≡ faultAt place (fault (portsIn (now (table .entry))) (cells (stateOf (now (table .entry)))) before c)) ⌝ }
+    ensures { λ r. ⌜ ((before : Option Cell) → turnAfter before ≡ turn → r
+        ≡ faultAt place (fault (portsIn (now (table .entry))) (cells (stateOf (now (table .entry)))) before c)) ⌝ }
 {
     if no_such_port(table, c) {
         return Fault::At(Refusal::NoSuchPort, place);
@@ -131,7 +134,7 @@ fn falling_rank(table: &[u8], c: Cell) -> bool
 
 // Whether an entry of the record's input is of the record's flow and has a higher rank.
 fn outranked(table: &[u8], k: usize, c: Cell, flow: u16) -> bool
-    requires { ⌜ (length (now table) ≡ tableSize) × (k < entryLimit) ⌝ }
+    requires { ⌜ HasEntry (now table) k ⌝ }
     requires { ⌜ (k / sectionRoom ≡ c .input) × (flow ≡ flowWord c) × (c .output < 256) ⌝ }
     ensures { λ r. ⌜ r ≡ outranks c (entryAt (now (table .entry)) k .cell) ⌝ }
 {
@@ -164,8 +167,8 @@ fn enter(table: &mut [u8], c: Cell) -> usize
     at
 }
 
-// The sets of an input when a listed cell has come to a position: the cells from there on stand one later. It is a head if
-// it comes to the front.
+// The sets of an input when a listed cell has come to a position: the cells from there on stand one later. It is a
+// head if it comes to the front.
 fn open_sets(
     listed: &mut [u64; PORTS],
     heads: &mut [u64; PORTS],
@@ -213,7 +216,7 @@ fn new_place(table: &[u8], c: Cell) -> usize
 // Whether an entry of the cell's input is in the list and of the cell's flow. The first four bytes of its record say
 // both, so that nothing branches on the place, which would be guessed badly.
 fn in_list(table: &[u8], k: usize, c: Cell, flow: u16) -> bool
-    requires { ⌜ (length (now table) ≡ tableSize) × (k < entryLimit) ⌝ }
+    requires { ⌜ HasEntry (now table) k ⌝ }
     requires { ⌜ recordAt (now table) k ≡ entryBytes (entryAt (now table) k) ⌝ }
     requires { ⌜ (k / sectionRoom ≡ c .input) × (flow ≡ flowWord c) × (c .output < 256) ⌝ }
     ensures { λ r. ⌜ r ≡ inListOf c (entryAt (now (table .entry)) k) ⌝ }

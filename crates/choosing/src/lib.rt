@@ -20,8 +20,8 @@ ghost use Rattle.places.specs.Viewed.{headSet, ListsOf, Keyed, Chosen};
 ghost use Rattle.choosing.specs.Keys.{leastOfFour, leastOf, FirstWith, LeadingTo};
 ghost use Rattle.choosing.specs.Walk.{BestKnown, HeadOf, Means, Scanned, ScannedAll, entered, Entered};
 
-// What a walk along the heads of an input makes of one: whether its crosspoint is empty; and if not, whether it is blocked
-// and over every cell in the crosspoints of its output.
+// What a walk along the heads of an input makes of one: whether its crosspoint is empty; and if not, whether it is
+// blocked and over every cell in the crosspoints of its output.
 struct Kind {
     ready: bool,
     pressing: bool,
@@ -44,8 +44,10 @@ pub fn choose(
 ) -> Choice
     requires { ⌜ Readable (now table) ⌝ }
     requires { ⌜ ListsOf (now table) (placesIn (now table)) (now listed) (now heads) ⌝ }
-    requires { ⌜ Square (now cross) × Agrees (now table) (placesIn (now table)) (now cross) × Keyed (now table) (now cross) (now keys) ⌝ }
-    ensures { λ r. ⌜ Chosen (now (table .entry)) (now (cross .entry)) (r .urgent) (r .scheduled) (r .candidates) (r .best) ⌝ }
+    requires { ⌜ Square (now cross) × Agrees (now table) (placesIn (now table)) (now cross)
+        × Keyed (now table) (now cross) (now keys) ⌝ }
+    ensures { λ r. ⌜ Chosen (now (table .entry)) (now (cross .entry)) (r .urgent) (r .scheduled) (r .candidates)
+        (r .best) ⌝ }
 {
     let mut best = [NOWHERE; PORTS];
     let mut least = [0; PORTS];
@@ -80,7 +82,8 @@ fn best_of_each(
     least: &mut [u64; PORTS],
 )
     requires { ⌜ (length (now best) ≡ portLimit) × (length (now least) ≡ portLimit) ⌝ }
-    ensures { λ _. ⌜ LeadingTo (now (cross .entry)) (now (keys .entry)) portLimit (now (best .exit)) (now (least .exit)) ⌝ }
+    ensures { λ _. ⌜ LeadingTo (now (cross .entry)) (now (keys .entry)) portLimit (now (best .exit))
+        (now (least .exit)) ⌝ }
 {
     let mut output = 0;
     while output < PORTS {
@@ -150,7 +153,8 @@ fn scan_each(
     urgent: &mut [u64; PORTS],
 ) -> bool
     requires { ⌜ BestKnown (now table) (now cross) (now best) (now least) ⌝ }
-    requires { ⌜ ((input : ℕ) → input < portLimit → getD (now heads) input 0 ≡ headSet (now table) (placesIn (now table)) input) ⌝ }
+    requires { ⌜ ((input : ℕ) → input < portLimit → getD (now heads) input 0
+        ≡ headSet (now table) (placesIn (now table)) input) ⌝ }
     requires { ⌜ (now scheduled ≡ replicate portLimit nowhere) × (now urgent ≡ replicate portLimit 0) ⌝ }
     ensures { λ r. ⌜ ScannedAll (now (table .entry)) (now (scheduled .exit)) (now (urgent .exit)) r ⌝ }
 {
@@ -167,9 +171,9 @@ fn scan_each(
     some
 }
 
-// Rules 1 to 3 for an input: the first head in its list whose crosspoint is empty is scheduled, and each pressing head
-// before it is urgent. The walk ends there, since nothing behind it can be urgent. Nothing branches on which heads press,
-// as that would be guessed badly.
+// Rules 1 to 3 for an input: the first head in its list whose crosspoint is empty is scheduled, and each pressing
+// head before it is urgent. The walk ends there, since nothing behind it can be urgent. Nothing branches on which
+// heads press, as that would be guessed badly.
 fn scan(
     table: &[u8],
     heads: u64,
@@ -214,7 +218,8 @@ fn kind_of(
 ) -> Kind
     requires { ⌜ BestKnown (now table) (now cross) (now best) (now least) ⌝ }
     requires { ⌜ HeadOf (now table) input k ⌝ }
-    ensures { λ r. ⌜ Means (waitingIn (now (table .entry))) (waitingAt (now (table .entry)) (placesIn (now (table .entry))) k) (r .ready) (r .pressing) ⌝ }
+    ensures { λ r. ⌜ Means (waitingIn (now (table .entry)))
+        (waitingAt (now (table .entry)) (placesIn (now (table .entry))) k) (r .ready) (r .pressing) ⌝ }
 {
     let output = table::entry::output_of(table, k) as usize;
     let held = cross[input][output];
@@ -232,8 +237,8 @@ fn kind_of(
     }
 }
 
-// Rule 3 for a head whose crosspoint is full, by the best cell in the crosspoints of its output and its key: the head is
-// blocked and over every cell there if it is over that one.
+// Rule 3 for a head whose crosspoint is full, by the best cell in the crosspoints of its output and its key: the head
+// is blocked and over every cell there if it is over that one.
 fn is_pressing(table: &[u8], k: usize, best: u16, key: u64) -> bool
     requires { ⌜ (length (now table) ≡ tableSize) × (k < entryLimit) × (best < entryLimit) ⌝ }
     requires { ⌜ key ≡ cellKey (entryAt (now table) best .cell) ⌝ }
@@ -245,7 +250,8 @@ fn is_pressing(table: &[u8], k: usize, best: u16, key: u64) -> bool
 // Rule 4 for each input, where some cell is urgent.
 fn enter_scheduled(listed: &[u64; PORTS], scheduled: &[u16; PORTS], candidates: &mut [u64; PORTS])
     requires { ⌜ length (now candidates) ≡ portLimit ⌝ }
-    ensures { λ _. ⌜ Entered (now (listed .entry)) (now (scheduled .entry)) (now (candidates .entry)) portLimit (now (candidates .exit)) ⌝ }
+    ensures { λ _. ⌜ Entered (now (listed .entry)) (now (scheduled .entry)) (now (candidates .entry)) portLimit
+        (now (candidates .exit)) ⌝ }
 {
     let mut input = 0;
     while input < PORTS {

@@ -8,14 +8,15 @@ use table::header::write_fresh;
 ghost use mathlib.Core.Path.{_≡_};
 ghost use Rattle.crossbar.specs.Lent.{faultResult};
 ghost use Rattle.layout.specs.Host.{checkCall, startCall, bufferAfter, resultOf};
-ghost use Rattle.layout.specs.Host.{slotCall, tableAfter, answerAfter, tallyBytesAfter};
+ghost use Rattle.layout.specs.Host.{slotCall, CallLeaves};
 
-// Writes the table of a fresh switch into the first bytes of the buffer: 0. Refuses with 1 a number of ports that is not
-// 1 to 16, then with 10 a buffer that is too short; a refusal writes nothing.
+// Writes the table of a fresh switch into the first bytes of the buffer: 0. Refuses with 1 a number of ports that is
+// not 1 to 16, then with 10 a buffer that is too short; a refusal writes nothing.
 #[no_mangle]
 pub extern "C" fn start(ports: u32, first: u32, table: &mut [u8]) -> u32
     ensures { λ r. ⌜ r ≡ resultOf (startCall ports first (now (table .entry))) ⌝ }
-    ensures { λ _. ⌜ now (table .exit) ≡ bufferAfter (now (table .entry)) (startCall ports first (now (table .entry))) ⌝ }
+    ensures { λ _. ⌜ now (table .exit)
+        ≡ bufferAfter (now (table .entry)) (startCall ports first (now (table .entry))) ⌝ }
 {
     if !Switch::ports_in_range(ports) {
         return Refusal::BadSize.number();
@@ -38,12 +39,12 @@ pub extern "C" fn check(table: &[u8]) -> u32
     Refusal::BrokenTable.number()
 }
 
-// Takes a slot on the lent table with the lent arrivals: 0. The table is then the one after the slot, the first bytes of
-// the answer's buffer are its answer, and the tally counts it. A refusal is its number and 256 times the record's place
-// (from 1; 0 for 2, 10 and 3), the first one of: 2, the table is broken, the arrivals are no whole records or the tally
-// has another length; 10, the buffer is too short for the answer; 3, the clock's end; record by record 4 to 8. A
-// refused slot has no departures and proposal counts 0, and nothing of that is written: the answer's buffer keeps its
-// bytes, and so does the table. The tally counts a refused slot; a tally of another length is kept too.
+// Takes a slot on the lent table with the lent arrivals: 0. The table is then the one after the slot, the first bytes
+// of the answer's buffer are its answer, and the tally counts it. A refusal is its number and 256 times the record's
+// place (from 1; 0 for 2, 10 and 3), the first one of: 2, the table is broken, the arrivals are no whole records or
+// the tally has another length; 10, the buffer is too short for the answer; 3, the clock's end; record by record 4 to
+// 8. A refused slot has no departures and proposal counts 0, and nothing of that is written: the answer's buffer
+// keeps its bytes, and so does the table. The tally counts a refused slot; a tally of another length is kept too.
 #[no_mangle]
 pub extern "C" fn slot(
     table: &mut [u8],
@@ -51,10 +52,10 @@ pub extern "C" fn slot(
     answer: &mut [u8],
     tally: &mut [u8],
 ) -> u64
-    ensures { λ r. ⌜ r ≡ resultOf (slotCall (now (table .entry)) (now (arrivals .entry)) (now (answer .entry)) (now (tally .entry))) ⌝ }
-    ensures { λ _. ⌜ now (table .exit) ≡ tableAfter (now (table .entry)) (slotCall (now (table .entry)) (now (arrivals .entry)) (now (answer .entry)) (now (tally .entry))) ⌝ }
-    ensures { λ _. ⌜ now (answer .exit) ≡ answerAfter (now (answer .entry)) (slotCall (now (table .entry)) (now (arrivals .entry)) (now (answer .entry)) (now (tally .entry))) ⌝ }
-    ensures { λ _. ⌜ now (tally .exit) ≡ tallyBytesAfter (now (arrivals .entry)) (now (tally .entry)) (slotCall (now (table .entry)) (now (arrivals .entry)) (now (answer .entry)) (now (tally .entry))) ⌝ }
+    ensures { λ r. ⌜ CallLeaves
+        (slotCall (now (table .entry)) (now (arrivals .entry)) (now (answer .entry)) (now (tally .entry)))
+        (now (table .entry)) (now (arrivals .entry)) (now (answer .entry)) (now (tally .entry))
+        r (now (table .exit)) (now (answer .exit)) (now (tally .exit)) ⌝ }
 {
     // Such a tally can count nothing.
     if tally.len() != TALLY_BYTES {

@@ -43,7 +43,8 @@ use Rattle.departure.specs.Departing.{departureAt}
 use Rattle.places.proofs.Window
 use Rattle.places.proofs.Own.{table-readable, waitingIn-state, waitingIn-orderly}
 use Rattle.places.proofs.Placed.{length-numbers}
-use Rattle.layout.proofs.Put.{put, put-next}
+use Rattle.layout.proofs.Put.{put-next}
+use Rattle.layout.specs.Number.{put}
 use Rattle.table.specs.Entries.{nowhere}
 
 ------------------------------------------------------------------------

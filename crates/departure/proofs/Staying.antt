@@ -23,14 +23,14 @@ use Rattle.cell.specs.Limits.{sectionRoom}
 use Rattle.model.specs.State.{Entry}
 use Rattle.model.specs.Phase.{Waiting}
 use Rattle.model.proofs.Numbering
-use Rattle.layout.specs.Number.{bytesOf}
+use Rattle.layout.specs.Number.{bytesOf, put}
 use Rattle.layout.specs.Table.{headerSize, entrySize, sectionSize, tableSize, entryOf, entryBytes, entriesBytes}
 use Rattle.layout.specs.Table.{sectionBytes}
 use Rattle.layout.specs.Entry.{entryAt, countIn}
 use Rattle.layout.specs.Records.{recordStart, recordAt}
 use Rattle.layout.proofs.Table.{length-entryBytes, length-entriesBytes, entriesBytes-append}
 use Rattle.departure.specs.Departing.{waitsAt, stays, staying, freeAfter, closedOne, cleared, Removable, removed}
-use Rattle.layout.proofs.Put.{put, put-next, drop-put, length-put}
+use Rattle.layout.proofs.Put.{put-next, drop-put, length-put}
 use Rattle.table.specs.Entries.{nowhere}
 
 ------------------------------------------------------------------------

@@ -5,17 +5,18 @@ use layout::DEPARTURE_BYTES;
 use layout::PORTS;
 use table::priority::NOWHERE;
 ghost use mathlib.Core.Path.{_≡_};
-ghost use mathlib.Core.List.{_++_, map};
+ghost use mathlib.Core.List.{map};
 ghost use Prim.Native.Nat.{_+_, _*_, _-_, _<_, _≤_};
-ghost use lib.ListN.{length, take, drop, replicate};
+ghost use lib.ListN.{length, replicate};
 ghost use Rattle.cell.specs.Limits.{portLimit};
 ghost use Rattle.model.specs.Phase.{waiting};
 ghost use Rattle.model.specs.Crossbar.{leaving, departuresOf};
-ghost use Rattle.layout.specs.Table.{tableSize, stateOf, encode, IsTable, entryLimit, entrySize};
+ghost use Rattle.layout.specs.Table.{tableSize, stateOf, encode, IsTable, entryLimit, entrySize, HasEntry};
 ghost use Rattle.layout.specs.Records.{recordStart};
 ghost use Rattle.layout.specs.Answer.{departureSize, answerSize, departureBytes, departuresBytes};
 ghost use Rattle.layout.specs.Host.{filled};
 ghost use Rattle.layout.specs.Entry.{entryAt, portsIn};
+ghost use Rattle.layout.specs.Number.{put};
 ghost use Rattle.places.specs.View.{placesIn};
 ghost use Rattle.places.specs.Viewed.{BestBuffered};
 ghost use Rattle.departure.specs.Departing.{departed, departureAt, Firsts, freeAfter, closedOne};
@@ -27,7 +28,9 @@ pub fn depart(table: &mut [u8], best: &[u16; PORTS], answer: &mut [u8])
     requires { ⌜ IsTable (now table) × BestBuffered (now table) (placesIn (now table)) (now best) ⌝ }
     requires { ⌜ answerSize ≤ length (now answer) ⌝ }
     ensures { λ _. ⌜ now (table .exit) ≡ encode (departed (stateOf (now (table .entry)))) ⌝ }
-    ensures { λ _. ⌜ now (answer .exit) ≡ filled (departuresBytes portLimit (departuresOf (portsIn (now (table .entry))) (leaving (waiting (stateOf (now (table .entry)) .sections))))) (now (answer .entry)) ⌝ }
+    ensures { λ _. ⌜ now (answer .exit)
+        ≡ filled (departuresBytes portLimit (departuresOf (portsIn (now (table .entry)))
+        (leaving (waiting (stateOf (now (table .entry)) .sections))))) (now (answer .entry)) ⌝ }
 {
     send(table, best, answer);
     remove(table, best);
@@ -35,8 +38,11 @@ pub fn depart(table: &mut [u8], best: &[u16; PORTS], answer: &mut [u8])
 
 // The departures of the sixteen outputs.
 fn send(table: &[u8], best: &[u16; PORTS], answer: &mut [u8])
-    requires { ⌜ (length (now table) ≡ tableSize) × (length (now best) ≡ portLimit) × (departureSize * portLimit ≤ length (now answer)) ⌝ }
-    ensures { λ _. ⌜ now (answer .exit) ≡ filled (departuresBytes portLimit (map (departureAt (now (table .entry))) (now (best .entry)))) (now (answer .entry)) ⌝ }
+    requires { ⌜ (length (now table) ≡ tableSize) × (length (now best) ≡ portLimit)
+        × (departureSize * portLimit ≤ length (now answer)) ⌝ }
+    ensures { λ _. ⌜ now (answer .exit)
+        ≡ filled (departuresBytes portLimit (map (departureAt (now (table .entry))) (now (best .entry))))
+        (now (answer .entry)) ⌝ }
 {
     let mut output = 0;
     while output < PORTS {
@@ -48,7 +54,8 @@ fn send(table: &[u8], best: &[u16; PORTS], answer: &mut [u8])
 // The departure of one output.
 fn send_one(table: &[u8], number: u16, answer: &mut [u8], at: usize)
     requires { ⌜ (length (now table) ≡ tableSize) × (at + departureSize ≤ length (now answer)) ⌝ }
-    ensures { λ _. ⌜ now (answer .exit) ≡ take at (now (answer .entry)) ++ (departureBytes (departureAt (now (table .entry)) number) ++ drop (at + departureSize) (now (answer .entry))) ⌝ }
+    ensures { λ _. ⌜ now (answer .exit)
+        ≡ put at departureSize (departureBytes (departureAt (now (table .entry)) number)) (now (answer .entry)) ⌝ }
 {
     if number >= NOWHERE {
         answer::write_none(answer, at);
@@ -147,8 +154,8 @@ fn clear(table: &mut [u8], from: usize, to: usize)
 }
 
 fn clear_one(table: &mut [u8], k: usize)
-    requires { ⌜ (length (now table) ≡ tableSize) × (k < entryLimit) ⌝ }
-    ensures { λ _. ⌜ now (table .exit) ≡ take (recordStart k) (now (table .entry)) ++ (replicate entrySize 0 ++ drop (recordStart k + entrySize) (now (table .entry))) ⌝ }
+    requires { ⌜ HasEntry (now table) k ⌝ }
+    ensures { λ _. ⌜ now (table .exit) ≡ put (recordStart k) entrySize (replicate entrySize 0) (now (table .entry)) ⌝ }
 {
     let at = table::entry::start_of(k);
     layout::word::write_u64(table, at, 0);

@@ -39,7 +39,8 @@ pub fn run(
     requires { ⌜ IsTable (now table) × (answerSize ≤ length (now answer)) ⌝ }
     requires { ⌜ SetsOf (now table) (placesIn (now table)) (now listed) (now heads) (now crossed) (now buffered) ⌝ }
     ensures { λ _. ⌜ now (table .exit) ≡ encode (courseOf (stateOf (now (table .entry))) .switch) ⌝ }
-    ensures { λ _. ⌜ now (answer .exit) ≡ filled (answerBytes (answerOf (courseOf (stateOf (now (table .entry)))))) (now (answer .entry)) ⌝ }
+    ensures { λ _. ⌜ now (answer .exit)
+        ≡ filled (answerBytes (answerOf (courseOf (stateOf (now (table .entry)))))) (now (answer .entry)) ⌝ }
 {
     let mut best = [NOWHERE; PORTS];
     let proposals = schedule(table, listed, heads, crossed, buffered, &mut best);
@@ -59,7 +60,8 @@ fn schedule(
 ) -> Proposals
     requires { ⌜ IsTable (now table) × (now best ≡ replicate portLimit nowhere) ⌝ }
     requires { ⌜ SetsOf (now table) (placesIn (now table)) (now listed) (now heads) (now crossed) (now buffered) ⌝ }
-    ensures { λ r. ⌜ Scheduled (stateOf (now (table .entry))) (now (table .exit)) (now (best .exit)) (r .first) (r .second) ⌝ }
+    ensures { λ r. ⌜ Scheduled (stateOf (now (table .entry))) (now (table .exit)) (now (best .exit)) (r .first)
+        (r .second) ⌝ }
 {
     let mut cross = [[NOWHERE; PORTS]; PORTS];
     let mut keys = [[NO_KEY; PORTS]; PORTS];

@@ -4,6 +4,7 @@ use Prim.Native.Nat.{ℕ, _+_, _*_}
 use mathlib.Core.Bool.{Bool, true, false}
 use mathlib.Core.List.{List, _++_}
 use mathlib.Core.Option.{Option, none, some}
+use mathlib.Core.Path.{_≡_}
 use lib.Dec.{ltb, eqb}
 use lib.ListN.{length, drop}
 use Rattle.cell.specs.declared.Arrival.{Arrival}
@@ -73,3 +74,10 @@ tallyBytesAfter arrivals tally o =
       | true ↦ tallyBytes (tallyAfter (arrivalCount (recordsOf arrivals)) o (tallyOf tally))
       | false ↦ tally
     ]
+
+-- what a slot call that comes to this leaves: its result, the table, the answer's buffer and the tally
+abbrev pub CallLeaves : Outcome Course → List ℕ → List ℕ → List ℕ → List ℕ → ℕ → List ℕ → List ℕ → List ℕ → Type 0
+CallLeaves o table arrivals answer tally result table′ answer′ tally′ =
+    (result ≡ resultOf o)
+    × ((table′ ≡ tableAfter table o)
+    × ((answer′ ≡ answerAfter answer o) × (tally′ ≡ tallyBytesAfter arrivals tally o)))

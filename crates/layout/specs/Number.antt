@@ -1,7 +1,7 @@
 -- Numbers as bytes, the least significant byte first.
 use Prim.Native.Nat.{ℕ, zero, suc, _+_, _*_, _/_, _%_}
 use mathlib.Core.Bool.{Bool, true, false, _&&_}
-use mathlib.Core.List.{List, [], _∷_}
+use mathlib.Core.List.{List, [], _∷_, _++_}
 use lib.Dec.{eqb}
 use lib.ListN.{take, drop, getD}
 
@@ -28,3 +28,7 @@ sameBytes [] [] = true
 sameBytes [] (c ∷ cs) = false
 sameBytes (b ∷ bs) [] = false
 sameBytes (b ∷ bs) (c ∷ cs) = eqb b c && sameBytes bs cs
+
+-- bytes at a place of a byte string, the others kept
+abbrev pub put : ℕ → ℕ → List ℕ → List ℕ → List ℕ
+put at width bs old = take at old ++ (bs ++ drop (at + width) old)

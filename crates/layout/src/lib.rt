@@ -1,5 +1,5 @@
-// The bytes of the table, of the arrivals, of the answer and of the tally: definitions in specs/ and laws in proofs/. Here
-// are their sizes, for all code that reads or writes them, each made of the others.
+// The bytes of the table, of the arrivals, of the answer and of the tally: definitions in specs/ and laws in proofs/.
+// Here are their sizes, for all code that reads or writes them, each made of the others.
 pub mod word;
 
 use cell::Switch;
@@ -31,8 +31,8 @@ pub const SECOND_PROPOSALS: usize = FIRST_PROPOSALS + 4;
 
 pub const ANSWER_BYTES: usize = SECOND_PROPOSALS + 4;
 
-// The bytes of an arrival's record, and how many records are looked at: the inputs of a list rise, so that one more than
-// there are ports has a fault or stands behind one.
+// The bytes of an arrival's record, and how many records are looked at: the inputs of a list rise, so that one more
+// than there are ports has a fault or stands behind one.
 pub const ARRIVAL_BYTES: usize = 20;
 
 pub const HELD: usize = PORTS + 1;

@@ -1,10 +1,9 @@
 // Numbers in a byte string, the least significant byte first. Each width is two of the next smaller one.
 // A caller shows that the bytes are there.
 ghost use mathlib.Core.Path.{_≡_};
-ghost use mathlib.Core.List.{_++_};
 ghost use Prim.Native.Nat.{_+_, _≤_};
-ghost use lib.ListN.{length, take, drop};
-ghost use Rattle.layout.specs.Number.{word, numberAt, bytesOf};
+ghost use lib.ListN.{length};
+ghost use Rattle.layout.specs.Number.{word, numberAt, bytesOf, put};
 
 // The number of 32 bits at a place.
 pub fn read_u32(bytes: &[u8], at: usize) -> u32
@@ -25,7 +24,7 @@ pub fn read_u64(bytes: &[u8], at: usize) -> u64
 // Puts a number of 32 bits at a place.
 pub fn write_u32(bytes: &mut [u8], at: usize, n: u32)
     requires { ⌜ at + 4 ≤ length (now bytes) ⌝ }
-    ensures { λ _. ⌜ now (bytes .exit) ≡ take at (now (bytes .entry)) ++ (bytesOf 4 n ++ drop (at + 4) (now (bytes .entry))) ⌝ }
+    ensures { λ _. ⌜ now (bytes .exit) ≡ put at 4 (bytesOf 4 n) (now (bytes .entry)) ⌝ }
 {
     write_u16(bytes, at, (n % 65536) as u16);
     write_u16(bytes, at + 2, (n / 65536) as u16);
@@ -34,7 +33,7 @@ pub fn write_u32(bytes: &mut [u8], at: usize, n: u32)
 // Puts a number of 64 bits at a place.
 pub fn write_u64(bytes: &mut [u8], at: usize, n: u64)
     requires { ⌜ at + 8 ≤ length (now bytes) ⌝ }
-    ensures { λ _. ⌜ now (bytes .exit) ≡ take at (now (bytes .entry)) ++ (bytesOf 8 n ++ drop (at + 8) (now (bytes .entry))) ⌝ }
+    ensures { λ _. ⌜ now (bytes .exit) ≡ put at 8 (bytesOf 8 n) (now (bytes .entry)) ⌝ }
 {
     write_u32(bytes, at, (n % 4294967296) as u32);
     write_u32(bytes, at + 4, (n / 4294967296) as u32);
@@ -49,7 +48,7 @@ fn read_u16(bytes: &[u8], at: usize) -> u16
 
 fn write_u16(bytes: &mut [u8], at: usize, n: u16)
     requires { ⌜ at + 2 ≤ length (now bytes) ⌝ }
-    ensures { λ _. ⌜ now (bytes .exit) ≡ take at (now (bytes .entry)) ++ (bytesOf 2 n ++ drop (at + 2) (now (bytes .entry))) ⌝ }
+    ensures { λ _. ⌜ now (bytes .exit) ≡ put at 2 (bytesOf 2 n) (now (bytes .entry)) ⌝ }
 {
     bytes[at] = (n % 256) as u8;
     bytes[at + 1] = (n / 256) as u8;

@@ -28,7 +28,7 @@ use Rattle.arrival.proofs.Stored.{table-sound}
 use Rattle.fabric.specs.Slot.{courseOf, refusalOf}
 use Rattle.lent.specs.declared.running.Ended.{Ended}
 use Rattle.tally.specs.Counted.{countedAs}
-use Rattle.lent.specs.Ended.{takenOutcome, endedOf}
+use Rattle.lent.specs.Ended.{takenOutcome, endedOf, RunLeaves}
 use Rattle.lent.specs.Looked.{recordsSlot}
 use Rattle.lent.specs.Taken.{Taken}
 use Rattle.answer.proofs.Departures.{sent-filled}
@@ -36,14 +36,9 @@ use Rattle.answer.proofs.Departures.{sent-filled}
 ------------------------------------------------------------------------
 -- the code
 
--- what it answers, and the table and the answer that it leaves
-abbrev pub Leaves : List ℕ → List ℕ → Outcome Course → Ended → List ℕ → List ℕ → Type 0
-Leaves table answer o ended table′ answer′ =
-    (ended ≡ endedOf o) × ((table′ ≡ tableAfter table o) × (answer′ ≡ answerAfter answer o))
-
 module _ (table answer : List ℕ) (f : Fault) where
   pub ended-refused : {r : Refusal} {place : ℕ} → f ≡ At r place
-      → Leaves table answer (takenOutcome table f) (record { fault = f; ran = false; departures = 0 }) table answer
+      → RunLeaves (takenOutcome table f) table answer (record { fault = f; ran = false; departures = 0 }) table answer
   unfolding takenOutcome endedOf tableAfter answerAfter
   ended-refused e = rw e (refl, (refl, refl))
 
@@ -57,7 +52,7 @@ module _ (table answer : List ℕ) (f : Fault) where
   pub ended-ran : f ≡ Clear → IsTable table → (table′ answer′ : List ℕ) (sent : ℕ)
       → table′ ≡ encode (courseOf (stateOf table) .switch)
       → answer′ ≡ filled (answerBytes (answerOf (courseOf (stateOf table)))) answer → sent ≡ sentIn answer′
-      → Leaves table answer (takenOutcome table f) (record { fault = f; ran = true; departures = sent }) table′ answer′
+      → RunLeaves (takenOutcome table f) table answer (record { fault = f; ran = true; departures = sent }) table′ answer′
   unfolding takenOutcome endedOf tableAfter answerAfter
   ended-ran e t table′ answer′ sent p q d =
       let out : sent ≡ count isSent (courseOf (stateOf table) .departures) =
@@ -103,8 +98,8 @@ module _ (table : List ℕ) (room : ℕ) (records : List Arrival) where
 
 module _ (table : List ℕ) (records : List Arrival) (answer : List ℕ) (f : Fault) (new : List ℕ)
     (h : Taken table (length answer) records f new) where
-  pub taken-ended : (ended : Ended) (table′ answer′ : List ℕ) → Leaves new answer (takenOutcome new f) ended table′ answer′
-      → Leaves table answer (recordsSlot table (length answer) records) ended table′ answer′
+  pub taken-ended : (ended : Ended) (table′ answer′ : List ℕ) → RunLeaves (takenOutcome new f) new answer ended table′ answer′
+      → RunLeaves (recordsSlot table (length answer) records) table answer ended table′ answer′
   taken-ended ended table′ answer′ (e, (t, a)) =
       let same : takenOutcome new f ≡ recordsSlot table (length answer) records =
       taken-outcome table (length answer) records f new h in (

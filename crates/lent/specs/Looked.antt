@@ -12,18 +12,24 @@ use Rattle.model.specs.Checks.{Outcome, refused, faultFrom, firstFault}
 use Rattle.model.specs.Crossbar.{Course}
 use Rattle.layout.specs.Answer.{answerSize}
 use Rattle.layout.specs.Entry.{portsIn, clockIn}
-use Rattle.layout.specs.Host.{slotOf}
+use Rattle.layout.specs.Host.{slotOf, tableAfter, answerAfter}
 use Rattle.layout.specs.Table.{stateOf, decode, IsTable}
 use Rattle.layout.specs.TallyBytes.{tallySize}
 use Rattle.cell.specs.declared.Fault.{Fault}
 use Rattle.cell.specs.declared.Fault.the-variants.{Clear, At}
 use Rattle.arrival.specs.Arrival.{Arriving}
 use Rattle.arrival.specs.Fault.{coming, turnAfter}
+use Rattle.fabric.specs.Slot.{refusalOf}
 use Rattle.lent.specs.declared.records.Checked.{Checked}
 
 -- what a slot on a lent table, on lent records and with so much room for the answer comes to
 unfoldable pub recordsSlot : List ℕ → ℕ → List Arrival → Outcome Course
 recordsSlot table room records = slotOf (decode table) (some records) room tallySize
+
+-- what a slot that comes to this leaves where nothing is counted: its refusal, the table and the answer's buffer
+abbrev pub SoundLeaves : Outcome Course → List ℕ → List ℕ → Fault → List ℕ → List ℕ → Type 0
+SoundLeaves o table answer fault table′ answer′ =
+    (fault ≡ refusalOf o) × ((table′ ≡ tableAfter table o) × (answer′ ≡ answerAfter answer o))
 
 -- so many records are looked at
 abbrev pub heldLimit : ℕ

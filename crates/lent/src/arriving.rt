@@ -20,7 +20,7 @@ ghost use Rattle.lent.specs.Taken.{Begun, Entered, SetsIf, Taken};
 
 // Looks at the first of the held records, after what was found before them, and lets their cells arrive. Behind a fault
 // the table is as it was. The sets of its cells by place follow it.
-pub fn take_held(
+pub(crate) fn take_held(
     table: &mut [u8],
     listed: &mut [u64; PORTS],
     heads: &mut [u64; PORTS],

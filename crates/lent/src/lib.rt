@@ -21,23 +21,28 @@ use tally::count;
 ghost use mathlib.Core.Path.{_≡_};
 ghost use Prim.Native.Nat.{_≤_, min};
 ghost use lib.ListN.{length, take};
-ghost use Rattle.model.specs.Tally.{tallyAfter};
 ghost use Rattle.layout.specs.Answer.{answerSize};
-ghost use Rattle.layout.specs.Host.{tableAfter, answerAfter};
 ghost use Rattle.layout.specs.Table.{IsTable};
+ghost use Rattle.model.specs.Tally.{tallyAfter};
+ghost use Rattle.layout.specs.Host.{tableAfter, answerAfter};
 ghost use Rattle.fabric.specs.Slot.{refusalOf};
 ghost use Rattle.lent.specs.Ended.{endedOf};
-ghost use Rattle.lent.specs.Looked.{recordsSlot, heldLimit};
+ghost use Rattle.lent.specs.Looked.{recordsSlot, SoundLeaves, heldLimit};
 
-// Takes a slot on the lent table with the lent records. The table is then the one after the slot, the first bytes of the
-// answer's buffer are its answer, and the tally counts it. A refusal is the first one of: 2, the table is broken; 10, the
-// buffer is too short for the answer; 3, the clock's end; record by record 4 to 8. A refusal keeps the table and the
-// buffer, and the tally counts a refused slot.
+// Takes a slot on the lent table with the lent records. The table is then the one after the slot, the first bytes of
+// the answer's buffer are its answer, and the tally counts it. A refusal is the first one of: 2, the table is broken;
+// 10, the buffer is too short for the answer; 3, the clock's end; record by record 4 to 8. A refusal keeps the table
+// and the buffer, and the tally counts a refused slot.
 pub fn slot(table: &mut [u8], records: &[Arrival], answer: &mut [u8], tally: &mut Tally) -> Fault
-    ensures { λ r. ⌜ r ≡ refusalOf (recordsSlot (now (table .entry)) (length (now (answer .entry))) (now (records .entry))) ⌝ }
-    ensures { λ _. ⌜ now (table .exit) ≡ tableAfter (now (table .entry)) (recordsSlot (now (table .entry)) (length (now (answer .entry))) (now (records .entry))) ⌝ }
-    ensures { λ _. ⌜ now (answer .exit) ≡ answerAfter (now (answer .entry)) (recordsSlot (now (table .entry)) (length (now (answer .entry))) (now (records .entry))) ⌝ }
-    ensures { λ _. ⌜ now (tally .exit) ≡ tallyAfter (length (now (records .entry))) (recordsSlot (now (table .entry)) (length (now (answer .entry))) (now (records .entry))) (now (tally .entry)) ⌝ }
+    ensures { λ r. ⌜ r
+        ≡ refusalOf (recordsSlot (now (table .entry)) (length (now (answer .entry))) (now (records .entry))) ⌝ }
+    ensures { λ _. ⌜ now (table .exit) ≡ tableAfter (now (table .entry))
+        (recordsSlot (now (table .entry)) (length (now (answer .entry))) (now (records .entry))) ⌝ }
+    ensures { λ _. ⌜ now (answer .exit) ≡ answerAfter (now (answer .entry))
+        (recordsSlot (now (table .entry)) (length (now (answer .entry))) (now (records .entry))) ⌝ }
+    ensures { λ _. ⌜ now (tally .exit) ≡ tallyAfter (length (now (records .entry)))
+        (recordsSlot (now (table .entry)) (length (now (answer .entry))) (now (records .entry)))
+        (now (tally .entry)) ⌝ }
 {
     let many: usize = records.len();
     let held: [Arrival; HELD] = hold(records);
@@ -72,9 +77,12 @@ fn hold(records: &[Arrival]) -> [Arrival; HELD]
 // The slot with the first of the held records, and what came of it; the tally is not counted in.
 fn run_held(table: &mut [u8], held: [Arrival; HELD], number: usize, answer: &mut [u8]) -> Ended
     requires { ⌜ number ≤ heldLimit ⌝ }
-    ensures { λ r. ⌜ r ≡ endedOf (recordsSlot (now (table .entry)) (length (now (answer .entry))) (take number held)) ⌝ }
-    ensures { λ _. ⌜ now (table .exit) ≡ tableAfter (now (table .entry)) (recordsSlot (now (table .entry)) (length (now (answer .entry))) (take number held)) ⌝ }
-    ensures { λ _. ⌜ now (answer .exit) ≡ answerAfter (now (answer .entry)) (recordsSlot (now (table .entry)) (length (now (answer .entry))) (take number held)) ⌝ }
+    ensures { λ r. ⌜ r
+        ≡ endedOf (recordsSlot (now (table .entry)) (length (now (answer .entry))) (take number held)) ⌝ }
+    ensures { λ _. ⌜ now (table .exit) ≡ tableAfter (now (table .entry))
+        (recordsSlot (now (table .entry)) (length (now (answer .entry))) (take number held)) ⌝ }
+    ensures { λ _. ⌜ now (answer .exit) ≡ answerAfter (now (answer .entry))
+        (recordsSlot (now (table .entry)) (length (now (answer .entry))) (take number held)) ⌝ }
 {
     let mut listed = [0u64; PORTS];
     let mut heads = [0u64; PORTS];
@@ -115,8 +123,8 @@ pub struct Called {
     pub tally: Tally,
 }
 
-// The same slot for a caller that holds the first records and the tally by value: whoever calls it needs no reference to
-// a struct.
+// The same slot for a caller that holds the first records and the tally by value: whoever calls it needs no reference
+// to a struct.
 pub fn slot_of(
     table: &mut [u8],
     records: [Arrival; HELD],
@@ -125,10 +133,14 @@ pub fn slot_of(
     tally: Tally,
 ) -> Called
     requires { ⌜ many ≤ heldLimit ⌝ }
-    ensures { λ r. ⌜ r .fault ≡ refusalOf (recordsSlot (now (table .entry)) (length (now (answer .entry))) (take many records)) ⌝ }
-    ensures { λ r. ⌜ r .tally ≡ tallyAfter many (recordsSlot (now (table .entry)) (length (now (answer .entry))) (take many records)) tally ⌝ }
-    ensures { λ _. ⌜ now (table .exit) ≡ tableAfter (now (table .entry)) (recordsSlot (now (table .entry)) (length (now (answer .entry))) (take many records)) ⌝ }
-    ensures { λ _. ⌜ now (answer .exit) ≡ answerAfter (now (answer .entry)) (recordsSlot (now (table .entry)) (length (now (answer .entry))) (take many records)) ⌝ }
+    ensures { λ r. ⌜ r .fault
+        ≡ refusalOf (recordsSlot (now (table .entry)) (length (now (answer .entry))) (take many records)) ⌝ }
+    ensures { λ r. ⌜ r .tally ≡ tallyAfter many
+        (recordsSlot (now (table .entry)) (length (now (answer .entry))) (take many records)) tally ⌝ }
+    ensures { λ _. ⌜ now (table .exit) ≡ tableAfter (now (table .entry))
+        (recordsSlot (now (table .entry)) (length (now (answer .entry))) (take many records)) ⌝ }
+    ensures { λ _. ⌜ now (answer .exit) ≡ answerAfter (now (answer .entry))
+        (recordsSlot (now (table .entry)) (length (now (answer .entry))) (take many records)) ⌝ }
 {
     let mut counts: Tally = tally;
     let fault: Fault = slot(table, &records[..many], answer, &mut counts);
@@ -148,9 +160,8 @@ pub fn sound_slot(
     requires { ⌜ IsTable (now table) ⌝ }
     requires { ⌜ answerSize ≤ length (now answer) ⌝ }
     requires { ⌜ many ≤ heldLimit ⌝ }
-    ensures { λ r. ⌜ r ≡ refusalOf (recordsSlot (now (table .entry)) (length (now (answer .entry))) (take many records)) ⌝ }
-    ensures { λ _. ⌜ now (table .exit) ≡ tableAfter (now (table .entry)) (recordsSlot (now (table .entry)) (length (now (answer .entry))) (take many records)) ⌝ }
-    ensures { λ _. ⌜ now (answer .exit) ≡ answerAfter (now (answer .entry)) (recordsSlot (now (table .entry)) (length (now (answer .entry))) (take many records)) ⌝ }
+    ensures { λ r. ⌜ SoundLeaves (recordsSlot (now (table .entry)) (length (now (answer .entry))) (take many records))
+        (now (table .entry)) (now (answer .entry)) r (now (table .exit)) (now (answer .exit)) ⌝ }
 {
     let mut listed = [0u64; PORTS];
     let mut heads = [0u64; PORTS];

@@ -25,7 +25,7 @@ pub struct Checked {
 }
 
 // Looks at the first of the held records one by one, after what was found before them.
-pub fn check_records(
+pub(crate) fn check_records(
     table: &[u8],
     before: Checked,
     records: [Arrival; HELD],
@@ -47,7 +47,7 @@ pub fn check_records(
 
 // How many of so many records are looked at. Inputs rise and are below 16, so that the seventeenth record, if there is
 // one, has a fault or stands behind one.
-pub fn few(count: usize) -> usize
+pub(crate) fn few(count: usize) -> usize
     ensures { λ r. ⌜ r ≡ min count heldLimit ⌝ }
 {
     if count < HELD {
@@ -57,7 +57,7 @@ pub fn few(count: usize) -> usize
 }
 
 // What is found before any record is looked at. The check of the table sorts its cells by place.
-pub fn before_records(
+pub(crate) fn before_records(
     table: &[u8],
     room: usize,
     listed: &mut [u64; PORTS],
@@ -73,8 +73,9 @@ pub fn before_records(
 }
 
 // No record has been looked at.
-pub fn none_checked(fault: Fault) -> Checked
-    ensures { λ r. ⌜ ((table : List ℕ) (room : ℕ) (records : List Arrival) → Before table room fault → Looked table room records 0 r) ⌝ }
+pub(crate) fn none_checked(fault: Fault) -> Checked
+    ensures { λ r. ⌜ ((table : List ℕ) (room : ℕ) (records : List Arrival) → Before table room fault
+        → Looked table room records 0 r) ⌝ }
 {
     Checked { fault, turn: 0 }
 }
@@ -102,7 +103,7 @@ fn first_refusal(
 }
 
 // 3.
-pub fn clock_refusal(table: &[u8]) -> Fault
+pub(crate) fn clock_refusal(table: &[u8]) -> Fault
     requires { ⌜ IsTable (now table) ⌝ }
     ensures { λ r. ⌜ ((room : ℕ) → answerSize ≤ room → Before (now (table .entry)) room r) ⌝ }
 {

@@ -6,11 +6,10 @@ ghost use mathlib.Core.Path.{_≡_};
 ghost use Prim.Native.Nat.{_≤_};
 ghost use lib.ListN.{length};
 ghost use Rattle.layout.specs.Answer.{answerSize};
-ghost use Rattle.layout.specs.Host.{tableAfter, answerAfter};
 ghost use Rattle.layout.specs.Table.{IsTable};
 ghost use Rattle.cell.specs.declared.Fault.the-variants.{Clear};
 ghost use Rattle.lent.specs.Taken.{SetsIf};
-ghost use Rattle.lent.specs.Ended.{takenOutcome, endedOf};
+ghost use Rattle.lent.specs.Ended.{takenOutcome, RunLeaves};
 
 // What came of a slot: its refusal if it is turned back, and its departures if it ran.
 pub struct Ended {
@@ -19,9 +18,9 @@ pub struct Ended {
     pub departures: u64,
 }
 
-// Runs the slot from the table after its arrivals, with the sets of its cells by place, if no fault was found; else nothing
-// is written.
-pub fn run_taken(
+// Runs the slot from the table after its arrivals, with the sets of its cells by place, if no fault was found; else
+// nothing is written.
+pub(crate) fn run_taken(
     table: &mut [u8],
     listed: &mut [u64; PORTS],
     heads: &mut [u64; PORTS],
@@ -32,9 +31,8 @@ pub fn run_taken(
 ) -> Ended
     requires { ⌜ (fault ≡ Clear → IsTable (now table) × (answerSize ≤ length (now answer))) ⌝ }
     requires { ⌜ SetsIf (now table) (now listed) (now heads) (now crossed) (now buffered) ⌝ }
-    ensures { λ r. ⌜ r ≡ endedOf (takenOutcome (now (table .entry)) fault) ⌝ }
-    ensures { λ _. ⌜ now (table .exit) ≡ tableAfter (now (table .entry)) (takenOutcome (now (table .entry)) fault) ⌝ }
-    ensures { λ _. ⌜ now (answer .exit) ≡ answerAfter (now (answer .entry)) (takenOutcome (now (table .entry)) fault) ⌝ }
+    ensures { λ r. ⌜ RunLeaves (takenOutcome (now (table .entry)) fault)
+        (now (table .entry)) (now (answer .entry)) r (now (table .exit)) (now (answer .exit)) ⌝ }
 {
     let Fault::Clear = fault else {
         return Ended {

@@ -1,6 +1,7 @@
-// The view of a table, which a slot makes once: the cells of each input by their places, as sets, with the heads of its
-// list; then from these the crosspoints with the keys of their cells, and the best cell in each output's buffer. One pass
-// over each input's entries sorts them; what is asked of each place is a loop over its set.
+// The view of a table, which a slot makes once: the cells of each input by their places, as sets, with the heads of
+// its list; then from these the crosspoints with the keys of their cells, and the best cell in each output's buffer.
+// What is asked of each place is a loop over its set. The check hands the sets on; for a table that was not checked
+// one pass over each input's entries makes them.
 use layout::CELLS;
 use layout::PORTS;
 use places::NO_KEY;
@@ -64,8 +65,10 @@ pub fn load(
     best: &mut [u16; PORTS],
 )
     requires { ⌜ IsTable (now table) ⌝ }
-    requires { ⌜ ((input : ℕ) → input < portLimit → getD (now crossed) input 0 ≡ crossedSet (now table) (placesIn (now table)) input) ⌝ }
-    requires { ⌜ ((input : ℕ) → input < portLimit → getD (now buffered) input 0 ≡ bufferedSet (now table) (placesIn (now table)) input) ⌝ }
+    requires { ⌜ ((input : ℕ) → input < portLimit → getD (now crossed) input 0
+        ≡ crossedSet (now table) (placesIn (now table)) input) ⌝ }
+    requires { ⌜ ((input : ℕ) → input < portLimit → getD (now buffered) input 0
+        ≡ bufferedSet (now table) (placesIn (now table)) input) ⌝ }
     requires { ⌜ Blank (now cross) (now keys) (now best) ⌝ }
     ensures { λ _. ⌜ Occupied (now (table .entry)) (now (cross .exit)) (now (keys .exit)) (now (best .exit)) ⌝ }
 {
@@ -84,7 +87,8 @@ pub fn load(
 fn sort(table: &[u8], input: usize) -> Places
     requires { ⌜ IsTable (now table) ⌝ }
     requires { ⌜ input < portsIn (now table) ⌝ }
-    ensures { λ r. ⌜ Sorted (now (table .entry)) (placesIn (now (table .entry))) input (r .listed) (r .crossed) (r .buffered) ⌝ }
+    ensures { λ r. ⌜ Sorted (now (table .entry)) (placesIn (now (table .entry))) input (r .listed) (r .crossed)
+        (r .buffered) ⌝ }
 {
     let first = CELLS * input;
     let mut low = 0;
@@ -136,7 +140,8 @@ fn load_crossed(
     requires { ⌜ input < portsIn (now table) ⌝ }
     requires { ⌜ crossed ≡ crossedSet (now table) (placesIn (now table)) input ⌝ }
     requires { ⌜ CrossedBelow (now table) (placesIn (now table)) (sectionRoom * input) (now cross) (now keys) ⌝ }
-    ensures { λ _. ⌜ CrossedBelow (now (table .entry)) (placesIn (now (table .entry))) (sectionRoom * (input + 1)) (now (cross .exit)) (now (keys .exit)) ⌝ }
+    ensures { λ _. ⌜ CrossedBelow (now (table .entry)) (placesIn (now (table .entry))) (sectionRoom * (input + 1))
+        (now (cross .exit)) (now (keys .exit)) ⌝ }
 {
     let mut left = crossed;
     while left != 0 {
@@ -155,7 +160,8 @@ fn cross_cell(
     requires { ⌜ IsTable (now table) ⌝ }
     requires { ⌜ Crossed (now table) (placesIn (now table)) k ⌝ }
     requires { ⌜ CrossedBelow (now table) (placesIn (now table)) k (now cross) (now keys) ⌝ }
-    ensures { λ _. ⌜ CrossedBelow (now (table .entry)) (placesIn (now (table .entry))) (k + 1) (now (cross .exit)) (now (keys .exit)) ⌝ }
+    ensures { λ _. ⌜ CrossedBelow (now (table .entry)) (placesIn (now (table .entry))) (k + 1) (now (cross .exit))
+        (now (keys .exit)) ⌝ }
 {
     let input = k / CELLS;
     let output = table::entry::output_of(table, k) as usize;
@@ -175,7 +181,8 @@ fn load_buffered(
     requires { ⌜ input < portsIn (now table) ⌝ }
     requires { ⌜ buffered ≡ bufferedSet (now table) (placesIn (now table)) input ⌝ }
     requires { ⌜ BestBelow (now table) (placesIn (now table)) (sectionRoom * input) (now best) (now rivals) ⌝ }
-    ensures { λ _. ⌜ BestBelow (now (table .entry)) (placesIn (now (table .entry))) (sectionRoom * (input + 1)) (now (best .exit)) (now (rivals .exit)) ⌝ }
+    ensures { λ _. ⌜ BestBelow (now (table .entry)) (placesIn (now (table .entry))) (sectionRoom * (input + 1))
+        (now (best .exit)) (now (rivals .exit)) ⌝ }
 {
     let mut left = buffered;
     while left != 0 {
@@ -190,7 +197,8 @@ fn choose_cell(table: &[u8], k: usize, best: &mut [u16; PORTS], rivals: &mut [u6
     requires { ⌜ IsTable (now table) ⌝ }
     requires { ⌜ Buffered (now table) (placesIn (now table)) (entryAt (now table) k .cell .output) k ⌝ }
     requires { ⌜ BestBelow (now table) (placesIn (now table)) k (now best) (now rivals) ⌝ }
-    ensures { λ _. ⌜ BestBelow (now (table .entry)) (placesIn (now (table .entry))) (k + 1) (now (best .exit)) (now (rivals .exit)) ⌝ }
+    ensures { λ _. ⌜ BestBelow (now (table .entry)) (placesIn (now (table .entry))) (k + 1) (now (best .exit))
+        (now (rivals .exit)) ⌝ }
 {
     let output = table::entry::output_of(table, k) as usize;
     let key = table::entry::key_of(table, k);

@@ -19,7 +19,7 @@ ghost use Prim.Native.Nat.{_<_};
 ghost use lib.ListN.{length};
 ghost use Rattle.cell.specs.Limits.{portLimit};
 ghost use Rattle.layout.specs.Entry.{entryAt};
-ghost use Rattle.layout.specs.Table.{tableSize, encode, stateOf, IsTable, entryLimit};
+ghost use Rattle.layout.specs.Table.{tableSize, encode, stateOf, IsTable, entryLimit, HasEntry};
 ghost use Rattle.table.specs.Entries.{nowhere};
 ghost use Rattle.places.specs.Scan.{Bests};
 ghost use Rattle.places.specs.View.{Square};
@@ -34,8 +34,9 @@ struct Marks {
     outputs: [bool; PORTS],
 }
 
-// Rules 5 and 6: the straight cells go, then the inputs send, then the outputs take. `best` has the best buffered cell of
-// each output, `choice.best` the best crosspoint cell before anything moves, and `held` the match of each output.
+// Rules 5 and 6: the straight cells go, then the inputs send, then the outputs take. `best` has the best buffered
+// cell of each output, `choice.best` the best crosspoint cell before anything moves, and `held` the match of each
+// output.
 pub fn move_cells(
     table: &mut [u8],
     listed: &mut [u64; PORTS],
@@ -108,8 +109,8 @@ fn go_straight(
     Marks { inputs, outputs }
 }
 
-// Rule 5: every input without a straight cell sends its scheduled cell to the crosspoint, where it may be the best of its
-// output: `best` has the best crosspoint cell of each.
+// Rule 5: every input without a straight cell sends its scheduled cell to the crosspoint, where it may be the best of
+// its output: `best` has the best crosspoint cell of each.
 fn send_scheduled(
     table: &mut [u8],
     listed: &mut [u64; PORTS],
@@ -136,8 +137,8 @@ fn send_scheduled(
     }
 }
 
-// Rule 6: every output without a straight cell takes the best cell at its crosspoints, `crossed`, to its buffer, whose best
-// cell is in `best`.
+// Rule 6: every output without a straight cell takes the best cell at its crosspoints, `crossed`, to its buffer,
+// whose best cell is in `best`.
 fn pull_best(
     table: &mut [u8],
     cross: &mut [[u16; PORTS]; PORTS],
@@ -146,7 +147,8 @@ fn pull_best(
     crossed: &[u16; PORTS],
     straight: &[bool; PORTS],
 )
-    requires { ⌜ (length (now table) ≡ tableSize) × (length (now best) ≡ portLimit) × Square (now cross) × Square (now keys) ⌝ }
+    requires { ⌜ (length (now table) ≡ tableSize) × (length (now best) ≡ portLimit) × Square (now cross)
+        × Square (now keys) ⌝ }
     requires { ⌜ AllBound (now table) (takeOf (now straight) (now crossed)) ⌝ }
     ensures { λ _. ⌜ Pulled (takeOf (now (straight .entry)) (now (crossed .entry))) portLimit
         (now (table .entry)) (now (table .exit)) (now (cross .entry)) (now (cross .exit))
@@ -266,7 +268,8 @@ fn pull(
     number: u16,
     output: usize,
 )
-    requires { ⌜ (length (now table) ≡ tableSize) × (length (now best) ≡ portLimit) × Square (now cross) × Square (now keys) ⌝ }
+    requires { ⌜ (length (now table) ≡ tableSize) × (length (now best) ≡ portLimit) × Square (now cross)
+        × Square (now keys) ⌝ }
     requires { ⌜ Bound (now table) number × (output < portLimit) ⌝ }
     ensures { λ _. ⌜ Taken (now (table .entry)) number output (now (table .exit))
         (now (cross .entry)) (now (cross .exit)) (now (keys .entry)) (now (keys .exit))
@@ -310,7 +313,8 @@ fn enter(table: &[u8], best: &mut [u16; PORTS], number: u16)
 
 // A head leaves the list of its input.
 fn leave_list(table: &[u8], listed: &mut [u64; PORTS], heads: &mut [u64; PORTS], k: usize)
-    requires { ⌜ (length (now table) ≡ tableSize) × (length (now listed) ≡ portLimit) × (length (now heads) ≡ portLimit) × (k < entryLimit) ⌝ }
+    requires { ⌜ (length (now table) ≡ tableSize) × (length (now listed) ≡ portLimit) × (length (now heads) ≡ portLimit)
+        × (k < entryLimit) ⌝ }
     ensures { λ _. ⌜ now (listed .exit) ≡ left (now (listed .entry)) k ⌝ }
     ensures { λ _. ⌜ now (heads .exit) ≡ leftHeads (now (table .entry)) (now (listed .entry)) (now (heads .entry)) k ⌝ }
 {
@@ -323,7 +327,7 @@ fn leave_list(table: &[u8], listed: &mut [u64; PORTS], heads: &mut [u64; PORTS],
 // The heads that it leaves. The cells of a flow stand together in a list, so that the next head of its flow is the next
 // cell of the list, if that is of its flow; nothing branches on that, as it would be guessed badly.
 fn heads_left(table: &[u8], list: u64, heads: u64, k: usize) -> u64
-    requires { ⌜ (length (now table) ≡ tableSize) × (k < entryLimit) ⌝ }
+    requires { ⌜ HasEntry (now table) k ⌝ }
     ensures { λ r. ⌜ r ≡ headsLeft (now (table .entry)) list heads k ⌝ }
 {
     let j = k % CELLS;

@@ -26,9 +26,9 @@ struct Filling {
     failed: bool,
 }
 
-// The program: how many arguments there are, and the first of them, or no bytes. The result is the exit status: 0, the trace
-// was played to its end, or the help or the version was written; 1, it was refused; 2, reading or writing failed, or
-// the arguments are wrong.
+// The program: how many arguments there are, and the first of them, or no bytes. The result is the exit status: 0,
+// the trace was played to its end, or the help or the version was written; 1, it was refused; 2, reading or writing
+// failed, or the arguments are wrong.
 #[no_mangle]
 pub extern "C" fn crossbar_player(words: usize, word: &[u8]) -> u32
     ensures { λ r. ⌜ Answered (requestOf words (now (word .entry))) r ⌝ }
@@ -121,8 +121,8 @@ fn fail(complaint: &[u8]) -> u32
     2
 }
 
-// Plays standard input to standard output, by rounds: text is read behind that which is left, turns are taken on it, and
-// what they wrote is written out. A round that writes nothing ends it.
+// Plays standard input to standard output, by rounds: text is read behind that which is left, turns are taken on it,
+// and what they wrote is written out. A round that writes nothing ends it.
 fn play() -> u32
     ensures { λ r. ⌜ r ≤ 2 ⌝ }
 {

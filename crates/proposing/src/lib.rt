@@ -13,8 +13,8 @@ ghost use Rattle.table.specs.Entries.{nowhere};
 ghost use Rattle.proposing.specs.Found.{numbersOf, outputAt, ToOutputs, Found};
 ghost use Rattle.proposing.specs.Proposing.{nextIn, Refused, Proposed};
 
-// `held`: for each output the number of the cell that it holds, `NOWHERE` for none. `proposals`: how many proposals were
-// made.
+// `held`: for each output the number of the cell that it holds, `NOWHERE` for none. `proposals`: how many proposals
+// were made.
 pub struct Matched {
     pub held: [u16; PORTS],
     pub proposals: u32,
@@ -41,8 +41,8 @@ pub fn find_matching(table: &[u8], candidates: [u64; PORTS]) -> Matched
     Matched { held, proposals }
 }
 
-// A cell is proposed to its output. The cell that is to be proposed next, by the input whose cell was refused; `NOWHERE`
-// where none was refused or that input has none left.
+// A cell is proposed to its output. The cell that is to be proposed next, by the input whose cell was refused;
+// `NOWHERE` where none was refused or that input has none left.
 fn propose(table: &[u8], left: &mut [u64; PORTS], held: &mut [u16; PORTS], k: u16) -> u16
     requires { ⌜ (length (now table) ≡ tableSize) × (k < nowhere) × (outputAt (now table) k < portLimit) ⌝ }
     ensures { λ r. ⌜ Proposed (now (table .entry)) (now (left .entry)) (now (held .entry)) k

@@ -16,8 +16,8 @@ pub(crate) fn crowd_and_load() {
     show_made(b"200 slots at 16 ports: ", 16, 400, &rows);
 }
 
-// Input 1 keeps output 0 busy, so that the cells of input 0 stay: the 64th passes in call 63. A 65th is turned back in call 64, and
-// passes in call 66, once an empty slot has sent one of the 64.
+// Input 1 keeps output 0 busy, so that the cells of input 0 stay: the 64th passes in call 63. A 65th is turned back
+// in call 64, and passes in call 66, once an empty slot has sent one of the 64.
 fn crowd_rows(rows: &mut Rows) {
     let mut k: usize = 0;
     while k < 132 {
@@ -29,7 +29,8 @@ fn crowd_rows(rows: &mut Rows) {
     }
 }
 
-// Four outputs get three of four cells, and ranks cross: the rank of a flow rises with the slots from a start of its own.
+// Four outputs get three of four cells, and ranks cross: the rank of a flow rises with the slots from a start of its
+// own.
 fn load_rows(rows: &mut Rows) {
     let mut seed = 1;
     let mut k: usize = 0;

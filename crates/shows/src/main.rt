@@ -1,6 +1,6 @@
 // Scope 9, the shows without a star, and shows of our own, on the proved switch against a shadow switch that was
-// written apart: a line for each show, with what came of each slot call. A call that is turned back has its number and the record's
-// place (0 where no record is at fault), and the calls after it go on as if it had not been.
+// written apart: a line for each show, with what came of each slot call. A call that is turned back has its number
+// and the record's place (0 where no record is at fault), and the calls after it go on as if it had not been.
 mod made;
 mod say;
 mod shadow;
@@ -101,7 +101,8 @@ fn ranks() {
     turned_back(b"rank 5 after 5: ", [1, 0, 0, 0, 5, 3], [1, 1, 1, 0, 1, 4]);
 }
 
-// Rank 5 of input 0 and rank 3 of input 1 come for output 0, then the two given records in call 1, then a cell for output 1.
+// Rank 5 of input 0 and rank 3 of input 1 come for output 0, then the two given records in call 1, then a cell for
+// output 1.
 fn turned_back(name: &[u8], first: [u32; 6], second: [u32; 6]) {
     let before = [0, 0, 0, 0, 5, 1];
     let with = [0, 1, 0, 0, 3, 2];
@@ -142,8 +143,8 @@ const PAIR: [[u32; 6]; 11] = [
     [3, 2, 1, 0, 9, 11],
 ];
 
-// In slot 1 rank 4 is urgent, and loses to scheduled cells that stand first in their lists: to rank 2, and then, at the crosspoint,
-// to rank 3.
+// In slot 1 rank 4 is urgent, and loses to scheduled cells that stand first in their lists: to rank 2, and then, at
+// the crosspoint, to rank 3.
 const SCHEDULED: [[u32; 6]; 6] = [
     [0, 0, 0, 0, 9, 1],
     [0, 1, 0, 0, 0, 2],

@@ -1,9 +1,9 @@
-// Scope 4, the PIFO switch, written plainly and apart from the crossbar: no lists, no crosspoints, no
-// phases. All waiting cells stand in one flat array, in no order, and whatever is asked of them is searched for from end to end.
+// Scope 4, the PIFO switch, written plainly and apart from the crossbar: no lists, no crosspoints, no phases. All
+// waiting cells stand in one flat array, in no order, and whatever is asked of them is searched for from end to end.
 ghost use Prim.Native.Nat.{_<_};
 
-// A shadow switch has 2,048 places for cells, its number of ports, its clock, and how many places have been taken. A cell that has left
-// leaves its place unused.
+// A shadow switch has 2,048 places for cells, its number of ports, its clock, and how many places have been taken. A
+// cell that has left leaves its place unused.
 pub(crate) type Shadow = [u32; 14339];
 
 const PLACES: usize = 2048;
@@ -35,9 +35,9 @@ pub(crate) fn fresh(ports: u32, first: u32) -> Shadow {
     shadow
 }
 
-// Takes a slot. A record is the number of the call, which is not looked at, then input, output, flow, rank and tag. The result is 0, or
-// the number of the refusal and 16 times the record's place. What each of sixteen outputs sends goes into `sent`, in the seven
-// numbers of a place.
+// Takes a slot. A record is the number of the call, which is not looked at, then input, output, flow, rank and tag.
+// The result is 0, or the number of the refusal and 16 times the record's place. What each of sixteen outputs sends
+// goes into `sent`, in the seven numbers of a place.
 pub(crate) fn slot(shadow: &mut Shadow, records: &[[u32; 6]], sent: &mut [u32; 112]) -> u64 {
     let clock = shadow[CLOCK];
     if 4294967295 <= clock {

@@ -31,8 +31,8 @@ const MOST_BYTES: usize = (PORTS + 1) * ARRIVAL_BYTES;
 // The numbers of the departures of an answer.
 const SENT: usize = DEPARTURES_BYTES / 4;
 
-// A show of so many slot calls on a fresh switch. A row is an arrival: the number of its call, counted from 0, then input, output,
-// flow, rank and tag. A show that is not told aloud tells its refusals, and its cells at the end.
+// A show of so many slot calls on a fresh switch. A row is an arrival: the number of its call, counted from 0, then
+// input, output, flow, rank and tag. A show that is not told aloud tells its refusals, and its cells at the end.
 pub(crate) fn show(
     name: &[u8],
     ports: u32,

@@ -36,8 +36,8 @@ fn untouched(buffer: &Table) -> bool {
     true
 }
 
-// A slot call that is turned back between good ones: with `ports` in the table where 2 is right, and so many bytes of arrivals, answer
-// and tally.
+// A slot call that is turned back between good ones: with `ports` in the table where 2 is right, and so many bytes of
+// arrivals, answer and tally.
 pub(crate) fn show_slot(name: &[u8], ports: u8, arrivals: usize, answer: usize, tally: usize)
     requires { ⌜ arrivals ≤ arrivalSize ⌝ }
     requires { ⌜ answer ≤ answerSize ⌝ }

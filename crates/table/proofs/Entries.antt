@@ -13,13 +13,12 @@ use Rattle.laws.proofs.Tests.{same}
 use Rattle.cell.specs.declared.Cell.{Cell}
 use Rattle.cell.specs.Flow.{sameFlow}
 use Rattle.cell.proofs.Flow.{flow-i, flow-e}
-use Rattle.layout.specs.Number.{bytesOf, numberAt, word}
+use Rattle.layout.specs.Number.{bytesOf, numberAt, word, put}
 use Rattle.layout.specs.Entry.{entryAt}
 use Rattle.layout.specs.Records.{recordStart, recordAt, placeByteAt}
 use Rattle.layout.specs.Table.{entrySize, tableSize, entryBytes}
 use Rattle.layout.proofs.Halves.{read-halves, put-halves, numberAt-halves, numberAt-byte}
 use Rattle.layout.proofs.Number.{bytes?, bytes?-take, bytes?-drop, bytesOf-numberOf, numberAt-below}
-use Rattle.layout.proofs.Put.{put}
 use Rattle.layout.proofs.Records.{entryAt-output, entryAt-flow, placeByteAt-byte}
 use Rattle.table.specs.Entries.{entryWith, flowWord}
 use Rattle.table.proofs.Fields.{place-i, exact-zero}

@@ -17,7 +17,7 @@ ghost use Rattle.laws.specs.Lists.{some?, all?, pairwise};
 ghost use Rattle.cell.specs.Limits.{portLimit, sectionRoom};
 ghost use Rattle.model.specs.Sound.{together, otherSlot};
 ghost use Rattle.layout.specs.Entry.{entryAt, countIn};
-ghost use Rattle.layout.specs.Table.{tableSize, isTable, entryLimit};
+ghost use Rattle.layout.specs.Table.{tableSize, isTable, entryLimit, HasEntry};
 ghost use Rattle.layout.specs.Records.{between, entriesBetween};
 ghost use Rattle.table.specs.Check.{isSection, isUnused, roomOf, areSound, inRange, inReach, sameSlot};
 ghost use Rattle.table.specs.Check.{entriesIn, otherOutput, breaksFlow, Collected, MarksBelow};
@@ -117,7 +117,8 @@ fn are_sections(
     buffered: &mut [u64],
 ) -> bool
     requires { ⌜ (length (now bytes) ≡ tableSize) × (ports ≤ portLimit) ⌝ }
-    requires { ⌜ (length (now listed) ≡ portLimit) × (length (now heads) ≡ portLimit) × (length (now crossed) ≡ portLimit)
+    requires { ⌜ (length (now listed) ≡ portLimit) × (length (now heads) ≡ portLimit)
+        × (length (now crossed) ≡ portLimit)
         × (length (now buffered) ≡ portLimit) ⌝ }
     ensures { λ r. ⌜ r ≡ all? (isSection ports clock (now (bytes .entry))) (between 0 portLimit) ⌝ }
     ensures { λ r. ⌜ (r ≡ true → Handed (now (bytes .entry)) (now (listed .exit)) (now (heads .exit))
@@ -223,7 +224,7 @@ fn bits_of(bytes: &[u8], from: usize, to: usize) -> u64
 
 // The bits of a record.
 fn record_bits(bytes: &[u8], k: usize) -> u64
-    requires { ⌜ (length (now bytes) ≡ tableSize) × (k < entryLimit) ⌝ }
+    requires { ⌜ HasEntry (now bytes) k ⌝ }
     ensures { λ r. ⌜ eqb r 0 ≡ isUnused (now (bytes .entry)) k ⌝ }
 {
     word::read_u64(bytes, entry::start_of(k)) | word::read_u64(bytes, entry::start_of(k) + 8)
@@ -323,7 +324,7 @@ fn collect(
 
 // Whether the output of a record is one of the switch's, and its slot before the clock.
 fn in_reach(bytes: &[u8], ports: u32, clock: u32, k: usize) -> bool
-    requires { ⌜ (length (now bytes) ≡ tableSize) × (k < entryLimit) ⌝ }
+    requires { ⌜ HasEntry (now bytes) k ⌝ }
     ensures { λ r. ⌜ r ≡ inReach ports clock (entryAt (now (bytes .entry)) k) ⌝ }
 {
     if ports <= entry::output_of(bytes, k) as u32 {
@@ -332,8 +333,8 @@ fn in_reach(bytes: &[u8], ports: u32, clock: u32, k: usize) -> bool
     entry::slot_of(bytes, k) < clock
 }
 
-// Whether no two entries have one slot; asked only if two may. Entries are compared whose slots have one low byte, and no
-// others: `met` has the positions of those passed, byte by byte.
+// Whether no two entries have one slot; asked only if two may. Entries are compared whose slots have one low byte,
+// and no others: `met` has the positions of those passed, byte by byte.
 fn slots_differ(bytes: &[u8], may: bool, first: usize, end: usize) -> bool
     requires { ⌜ (length (now bytes) ≡ tableSize) × (first + sectionRoom ≤ entryLimit) ⌝ }
     requires { ⌜ (first ≤ end) × (end ≤ first + sectionRoom) ⌝ }
@@ -359,7 +360,8 @@ fn slots_differ(bytes: &[u8], may: bool, first: usize, end: usize) -> bool
 // Whether an entry has the slot of one at these positions.
 fn shares_slot(bytes: &[u8], k: usize, first: usize, others: u64) -> bool
     requires { ⌜ (length (now bytes) ≡ tableSize) × (k < entryLimit) × (first + sectionRoom ≤ entryLimit) ⌝ }
-    ensures { λ r. ⌜ r ≡ some? (sameSlot (entryAt (now (bytes .entry)) k)) (entriesIn (now (bytes .entry)) first others) ⌝ }
+    ensures { λ r. ⌜ r
+        ≡ some? (sameSlot (entryAt (now (bytes .entry)) k)) (entriesIn (now (bytes .entry)) first others) ⌝ }
 {
     let slot = entry::slot_of(bytes, k);
     let mut left = others;

@@ -6,14 +6,14 @@ use layout::CELLS;
 use layout::ENTRY_BYTES;
 use layout::HEADER_BYTES;
 ghost use mathlib.Core.Path.{_≡_};
-ghost use mathlib.Core.List.{_++_};
 ghost use Prim.Native.Nat.{_+_, _*_, _%_, _<_, _≤_};
-ghost use lib.ListN.{length, take, drop, set};
+ghost use lib.ListN.{length, set};
 ghost use Rattle.cell.specs.Order.{key};
 ghost use Rattle.cell.specs.Limits.{portLimit};
-ghost use Rattle.layout.specs.Table.{tableSize, placeOf, entryBytes, entryLimit, entrySize};
+ghost use Rattle.layout.specs.Table.{tableSize, placeOf, entryBytes, entryLimit, entrySize, HasEntry};
 ghost use Rattle.layout.specs.Entry.{entryAt};
 ghost use Rattle.layout.specs.Records.{placeByteAt, recordStart, recordAt};
+ghost use Rattle.layout.specs.Number.{put};
 ghost use Rattle.table.specs.Entries.{entryWith, flowWord, flowNumber};
 
 // The byte of a place: in the list, at the crosspoint, in the output's buffer.
@@ -25,7 +25,7 @@ pub const BUFFERED: u8 = 3;
 
 // The cell of a record.
 pub fn cell_of(bytes: &[u8], k: usize) -> Cell
-    requires { ⌜ (length (now bytes) ≡ tableSize) × (k < entryLimit) ⌝ }
+    requires { ⌜ HasEntry (now bytes) k ⌝ }
     ensures { λ r. ⌜ r ≡ entryAt (now (bytes .entry)) k .cell ⌝ }
 {
     Cell {
@@ -39,14 +39,14 @@ pub fn cell_of(bytes: &[u8], k: usize) -> Cell
 }
 
 pub fn output_of(bytes: &[u8], k: usize) -> u8
-    requires { ⌜ (length (now bytes) ≡ tableSize) × (k < entryLimit) ⌝ }
+    requires { ⌜ HasEntry (now bytes) k ⌝ }
     ensures { λ r. ⌜ r ≡ entryAt (now (bytes .entry)) k .cell .output ⌝ }
 {
     bytes[start_of(k)]
 }
 
 pub fn flow_of(bytes: &[u8], k: usize) -> u8
-    requires { ⌜ (length (now bytes) ≡ tableSize) × (k < entryLimit) ⌝ }
+    requires { ⌜ HasEntry (now bytes) k ⌝ }
     ensures { λ r. ⌜ r ≡ entryAt (now (bytes .entry)) k .cell .flow ⌝ }
 {
     bytes[start_of(k) + 1]
@@ -63,15 +63,16 @@ pub fn flow_word(c: Cell) -> u16
 
 // That of an entry: the first two bytes of its record.
 pub fn flow_word_of(bytes: &[u8], k: usize) -> u16
-    requires { ⌜ (length (now bytes) ≡ tableSize) × (k < entryLimit) ⌝ }
-    ensures { λ r. ⌜ (r ≡ flowWord (entryAt (now (bytes .entry)) k .cell)) × (entryAt (now (bytes .entry)) k .cell .output < 256) ⌝ }
+    requires { ⌜ HasEntry (now bytes) k ⌝ }
+    ensures { λ r. ⌜ (r ≡ flowWord (entryAt (now (bytes .entry)) k .cell))
+        × (entryAt (now (bytes .entry)) k .cell .output < 256) ⌝ }
 {
     output_of(bytes, k) as u16 + 256 * flow_of(bytes, k) as u16
 }
 
 // The number of an entry's flow among the 128 that its input can have.
 pub fn flow_number(bytes: &[u8], k: usize) -> usize
-    requires { ⌜ (length (now bytes) ≡ tableSize) × (k < entryLimit) ⌝ }
+    requires { ⌜ HasEntry (now bytes) k ⌝ }
     requires { ⌜ (entryAt (now bytes) k .cell .output < portLimit) × (entryAt (now bytes) k .cell .flow < 8) ⌝ }
     ensures { λ r. ⌜ (r ≡ flowNumber (entryAt (now (bytes .entry)) k)) × (r < 128) ⌝ }
 {
@@ -80,7 +81,7 @@ pub fn flow_number(bytes: &[u8], k: usize) -> usize
 
 // The byte of its place.
 pub fn place_of(bytes: &[u8], k: usize) -> u8
-    requires { ⌜ (length (now bytes) ≡ tableSize) × (k < entryLimit) ⌝ }
+    requires { ⌜ HasEntry (now bytes) k ⌝ }
     ensures { λ r. ⌜ (r ≡ placeByteAt (now (bytes .entry)) k) × (placeOf r ≡ entryAt (now (bytes .entry)) k .place) ⌝ }
 {
     bytes[start_of(k) + 2]
@@ -88,28 +89,28 @@ pub fn place_of(bytes: &[u8], k: usize) -> u8
 
 // Moves an entry: the byte of its place is written.
 pub fn write_place(bytes: &mut [u8], k: usize, place: u8)
-    requires { ⌜ (length (now bytes) ≡ tableSize) × (k < entryLimit) ⌝ }
+    requires { ⌜ HasEntry (now bytes) k ⌝ }
     ensures { λ _. ⌜ now (bytes .exit) ≡ set (now (bytes .entry)) (recordStart k + 2) place ⌝ }
 {
     bytes[start_of(k) + 2] = place;
 }
 
 pub fn rank_of(bytes: &[u8], k: usize) -> u32
-    requires { ⌜ (length (now bytes) ≡ tableSize) × (k < entryLimit) ⌝ }
+    requires { ⌜ HasEntry (now bytes) k ⌝ }
     ensures { λ r. ⌜ r ≡ entryAt (now (bytes .entry)) k .cell .rank ⌝ }
 {
     layout::word::read_u32(bytes, start_of(k) + 4)
 }
 
 pub fn tag_of(bytes: &[u8], k: usize) -> u32
-    requires { ⌜ (length (now bytes) ≡ tableSize) × (k < entryLimit) ⌝ }
+    requires { ⌜ HasEntry (now bytes) k ⌝ }
     ensures { λ r. ⌜ r ≡ entryAt (now (bytes .entry)) k .cell .tag ⌝ }
 {
     layout::word::read_u32(bytes, start_of(k) + 8)
 }
 
 pub fn slot_of(bytes: &[u8], k: usize) -> u32
-    requires { ⌜ (length (now bytes) ≡ tableSize) × (k < entryLimit) ⌝ }
+    requires { ⌜ HasEntry (now bytes) k ⌝ }
     ensures { λ r. ⌜ r ≡ entryAt (now (bytes .entry)) k .cell .slot ⌝ }
 {
     layout::word::read_u32(bytes, start_of(k) + 12)
@@ -117,7 +118,7 @@ pub fn slot_of(bytes: &[u8], k: usize) -> u32
 
 // The low byte of its slot. Not the slot's remainder: the compiler would load the slot in two parts.
 pub fn slot_byte_of(bytes: &[u8], k: usize) -> u8
-    requires { ⌜ (length (now bytes) ≡ tableSize) × (k < entryLimit) ⌝ }
+    requires { ⌜ HasEntry (now bytes) k ⌝ }
     ensures { λ r. ⌜ r ≡ entryAt (now (bytes .entry)) k .cell .slot % 256 ⌝ }
 {
     bytes[start_of(k) + 12]
@@ -125,7 +126,7 @@ pub fn slot_byte_of(bytes: &[u8], k: usize) -> u8
 
 // The key of its cell's output priority.
 pub fn key_of(bytes: &[u8], k: usize) -> u64
-    requires { ⌜ (length (now bytes) ≡ tableSize) × (k < entryLimit) ⌝ }
+    requires { ⌜ HasEntry (now bytes) k ⌝ }
     ensures { λ r. ⌜ r ≡ key (entryAt (now (bytes .entry)) k .cell) ⌝ }
 {
     cell::key(cell_of(bytes, k))
@@ -141,9 +142,10 @@ pub fn start_of(k: usize) -> usize
 
 // Writes an entry into a record.
 pub fn write_entry(bytes: &mut [u8], k: usize, c: Cell, place: u8)
-    requires { ⌜ (length (now bytes) ≡ tableSize) × (k < entryLimit) ⌝ }
+    requires { ⌜ HasEntry (now bytes) k ⌝ }
     requires { ⌜ (c .output < 256) × (c .flow < 256) × (1 ≤ place) × (place ≤ 3) ⌝ }
-    ensures { λ _. ⌜ now (bytes .exit) ≡ take (recordStart k) (now (bytes .entry)) ++ (entryBytes (entryWith c place) ++ drop (recordStart k + entrySize) (now (bytes .entry))) ⌝ }
+    ensures { λ _. ⌜ now (bytes .exit)
+        ≡ put (recordStart k) entrySize (entryBytes (entryWith c place)) (now (bytes .entry)) ⌝ }
 {
     let at = start_of(k);
     layout::word::write_u32(bytes, at, c.output + 256 * c.flow + 65536 * place as u32);
@@ -155,7 +157,8 @@ pub fn write_entry(bytes: &mut [u8], k: usize, c: Cell, place: u8)
 // Copies a record over another.
 pub fn copy_record(bytes: &mut [u8], from: usize, to: usize)
     requires { ⌜ (length (now bytes) ≡ tableSize) × (from < entryLimit) × (to < entryLimit) ⌝ }
-    ensures { λ _. ⌜ now (bytes .exit) ≡ take (recordStart to) (now (bytes .entry)) ++ (recordAt (now (bytes .entry)) from ++ drop (recordStart to + entrySize) (now (bytes .entry))) ⌝ }
+    ensures { λ _. ⌜ now (bytes .exit)
+        ≡ put (recordStart to) entrySize (recordAt (now (bytes .entry)) from) (now (bytes .entry)) ⌝ }
 {
     let old = start_of(from);
     let new = start_of(to);

@@ -1,16 +1,15 @@
-// The header of a table: the number of the layout, the ports, the clock, four bytes of zero, and for each input the count of
-// its entries, a byte each. A caller shows that the bytes have a table's length; they may be any.
+// The header of a table: the number of the layout, the ports, the clock, four bytes of zero, and for each input the
+// count of its entries, a byte each. A caller shows that the bytes have a table's length; they may be any.
 use cell::Switch;
 use layout::CELLS;
 use layout::TABLE_BYTES;
 use layout::word;
 ghost use mathlib.Core.Path.{_≡_};
-ghost use mathlib.Core.List.{_++_};
 ghost use Prim.Native.Nat.{_+_, _*_, _≤_, _<_};
-ghost use lib.ListN.{length, take, drop, set};
+ghost use lib.ListN.{length, set};
 ghost use Rattle.cell.specs.Limits.{portLimit, sectionRoom};
 ghost use Rattle.model.specs.State.{fresh};
-ghost use Rattle.layout.specs.Number.{bytesOf};
+ghost use Rattle.layout.specs.Number.{bytesOf, put};
 ghost use Rattle.layout.specs.Table.{tableSize, encode};
 ghost use Rattle.layout.specs.Entry.{portsIn, clockIn, countIn};
 ghost use Rattle.layout.specs.Host.{filled};
@@ -48,7 +47,7 @@ pub fn clock_of(bytes: &[u8]) -> u32
 
 pub fn write_clock(bytes: &mut [u8], clock: u32)
     requires { ⌜ length (now bytes) ≡ tableSize ⌝ }
-    ensures { λ _. ⌜ now (bytes .exit) ≡ take 8 (now (bytes .entry)) ++ (bytesOf 4 clock ++ drop 12 (now (bytes .entry))) ⌝ }
+    ensures { λ _. ⌜ now (bytes .exit) ≡ put 8 4 (bytesOf 4 clock) (now (bytes .entry)) ⌝ }
 {
     word::write_u32(bytes, CLOCK_AT, clock);
 }
@@ -79,7 +78,8 @@ pub fn end_of(table: &[u8], input: usize) -> usize
 // The table of a fresh switch, put into the first bytes of a buffer: its header, and zeros.
 pub fn write_fresh(switch: Switch, table: &mut [u8])
     requires { ⌜ tableSize ≤ length (now table) ⌝ }
-    ensures { λ _. ⌜ now (table .exit) ≡ filled (encode (fresh (switch .ports) (switch .clock))) (now (table .entry)) ⌝ }
+    ensures { λ _. ⌜ now (table .exit)
+        ≡ filled (encode (fresh (switch .ports) (switch .clock))) (now (table .entry)) ⌝ }
 {
     clear(table);
     word::write_u32(table, LAYOUT_AT, LAYOUT);

@@ -7,10 +7,10 @@ use mathlib.Core.Path.{_≡_, ap, ap₂, _∙_}
 use lib.ListN.{length, length-append, drop-of-length-le}
 use Rattle.cell.specs.declared.Tally.{Tally}
 use Rattle.model.specs.Tally.{countTop, raise, afterRun, afterRefused}
-use Rattle.layout.specs.Number.{bytesOf, numberAt}
+use Rattle.layout.specs.Number.{bytesOf, numberAt, put}
 use Rattle.layout.specs.TallyBytes.{tallyOf, tallyBytes, tallySize}
 use Rattle.layout.proofs.Number.{length-bytesOf}
-use Rattle.layout.proofs.Put.{put, put-next}
+use Rattle.layout.proofs.Put.{put-next}
 use Rattle.tally.specs.Counted.{countedAs}
 
 -- a count that has no room for more stops at its top

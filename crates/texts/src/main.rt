@@ -1,5 +1,5 @@
-// Good and damaged texts through the trace's reader and writer, a line for each. The damage stands at the first, a middle and
-// the last line.
+// Good and damaged texts through the trace's reader and writer, a line for each. The damage stands at the first, a
+// middle and the last line.
 use cell::Refusal;
 use libc::STDOUT_FILENO;
 use reader::Verdict;

@@ -1,7 +1,7 @@
-// The player: a trace in, its departures out, one turn after the other. Whoever drives it lends the text that is there
-// so far, the bytes of the table and a buffer, and keeps the stage and the number of the next line between the turns.
-// Its theorems are on the definitions: over the PIFO switch it writes the same text, and turn by turn it writes the same
-// text however the trace arrives.
+// The player: a trace in, its departures out, one turn after the other. Whoever drives it lends the text that is
+// there so far, the bytes of the table and a buffer, and keeps the stage and the number of the next line between the
+// turns. Its theorems are on the definitions: over the PIFO switch it writes the same text, and turn by turn it
+// writes the same text however the trace arrives.
 use cell::Arrival;
 use cell::Fault;
 use cell::Refusal;

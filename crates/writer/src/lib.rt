@@ -1,9 +1,9 @@
-// The writer, scope 7.6: from contents to text, and the lines that the player writes.
-// Each function that puts a text answers the place after it, and a place past the end of the buffer says that the text
-// does not fit. The public ones put all of a text or nothing of it. So do `pour_line`, `pour_pair` and `pour_cell`; the
-// other `pour_..` put line after line, and a text poured into no bytes is measured.
-// A text that fits is written from its end to its start with no test of the room: the `write_..` below ask for the room,
-// which every caller has measured, and answer where the text starts. No other function has a `requires`.
+// The writer, scope 7.6: from contents to text, and the lines that the player writes. Each function that puts a text
+// answers the place after it, and a place past the end of the buffer says that the text does not fit. The public ones
+// put all of a text or nothing of it. So do `pour_line`, `pour_pair` and `pour_cell`; the other `pour_..` put line
+// after line, and a text poured into no bytes is measured. A text that fits is written from its end to its start with
+// no test of the room: the `write_..` below ask for the room, which every caller has measured, and answer where the
+// text starts. No other function has a `requires`.
 use cell::Arrival;
 use cell::Cell;
 use cell::Refusal;

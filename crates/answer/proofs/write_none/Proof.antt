@@ -2,8 +2,7 @@
 use mathlib.Core.Path.{_∙_, ap}
 use borrow.Author.Needs.{needs}
 use Rattle.layout.specs.Answer.{departureBytes, departureSize, sevenBytes}
-use Rattle.layout.specs.Number.{bytesOf}
-use Rattle.layout.proofs.Put.{put}
+use Rattle.layout.specs.Number.{bytesOf, put}
 use Rattle.answer.specs.Code.{noCell}
 use Rattle.answer.proofs.write_none.Statement.{statement}
 use Rattle.answer.proofs.write_none.Tie as tie

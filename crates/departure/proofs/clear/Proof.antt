@@ -5,8 +5,8 @@ use mathlib.Core.Path.{_≡_, refl, sym, _∙_, ap}
 use borrow.Author.Needs.{needs}
 use lib.ListN.{length, replicate}
 use Rattle.layout.specs.Records.{recordStart}
+use Rattle.layout.specs.Number.{put}
 use Rattle.departure.specs.Departing.{cleared}
-use Rattle.layout.proofs.Put.{put}
 use Rattle.departure.proofs.Staying.{cleared-none, cleared-more}
 use Rattle.departure.proofs.clear.Statement.{statement}
 use Rattle.departure.proofs.clear.Tie as tie

@@ -3,9 +3,9 @@ use Prim.Native.Nat.{_+_}
 use native.Mathlib.Omega.{arith}
 use mathlib.Core.Path.{_∙_, ap}
 use borrow.Author.Needs.{needs}
-use Rattle.layout.specs.Number.{bytesOf}
+use Rattle.layout.specs.Number.{bytesOf, put}
 use Rattle.layout.specs.Records.{recordStart}
-use Rattle.layout.proofs.Put.{put, put-two}
+use Rattle.layout.proofs.Put.{put-two}
 use Rattle.departure.proofs.Staying.{zero-words}
 use Rattle.departure.proofs.clear_one.Statement.{statement}
 use Rattle.departure.proofs.clear_one.Tie as tie

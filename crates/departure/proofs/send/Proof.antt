@@ -7,8 +7,8 @@ use mathlib.Core.Option.{none}
 use borrow.Author.Needs.{needs}
 use lib.ListN.{length}
 use Rattle.layout.specs.Answer.{departureBytes}
+use Rattle.layout.specs.Number.{put}
 use Rattle.departure.specs.Departing.{departureAt}
-use Rattle.layout.proofs.Put.{put}
 use Rattle.departure.proofs.Sending.{getD-map, sent, sent-none, sent-more, sent-all}
 use Rattle.departure.proofs.send.Statement.{statement}
 use Rattle.departure.proofs.send.Tie as tie

@@ -3,7 +3,7 @@ use mathlib.Core.Path.{sym, _∙_, ap}
 use mathlib.Core.Option.{some}
 use borrow.Author.Needs.{needs}
 use Rattle.layout.specs.Answer.{departureSize, departureBytes}
-use Rattle.layout.proofs.Put.{put}
+use Rattle.layout.specs.Number.{put}
 use Rattle.departure.proofs.Sending.{departureAt-none, departureAt-some}
 use Rattle.departure.proofs.send_one.Statement.{statement}
 use Rattle.departure.proofs.send_one.Tie as tie

@@ -3,7 +3,8 @@ use native.Mathlib.Omega.{arith}
 use mathlib.Core.Path.{_∙_, ap₂}
 use Prim.Native.Nat.{_+_, _*_}
 use borrow.Author.Needs.{needs}
-use Rattle.layout.proofs.Put.{put, put-four}
+use Rattle.layout.proofs.Put.{put-four}
+use Rattle.layout.specs.Number.{put}
 use Rattle.table.proofs.Entries.{entry-words}
 use Rattle.table.proofs.entry.write_entry.Statement.{statement}
 use Rattle.table.proofs.entry.write_entry.Tie as tie
