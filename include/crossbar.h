@@ -35,13 +35,13 @@ extern "C" {
 
 /* Refusals. 0 is done. */
 #define CROSSBAR_BAD_SIZE 1u      /* bad size: the number of ports is not 1 to 16 */
-#define CROSSBAR_BROKEN_TABLE 2u  /* broken table: the lent table is not sound or has the wrong length */
-#define CROSSBAR_CLOCK_END 3u     /* clock end: the clock stands at 4,294,967,295 */
-#define CROSSBAR_NO_SUCH_PORT 4u  /* no such port: an input or output is N or more */
+#define CROSSBAR_BROKEN_TABLE 2u  /* broken table: the lent table is not sound, or its length is wrong */
+#define CROSSBAR_CLOCK_END 3u     /* clock end: the clock is at 4,294,967,295 */
+#define CROSSBAR_NO_SUCH_PORT 4u  /* no such port: an input or an output is not below the number of ports */
 #define CROSSBAR_NO_SUCH_FLOW 5u  /* no such flow: a flow is above 7 */
-#define CROSSBAR_INPUT_ORDER 6u   /* out of turn: an input is not above that of the record before it */
-#define CROSSBAR_RANK_ORDER 7u    /* falling rank: a cell of the same flow is in the switch with a higher rank */
-#define CROSSBAR_FULL 8u          /* full: 64 cells from this input are in the switch */
+#define CROSSBAR_INPUT_ORDER 6u   /* out of turn: an input is not above the one of the record before */
+#define CROSSBAR_RANK_ORDER 7u    /* falling rank: a cell of higher rank of the same flow is in the switch */
+#define CROSSBAR_FULL 8u          /* full: 64 cells of this input are in the switch */
 #define CROSSBAR_BAD_LINE 9u      /* bad line: the text breaks the grammar */
 #define CROSSBAR_SHORT_BUFFER 10u /* short tray: the buffer for an answer is too short */
 

@@ -11,12 +11,12 @@ from html import escape
 
 REFUSALS = {
     1: ("bad size", "the number of ports is not 1 to 16"),
-    3: ("clock end", "the clock stands at 4,294,967,295"),
-    4: ("no such port", "an input or output is not below the number of ports"),
+    3: ("clock end", "the clock is at 4,294,967,295"),
+    4: ("no such port", "an input or an output is not below the number of ports"),
     5: ("no such flow", "a flow is above 7"),
-    6: ("out of turn", "an input is not above that of the record before it"),
-    7: ("falling rank", "a cell of the same flow is in the switch with a higher rank"),
-    8: ("full", "64 cells from this input are in the switch"),
+    6: ("out of turn", "an input is not above the one of the record before"),
+    7: ("falling rank", "a cell of higher rank of the same flow is in the switch"),
+    8: ("full", "64 cells of this input are in the switch"),
     9: ("bad line", "the text breaks the grammar"),
 }
 

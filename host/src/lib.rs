@@ -52,15 +52,25 @@ pub fn slot_bytes(table: &mut [u8], arrivals: &[u8], answer: &mut [u8], tally: &
 /// Why a call was turned back.
 #[derive(Clone, Copy, Debug, PartialEq, Eq)]
 pub enum Refusal {
+    /// bad size: the number of ports is not 1 to 16
     BadSize,
+    /// broken table: the lent table is not sound, or its length is wrong
     BrokenTable,
+    /// clock end: the clock is at 4,294,967,295
     ClockEnd,
+    /// no such port: an input or an output is not below the number of ports
     NoSuchPort,
+    /// no such flow: a flow is above 7
     NoSuchFlow,
+    /// out of turn: an input is not above the one of the record before
     InputOrder,
+    /// falling rank: a cell of higher rank of the same flow is in the switch
     RankOrder,
+    /// full: 64 cells of this input are in the switch
     Full,
+    /// bad line: the text breaks the grammar
     BadLine,
+    /// short tray: the buffer for an answer is too short
     ShortBuffer,
 }
 
