@@ -9,6 +9,11 @@ def read(path):
         return file.read()
 
 
+def write(path, text):
+    with open(os.path.join(ROOT, path), "w", encoding="utf-8") as file:
+        file.write(text)
+
+
 def all_files():
     """The paths of the repository's files, but for what is built."""
     for folder, folders, names in os.walk(ROOT):

@@ -75,7 +75,7 @@ class Sources:
         self.folders = {folder for file in self.files for folder in parents(file)}
         self.crates = crates()
         self.libraries = set(self.crates).union(*self.crates.values())
-        self.edits = set(re.findall(r"crates/(\w+)/must-fail/(\w+)\.edit", "\n".join(self.files)))
+        self.edits = set(re.findall(r"^crates/(\w+)/must-fail/(\w+)\.edit$", "\n".join(self.files), re.M))
         self.targets = set(re.search(r"^\.PHONY: (.*)", read("Makefile"), re.M)[1].split())
         keys = re.search(r"enum Key \{(.*?)\}", read("crates/trace/src/lib.rt"), re.S)[1]
         self.keys = set(re.findall(r"\w+", keys.lower()))
@@ -131,7 +131,7 @@ class Sources:
         command, *rest = text.split()
         if command == "make":
             return rest[0] in self.targets
-        return command == "rt" or command == "man" and bool(self.paths(rest[-1]))
+        return command == "rt" or "/" in command and bool(self.paths(command)) or bool(rest and self.paths(rest[-1]))
 
     def is_trace(self, text):
         """A key of the grammar, or lines of it."""
