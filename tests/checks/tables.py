@@ -5,7 +5,7 @@ from checks.files import fault_at, read, write
 from checks.sources import crates
 
 # The page that says in words what the functions of each file ask, and the one that has the seconds of each crate.
-WORDS = "docs/PROOFS.md"
+WORDS = "docs/CONTRACTS.md"
 SECONDS = "docs/CHANGES.md"
 
 REQUIRES = """# Functions that ask something
