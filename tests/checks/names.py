@@ -67,9 +67,17 @@ def lost_paths(sources, path):
             yield fault_at(path, text, found.start(), f'{found[1]} has no section "{found[2]}"')
 
 
+def untold_crates(sources):
+    """README.md says of each crate what it holds."""
+    for crate in sources.crates:
+        if f"`{crate}`" not in read("README.md"):
+            yield f"README.md:1: the crate {crate} is not told"
+
+
 def name_faults(sources):
     for path in texts(sources):
         for check in (unknown_names, misplaced_names, misplaced_theorems):
             yield from check(sources, path)
     for path in sources.files:
         yield from lost_paths(sources, path)
+    yield from untold_crates(sources)
