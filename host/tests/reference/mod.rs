@@ -1,8 +1,12 @@
 //! A crossbar and a PIFO switch written from docs/SCOPE.md alone, clear rather than clever. They share the cell, its order
-//! and the checks of a record, as the scope says, and nothing with the proved code. `player` plays a trace on either.
+//! and the checks of a record, as the scope says, and nothing with the proved code. `player` plays a trace on either. Either
+//! can be given one wrong rule, so that a test can show that it is noticed.
 #![allow(dead_code)] // each test uses a part of it
 
+mod fault;
 pub mod player;
+
+pub use fault::Fault;
 
 #[derive(Clone, Copy, Debug, PartialEq, Eq)]
 pub struct Cell {
@@ -83,15 +87,41 @@ pub struct Crossbar {
     pub ports: u32,
     pub clock: u32,
     pub sections: Vec<Vec<Entry>>,
+    fault: Option<Fault>,
 }
+
+/// What an input chooses in a phase, as positions in its section.
+struct Choice {
+    scheduled: Option<usize>,
+    urgent: Vec<usize>,
+}
+
+/// By output the input whose proposal it holds, and the position of that cell.
+type Matching = Vec<Option<(usize, usize)>>;
 
 impl Crossbar {
     pub fn fresh(ports: u32, first: u32) -> Crossbar {
-        Crossbar { ports, clock: first, sections: vec![Vec::new(); ports as usize] }
+        Crossbar { ports, clock: first, sections: vec![Vec::new(); ports as usize], fault: None }
+    }
+
+    pub fn with_fault(self, fault: Fault) -> Crossbar {
+        Crossbar { fault: Some(fault), ..self }
+    }
+
+    fn has(&self, fault: Fault) -> bool {
+        self.fault == Some(fault)
     }
 
     pub fn cells(&self) -> Vec<Cell> {
         self.sections.iter().flatten().map(|e| e.cell).collect()
+    }
+
+    /// The cells by which 7 and 8 go.
+    fn checked(&self) -> Vec<Cell> {
+        if self.has(Fault::Checks7And8OnTheListAlone) {
+            return self.sections.iter().flatten().filter(|e| e.place == Place::List).map(|e| e.cell).collect();
+        }
+        self.cells()
     }
 
     /// Runs a slot, or gives the refusal's number and place.
@@ -99,13 +129,13 @@ impl Crossbar {
         if self.clock == CLOCK_END {
             return Err((3, 0));
         }
-        if let Some(f) = fault(self.ports, &self.cells(), records) {
+        if let Some(f) = fault(self.ports, &self.checked(), records) {
             return Err(f);
         }
         for r in records {
             self.arrive(accepted(r, self.clock));
         }
-        let proposals = [self.phase(), self.phase()];
+        let proposals = [self.phase(), if self.has(Fault::PhaseTwoLeftOut) { 0 } else { self.phase() }];
         let departures = (0..self.ports).map(|o| self.depart(o)).collect();
         self.clock += 1;
         Ok(Answer { departures, proposals })
@@ -115,7 +145,8 @@ impl Crossbar {
     fn arrive(&mut self, cell: Cell) {
         let section = &mut self.sections[cell.input as usize];
         let last = section.iter().rposition(|e| e.place == Place::List && e.cell.flow_of() == cell.flow_of());
-        section.insert(last.map_or(0, |at| at + 1), Entry { cell, place: Place::List });
+        let at = if self.fault == Some(Fault::ArrivalsAtTheEnd) { section.len() } else { last.map_or(0, |at| at + 1) };
+        section.insert(at, Entry { cell, place: Place::List });
     }
 
     /// The crosspoint cells of an output.
@@ -126,103 +157,142 @@ impl Crossbar {
 
     /// One phase: the number of proposals made.
     fn phase(&mut self) -> u32 {
-        let ports = self.ports as usize;
         let crossed: Vec<Vec<Cell>> = (0..self.ports).map(|o| self.crossed(o)).collect();
-        // Positions in the sections: the scheduled cell of an input, its urgent cells, and whether the scheduled one stands first.
-        let mut scheduled: Vec<Option<usize>> = vec![None; ports];
-        let mut urgent: Vec<Vec<usize>> = vec![Vec::new(); ports];
-        let mut first: Vec<Option<usize>> = vec![None; ports];
-        for input in 0..ports {
-            let section = &self.sections[input];
-            let list: Vec<usize> = (0..section.len()).filter(|&at| section[at].place == Place::List).collect();
-            first[input] = list.first().copied();
-            let mut seen = Vec::new();
-            let mut blocked = Vec::new();
-            for &at in &list {
-                let cell = section[at].cell;
-                if seen.contains(&cell.flow_of()) {
-                    continue;
-                }
-                seen.push(cell.flow_of());
-                let opposite = crossed[cell.output as usize].iter().find(|c| c.input == cell.input);
-                match opposite {
-                    Some(c) if cell.priority() < c.priority() => blocked.push(at),
-                    Some(_) => (),
-                    None => {
-                        if scheduled[input].is_none() {
-                            scheduled[input] = Some(at);
-                        }
-                    }
-                }
-            }
-            urgent[input] = blocked
-                .into_iter()
-                .filter(|&at| scheduled[input].map_or(true, |s| at < s))
-                .filter(|&at| {
-                    let cell = section[at].cell;
-                    crossed[cell.output as usize].iter().all(|c| cell.priority() < c.priority())
-                })
-                .collect();
-        }
-        let mut proposals = 0;
-        let mut matched: Vec<Option<(usize, usize)>> = vec![None; ports];
-        if urgent.iter().any(|u| !u.is_empty()) {
-            let candidates: Vec<Vec<usize>> = (0..ports)
-                .map(|i| {
-                    let mut c = urgent[i].clone();
-                    if let Some(s) = scheduled[i] {
-                        if first[i] == Some(s) {
-                            c.push(s);
-                        }
-                    }
-                    c.sort();
-                    c
-                })
-                .collect();
-            // Deferred acceptance, one round after the other: every free input proposes its next candidate.
-            let mut next = vec![0; ports];
-            loop {
-                let free: Vec<usize> = (0..ports)
-                    .filter(|&i| next[i] < candidates[i].len())
-                    .filter(|&i| !matched.iter().flatten().any(|&(held, _)| held == i))
-                    .collect();
-                if free.is_empty() {
-                    break;
-                }
-                for i in free {
-                    let at = candidates[i][next[i]];
-                    let cell = self.sections[i][at].cell;
-                    proposals += 1;
-                    let output = cell.output as usize;
-                    match matched[output] {
-                        Some((j, other)) if self.sections[j][other].cell.priority() < cell.priority() => next[i] += 1,
-                        Some((j, _)) => {
-                            next[j] += 1;
-                            matched[output] = Some((i, at));
-                        }
-                        None => matched[output] = Some((i, at)),
-                    }
-                }
+        let choices: Vec<Choice> = (0..self.ports as usize).map(|i| self.choose(i, &crossed)).collect();
+        let (matched, proposals) = self.find_matching(&self.candidates(&choices));
+        let (inputs, outputs) = self.go_straight(&choices, &matched);
+        self.send_scheduled(&choices, &inputs);
+        self.take_from_crosspoints(&outputs);
+        proposals
+    }
+
+    /// The positions of an input's heads.
+    fn heads(&self, input: usize) -> Vec<usize> {
+        let section = &self.sections[input];
+        let mut seen = Vec::new();
+        let mut heads = Vec::new();
+        for at in (0..section.len()).filter(|&at| section[at].place == Place::List) {
+            let flow = section[at].cell.flow_of();
+            if !seen.contains(&flow) {
+                seen.push(flow);
+                heads.push(at);
             }
         }
-        let mut straight_input = vec![false; ports];
-        let mut straight_output = vec![false; ports];
-        for (output, &held) in matched.iter().enumerate() {
-            if let Some((input, at)) = held {
-                if urgent[input].contains(&at) {
-                    straight_input[input] = true;
-                    straight_output[output] = true;
+        heads
+    }
+
+    fn choose(&self, input: usize, crossed: &[Vec<Cell>]) -> Choice {
+        let cell = |at: usize| self.sections[input][at].cell;
+        let (mut scheduled, mut blocked) = (None, Vec::new());
+        for at in self.heads(input) {
+            let opposite = crossed[cell(at).output as usize].iter().find(|c| c.input == cell(at).input);
+            match opposite {
+                Some(c) if cell(at).priority() < c.priority() => blocked.push(at),
+                Some(_) => (),
+                None => scheduled = scheduled.or(Some(at)),
+            }
+        }
+        let mut urgent: Vec<usize> = blocked
+            .into_iter()
+            .filter(|&at| scheduled.map_or(true, |s| at < s))
+            .filter(|&at| self.presses(&cell(at), crossed))
+            .collect();
+        if self.has(Fault::OneUrgentCellPerPairOfPorts) {
+            let first = |at: usize| urgent.iter().find(|&&other| cell(other).output == cell(at).output) == Some(&at);
+            urgent = urgent.iter().copied().filter(|&at| first(at)).collect();
+        }
+        Choice { scheduled, urgent }
+    }
+
+    /// Whether a cell is ahead of all in the crosspoints of its output.
+    fn presses(&self, cell: &Cell, crossed: &[Vec<Cell>]) -> bool {
+        self.has(Fault::UrgentWithoutTheOutputsCrosspoints)
+            || crossed[cell.output as usize].iter().all(|c| cell.priority() < c.priority())
+    }
+
+    /// The positions of each input's candidates, in the order in which it proposes them; none where no cell is urgent.
+    fn candidates(&self, choices: &[Choice]) -> Vec<Vec<usize>> {
+        if choices.iter().all(|c| c.urgent.is_empty()) {
+            return vec![Vec::new(); choices.len()];
+        }
+        let mut candidates: Vec<Vec<usize>> = choices.iter().map(|c| c.urgent.clone()).collect();
+        for (input, choice) in choices.iter().enumerate() {
+            let first = self.sections[input].iter().position(|e| e.place == Place::List);
+            if choice.scheduled.is_some() && choice.scheduled == first {
+                candidates[input].extend(first);
+            }
+            candidates[input].sort();
+            if self.has(Fault::SmallestCushionProposedFirst) {
+                candidates[input].sort_by_key(|&at| self.cushion(&self.sections[input][at].cell));
+            }
+        }
+        candidates
+    }
+
+    /// How many cells of higher output priority are in the buffer of a cell's output.
+    fn cushion(&self, cell: &Cell) -> usize {
+        let here = |e: &&Entry| e.place == Place::Buffer && e.cell.output == cell.output;
+        self.sections.iter().flatten().filter(here).filter(|e| e.cell.priority() < cell.priority()).count()
+    }
+
+    /// Deferred acceptance, one round after the other: every free input proposes its next candidate.
+    fn find_matching(&self, candidates: &[Vec<usize>]) -> (Matching, u32) {
+        let ports = candidates.len();
+        let (mut matched, mut proposals, mut next) = (vec![None; ports], 0, vec![0; ports]);
+        loop {
+            let free: Vec<usize> = (0..ports)
+                .filter(|&i| next[i] < candidates[i].len())
+                .filter(|&i| !matched.iter().flatten().any(|&(held, _)| held == i))
+                .collect();
+            if free.is_empty() {
+                return (matched, proposals);
+            }
+            for i in free {
+                let at = candidates[i][next[i]];
+                let cell = self.sections[i][at].cell;
+                proposals += 1;
+                let output = cell.output as usize;
+                match matched[output] {
+                    Some((j, other)) if self.sections[j][other].cell.priority() < cell.priority() => next[i] += 1,
+                    Some((j, _)) => {
+                        next[j] += 1;
+                        matched[output] = Some((i, at));
+                    }
+                    None => matched[output] = Some((i, at)),
+                }
+            }
+        }
+    }
+
+    /// Moves the matched urgent cells: which inputs and which outputs have one.
+    fn go_straight(&mut self, choices: &[Choice], matched: &Matching) -> (Vec<bool>, Vec<bool>) {
+        let (mut inputs, mut outputs) = (vec![false; choices.len()], vec![false; choices.len()]);
+        for (output, held) in matched.iter().enumerate() {
+            if let Some((input, at)) = *held {
+                if choices[input].urgent.contains(&at) || self.has(Fault::MatchedScheduledCellGoesStraight) {
+                    inputs[input] = true;
+                    outputs[output] = true;
                     self.sections[input][at].place = Place::Buffer;
                 }
             }
         }
-        for input in 0..ports {
-            if let (Some(at), false) = (scheduled[input], straight_input[input]) {
+        (inputs, outputs)
+    }
+
+    fn send_scheduled(&mut self, choices: &[Choice], straight: &[bool]) {
+        for (input, choice) in choices.iter().enumerate() {
+            if straight[input] && !self.has(Fault::UrgentAndScheduledBothSent) {
+                continue;
+            }
+            if let Some(at) = choice.scheduled {
                 self.sections[input][at].place = Place::Crosspoint;
             }
         }
-        for output in 0..ports {
-            if straight_output[output] {
+    }
+
+    fn take_from_crosspoints(&mut self, straight: &[bool]) {
+        for (output, &came) in straight.iter().enumerate() {
+            if came && !self.has(Fault::StraightOutputAlsoReadsACrosspoint) {
                 continue;
             }
             let best = self.crossed(output as u32).into_iter().min_by_key(|c| c.priority());
@@ -231,7 +301,6 @@ impl Crossbar {
                 entry.place = Place::Buffer;
             }
         }
-        proposals
     }
 
     fn depart(&mut self, output: u32) -> Option<Cell> {
@@ -268,11 +337,16 @@ pub struct Pifo {
     pub ports: u32,
     pub clock: u32,
     pub queues: Vec<Vec<Cell>>,
+    fault: Option<Fault>,
 }
 
 impl Pifo {
     pub fn fresh(ports: u32, first: u32) -> Pifo {
-        Pifo { ports, clock: first, queues: vec![Vec::new(); ports as usize] }
+        Pifo { ports, clock: first, queues: vec![Vec::new(); ports as usize], fault: None }
+    }
+
+    pub fn with_fault(self, fault: Fault) -> Pifo {
+        Pifo { fault: Some(fault), ..self }
     }
 
     pub fn slot(&mut self, records: &[Record]) -> Result<Vec<Option<Cell>>, (u32, u32)> {
@@ -287,8 +361,12 @@ impl Pifo {
             self.queues[r[1] as usize].push(accepted(r, self.clock));
         }
         self.clock += 1;
+        let by_slot = self.fault == Some(Fault::PifoBySlotBeforeRank);
         Ok(self.queues.iter_mut().map(|q| {
-            let best = (0..q.len()).min_by_key(|&at| q[at].priority())?;
+            let best = (0..q.len()).min_by_key(|&at| {
+                let (rank, slot, input) = q[at].priority();
+                if by_slot { (slot, rank, input) } else { (rank, slot, input) }
+            })?;
             Some(q.remove(best))
         }).collect())
     }

@@ -1,0 +1,132 @@
+//! A rule that is wrong in one point is noticed: on random slots from a fresh switch the wrong switch parts from the right one.
+//!
+//! SLOTS=n and SEED=n in the environment run the right rules longer, or other lists.
+
+mod random;
+mod reference;
+mod traffic;
+
+use random::{setting, Random};
+use reference::{Cell, Crossbar, Fault, Pifo, Place, Record};
+use traffic::Traffic;
+
+/// Calls after which a fault counts as unnoticed. The one that hides best takes some 140,000.
+const MOST: u64 = 2_000_000;
+
+/// What demand 3 finds out: departures or refusals other than the PIFO switch's, or a limit passed.
+const AGAINST_DEMAND_3: [Fault; 9] = [
+    Fault::ArrivalsAtTheEnd,
+    Fault::OneUrgentCellPerPairOfPorts,
+    Fault::UrgentWithoutTheOutputsCrosspoints,
+    Fault::MatchedScheduledCellGoesStraight,
+    Fault::StraightOutputAlsoReadsACrosspoint,
+    Fault::UrgentAndScheduledBothSent,
+    Fault::PhaseTwoLeftOut,
+    Fault::Checks7And8OnTheListAlone,
+    Fault::PifoBySlotBeforeRank,
+];
+
+/// How many cells of a place each port has, the port being the cell's input or its output.
+fn counts(s: &Crossbar, place: Place, port: fn(&Cell) -> u32) -> Vec<usize> {
+    let of = |p: u32| s.sections.iter().flatten().filter(|e| e.place == place && port(&e.cell) == p).count();
+    (0..s.ports).map(of).collect()
+}
+
+/// Scope 4.5: at most two cells left an input's list, at most two came to an output's buffer, and no crosspoint has two.
+fn within_limits(before: &Crossbar, after: &Crossbar, records: &[Record], departures: &[Option<Cell>]) -> bool {
+    let listed = |s: &Crossbar| counts(s, Place::List, |c| c.input);
+    let buffered = |s: &Crossbar| counts(s, Place::Buffer, |c| c.output);
+    let (lists, lists_after) = (listed(before), listed(after));
+    let (buffers, buffers_after) = (buffered(before), buffered(after));
+    let came = |port: usize| records.iter().filter(|r| r[0] as usize == port).count();
+    let crossed: Vec<(u32, u32)> = after
+        .sections
+        .iter()
+        .flatten()
+        .filter(|e| e.place == Place::Crosspoint)
+        .map(|e| (e.cell.input, e.cell.output))
+        .collect();
+    (0..before.ports as usize).all(|port| {
+        lists[port] + came(port) <= lists_after[port] + 2
+            && buffers_after[port] + departures[port].iter().count() <= buffers[port] + 2
+    }) && (0..crossed.len()).all(|at| !crossed[..at].contains(&crossed[at]))
+}
+
+/// Whether a call on the crossbar is answered as by the PIFO switch, within the limits.
+fn alike(crossbar: &mut Crossbar, pifo: &mut Pifo, records: &[Record]) -> bool {
+    let before = crossbar.clone();
+    match (crossbar.slot(records), pifo.slot(records)) {
+        (Ok(a), Ok(sent)) => a.departures == sent && within_limits(&before, crossbar, records, &sent),
+        (Err(a), Err(b)) => a == b,
+        _ => false,
+    }
+}
+
+/// The pair of switches that a run compares, fresh.
+fn pair(fault: Option<Fault>, ports: u32, first: u32) -> (Crossbar, Pifo) {
+    let (crossbar, pifo) = (Crossbar::fresh(ports, first), Pifo::fresh(ports, first));
+    match fault {
+        None => (crossbar, pifo),
+        Some(f) => (crossbar.with_fault(f), pifo.with_fault(f)),
+    }
+}
+
+/// Plays random lists of slots until a call is not as it should be, and says how many calls that took; None if all of so
+/// many were. `right` is told the number of ports and the first slot, and judges each call on its arrivals.
+fn noticed<R>(most: u64, right: impl Fn(u32, u32) -> R) -> Option<u64>
+where
+    R: FnMut(&[Record]) -> bool,
+{
+    let mut r = Random(setting("SEED", 1) * 2 + 88172645463325252);
+    let mut calls = 0;
+    while calls < most {
+        let (ports, first) = (4 + r.below(5) as u32, r.below(1000) as u32);
+        let mut shown = Crossbar::fresh(ports, first);
+        let mut judge = right(ports, first);
+        let mut traffic = Traffic::new(&mut r, ports);
+        for _ in 0..24 {
+            let records = traffic.records(&mut r, &shown);
+            calls += 1;
+            if !judge(&records) {
+                return Some(calls);
+            }
+            let _ = shown.slot(&records);
+        }
+    }
+    None
+}
+
+/// How many calls it takes until demand 3 finds a fault out.
+fn against_demand_3(fault: Option<Fault>, most: u64) -> Option<u64> {
+    noticed(most, |ports, first| {
+        let (mut crossbar, mut pifo) = pair(fault, ports, first);
+        move |records: &[Record]| alike(&mut crossbar, &mut pifo, records)
+    })
+}
+
+#[test]
+fn the_right_rules_pass() {
+    assert_eq!(against_demand_3(None, setting("SLOTS", 100_000)), None);
+}
+
+#[test]
+fn wrong_rules_are_noticed() {
+    for fault in AGAINST_DEMAND_3 {
+        let calls = against_demand_3(Some(fault), MOST);
+        println!("{fault:?}: {calls:?}");
+        assert!(calls.is_some(), "{fault:?} goes unnoticed");
+    }
+}
+
+/// The smallest cushion first (scope 10.1) is another order of proposals. No other departure was ever found, so it is told from
+/// the right rule by the answer, which has their number.
+#[test]
+fn another_order_of_proposals_is_noticed() {
+    let calls = noticed(MOST, |ports, first| {
+        let mut right = Crossbar::fresh(ports, first);
+        let mut wrong = right.clone().with_fault(Fault::SmallestCushionProposedFirst);
+        move |records: &[Record]| right.slot(records) == wrong.slot(records)
+    });
+    println!("{:?}: {calls:?}", Fault::SmallestCushionProposedFirst);
+    assert!(calls.is_some(), "the order of the proposals goes unnoticed");
+}

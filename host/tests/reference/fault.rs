@@ -1,0 +1,25 @@
+//! Rules that are wrong in one point, each with the rule of docs/SCOPE.md that it breaks.
+
+#[derive(Clone, Copy, Debug, PartialEq, Eq)]
+pub enum Fault {
+    /// 3.1, 10.4: every arrival goes to the end of its list.
+    ArrivalsAtTheEnd,
+    /// 3.5, 10.2: of the blocked heads of a pair of ports that could be urgent only the first is.
+    OneUrgentCellPerPairOfPorts,
+    /// 3.5: a blocked head is urgent whatever stands in the crosspoints of its output.
+    UrgentWithoutTheOutputsCrosspoints,
+    /// 3.7: a matched cell goes straight even if it is a scheduled one.
+    MatchedScheduledCellGoesStraight,
+    /// 3.8, 10.3: an output to which a cell came straight takes one from a crosspoint too.
+    StraightOutputAlsoReadsACrosspoint,
+    /// 3.7: an input whose urgent cell went straight sends its scheduled cell too.
+    UrgentAndScheduledBothSent,
+    /// 3.2: a slot has one phase.
+    PhaseTwoLeftOut,
+    /// 6.2: 7 and 8 go by the cells in the lists, not by all that wait.
+    Checks7And8OnTheListAlone,
+    /// 2.3: the PIFO switch compares slots before ranks.
+    PifoBySlotBeforeRank,
+    /// 10.1: an input proposes the cell of the smallest cushion first.
+    SmallestCushionProposedFirst,
+}
