@@ -36,10 +36,18 @@ def unknown_names(sources, path):
             yield fault_at(path, text, found.start(), f"`{name}` is no name of the project")
 
 
+def lost_targets(sources, path):
+    """A command `make ..` in a block of commands."""
+    text = present(path)
+    for found in re.finditer(r"^    make (\w+)", text, re.M):
+        if found[1] not in sources.targets:
+            yield fault_at(path, text, found.start(), f"the Makefile has no {found[1]}")
+
+
 def misplaced_names(sources, path):
     """A name right before a file in brackets, as in `over` (`cell/specs/Order`), is declared in that file."""
     text = present(path)
-    for found in re.finditer(r"`([^`\s]+)` \(`(\w+/(?:src|specs|proofs)/\w+)`", text):
+    for found in re.finditer(r"`([^`\s]+)`\s+\(`(\w+/(?:src|specs|proofs)/\w+)`", text):
         name, files = found[1], [f for f in sources.paths(found[2]) if f in sources.declared]
         if files and name not in sources.crates and not sources.declares(files, name):
             yield fault_at(path, text, found.start(), f"`{name}` is not declared in {found[2]}")
@@ -76,7 +84,7 @@ def untold_crates(sources):
 
 def name_faults(sources):
     for path in texts(sources):
-        for check in (unknown_names, misplaced_names, misplaced_theorems):
+        for check in (unknown_names, lost_targets, misplaced_names, misplaced_theorems):
             yield from check(sources, path)
     for path in sources.files:
         yield from lost_paths(sources, path)

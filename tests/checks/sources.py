@@ -1,6 +1,5 @@
 """What the sources declare: what a name in a text may be a name of."""
 import fnmatch
-import os
 import re
 
 from checks.files import all_files, parents, read
@@ -98,7 +97,8 @@ class Sources:
             self.words |= set(re.findall(r"[\w.-]+", code))
 
     def paths(self, text):
-        """The files and folders that a path names: from the root, from crates/ or from a crate, with or without ending."""
+        """The files and folders that a path names, with or without ending: from the root, from crates/, or by the last
+        parts of a path there (a star of fnmatch goes over slashes)."""
         tries = [p + text.rstrip("/") + e for p in ("", "crates/", "crates/*/") for e in ("", ".rt", ".antt", ".in")]
         return [f for t in tries for f in fnmatch.filter(self.files, t) + fnmatch.filter(self.folders, t)]
 
@@ -106,10 +106,6 @@ class Sources:
         """Whether all parts of a name are declared in one of the files; `..` stands for any letters."""
         patterns = [part.replace("..", "*") for part in name.split("::")]
         return any(all(fnmatch.filter(self.declared.get(f, ()), p) for p in patterns) for f in files)
-
-    def is_stem(self, text):
-        """A file of a crate by its last part alone."""
-        return any(os.path.basename(p).split(".")[0] == text for p in self.declared)
 
     def is_edit(self, text):
         crate, _, edit = text.rpartition("/")
@@ -131,7 +127,9 @@ class Sources:
         command, *rest = text.split()
         if command == "make":
             return rest[0] in self.targets
-        return command == "rt" or "/" in command and bool(self.paths(command)) or bool(rest and self.paths(rest[-1]))
+        if command == "man":
+            return bool(self.paths(rest[-1]))
+        return command == "rt" or "/" in command and bool(self.paths(command))
 
     def is_trace(self, text):
         """A key of the grammar, or lines of it."""
@@ -152,7 +150,6 @@ class Sources:
         sets = (self.names, self.libraries, self.words, TOOLCHAIN)
         tests = (
             self.paths,
-            self.is_stem,
             self.is_edit,
             self.is_qualified,
             self.is_command,
