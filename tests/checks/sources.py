@@ -62,7 +62,7 @@ def declared_in_code(code):
 
 def crates():
     """The crates by name, each with the crates and libraries that it names in crates.txt, in that order."""
-    lines = [line.split(":") for line in read("crates.txt").splitlines() if not line.startswith("#")]
+    lines = [line.split(":") for line in read("crates.txt").splitlines() if line and not line.startswith("#")]
     return {crate: named.split() for crate, named in lines}
 
 

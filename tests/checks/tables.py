@@ -1,7 +1,8 @@
-"""The pages that are made from the sources: docs/REQUIRES.md and docs/SIZES.md."""
+"""The pages that are made from the sources: docs/REQUIRES.md, docs/SIZES.md and the picture of the layers."""
 import re
 
 from checks.files import fault_at, read, write
+from checks.layers import picture
 from checks.sources import crates
 
 # The page that says in words what the functions of each file ask, and the one that has the seconds of each crate.
@@ -21,8 +22,8 @@ from their own file. Each caller proves what is asked, and {words} says what tha
 SIZES = """# Sizes of the crates
 
 All lines of the files in `src`, `specs` and `proofs`, blank lines and comments included, and the number of must-fail edits. A change
-in a crate, be it of a proof alone, rechecks it and every crate that names it in `crates.txt`: the last column has their number,
-itself included, and the sum of their seconds in {seconds}. `tests/docs --write` makes this page.
+in a crate, be it of a proof alone, rechecks it and every crate above it in `crates.txt`: the last column has their number, itself
+included, and the sum of their seconds in {seconds}. `tests/docs --write` makes this page.
 
 | crate | code | definitions | laws and proofs | edits | a change rechecks |
 |---|---|---|---|---|---|
@@ -114,8 +115,10 @@ def seconds_of_checks():
 
 
 def rechecked(crate, seconds):
-    named = crates()
-    again = [c for c in named if c == crate or crate in named[c]]
+    named, again = crates(), [crate]
+    for c in named:  # bottom up, so that what c names has been asked before
+        if any(d in again for d in named[c]):
+            again.append(c)
     many = "itself" if len(again) == 1 else f"{len(again)} crates"
     return f"{many}, {sum(seconds.get(c, 0) for c in again)} s"
 
@@ -136,11 +139,15 @@ def sizes_page(sources):
     return SIZES.format(seconds=SECONDS, rows="\n".join(rows))
 
 
-# Both
+# All of them
 
 
 def pages(sources):
-    return {"docs/REQUIRES.md": requires_page(sources), "docs/SIZES.md": sizes_page(sources)}
+    return {
+        "docs/REQUIRES.md": requires_page(sources),
+        "docs/SIZES.md": sizes_page(sources),
+        "docs/layers.svg": picture(),
+    }
 
 
 def stale_line(old, new):

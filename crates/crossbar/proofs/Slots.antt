@@ -9,7 +9,7 @@ use borrow.Author.Tests.{eq-eqb}
 use lib.ListN.{length}
 use Rattle.cell.specs.declared.Refusal.the-variants.{BrokenTable}
 use Rattle.cell.specs.Refusal.{number}
-use Rattle.model.specs.Checks.{Outcome, done, refused}
+use Rattle.model.specs.Checks.{Outcome, done, refused, refusalOf}
 use Rattle.model.specs.Crossbar.{Course}
 use Rattle.model.specs.Tally.{tallyAfter, arrivalCount}
 use Rattle.layout.specs.Arrivals.{recordsOf}
@@ -17,10 +17,9 @@ use Rattle.layout.specs.Host.{resultOf, slotCall, tableAfter, answerAfter, tall
 use Rattle.layout.specs.TallyBytes.{tallyOf, tallyBytes, tallySize}
 use Rattle.layout.proofs.Host.{slotCall-tally, tallyBytesAfter-broken}
 use Rattle.cell.specs.declared.Fault.{Fault}
-use Rattle.fabric.specs.Slot.{refusalOf}
-use Rattle.lent.specs.Lent.{lentSlot}
-use Rattle.lent.proofs.FromBytes.{Answered}
-use Rattle.crossbar.specs.Lent.{faultResult}
+use Rattle.slot_call.specs.CodeLent.{lentSlot}
+use Rattle.slot_call.proofs.FromBytes.{Answered}
+use Rattle.crossbar.specs.Code.{faultResult}
 
 -- a call with a tally of the right length comes to the slot on lent bytes
 call-lent : (table arrivals answer tally : List ℕ) → length tally ≡ tallySize

@@ -4,9 +4,9 @@ use cell::Refusal;
 use cell::Switch;
 use layout::TABLE_BYTES;
 use layout::TALLY_BYTES;
-use table::header::write_fresh;
+use layout_table::header::write_fresh;
 ghost use mathlib.Core.Path.{_≡_};
-ghost use Rattle.crossbar.specs.Lent.{faultResult};
+ghost use Rattle.crossbar.specs.Code.{faultResult};
 ghost use Rattle.layout.specs.Host.{checkCall, startCall, bufferAfter, resultOf};
 ghost use Rattle.layout.specs.Host.{slotCall, CallLeaves};
 
@@ -33,7 +33,7 @@ pub extern "C" fn start(ports: u32, first: u32, table: &mut [u8]) -> u32
 pub extern "C" fn check(table: &[u8]) -> u32
     ensures { λ r. ⌜ r ≡ checkCall (now (table .entry)) ⌝ }
 {
-    if table::check::is_table(table) {
+    if slot_check::is_table(table) {
         return 0;
     }
     Refusal::BrokenTable.number()
@@ -61,7 +61,7 @@ pub extern "C" fn slot(
     if tally.len() != TALLY_BYTES {
         return Refusal::BrokenTable.number() as u64;
     }
-    result_of(lent::bytes::slot(table, arrivals, answer, tally))
+    result_of(slot_call::bytes::slot(table, arrivals, answer, tally))
 }
 
 // 0, or the number of the refusal and 256 times the record's place.

@@ -7,8 +7,9 @@
 --     sameList same l m as many in l as in m, each the same as the one at its place
 --     update i f l      l with f applied to its element i; l itself where it has none
 --     upTo n            0, 1, .. n - 1
+--     between k n       k, k + 1, .. n - 1
 --     first? l          the first of l, if it has one
-use Prim.Native.Nat.{ℕ, zero, suc, _+_}
+use Prim.Native.Nat.{ℕ, zero, suc, _+_, _-_}
 use mathlib.Core.Bool.{Bool, true, false, cond, not, _&&_, _||_}
 use mathlib.Core.List.{List, [], _∷_}
 use mathlib.Core.Option.{Option, none, some}
@@ -63,3 +64,7 @@ numbersFrom k (suc n) = k ∷ numbersFrom (k + 1) n
 
 unfoldable pub upTo : ℕ → List ℕ
 upTo n = numbersFrom 0 n
+
+-- the numbers from one up to another, which is not among them
+unfoldable pub between : ℕ → ℕ → List ℕ
+between from to = numbersFrom from (to - from)

@@ -7,9 +7,10 @@ use native.Mathlib.Numerals.{add-one}
 use native.Mathlib.Omega.{arith}
 use lib.ListN.{length, take, drop, set, getD, length-drop}
 use lib.Seq.{drop-drop, take-add, length-take-le, set-split}
-use Rattle.layout.specs.Number.{bytesOf, numberOf, numberAt, put}
+use Rattle.layout.specs.Number.{bytesOf, numberOf, numberAt}
 use Rattle.layout.proofs.Number.{length-bytesOf}
 use Rattle.layout.proofs.Put.{put-next}
+use Rattle.layout.specs.Code.{put}
 
 ------------------------------------------------------------------------
 -- read

@@ -9,7 +9,8 @@ use mathlib.Core.Path.{_≡_, refl, sym, _∙_, ap, ap₂}
 use mathlib.Core.List.{List, _++_, append-assoc}
 use lib.ListN.{length, take, drop, length-append, length-drop}
 use lib.Seq.{take-at, drop-at, drop-drop, length-take-le}
-use Rattle.layout.specs.Number.{bytesOf, put}
+use Rattle.layout.specs.Number.{bytesOf}
+use Rattle.layout.specs.Code.{put}
 
 module _ (at n : ℕ) (xs old : List ℕ) (size : length xs ≡ n) (room : at + n ≤ length old) where
   front : length (take at old ++ xs) ≡ at + n

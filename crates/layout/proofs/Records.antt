@@ -14,7 +14,7 @@ use borrow.Author.Tests.{eqb-true, eqb-false}
 use lib.Dec.{eqb, lit≤}
 use lib.ListN.{length, take, drop, getD, length-map}
 use lib.Seq.{take-take, drop-drop, take-nil, getD-drop}
-use Rattle.laws.specs.Lists.{all?, numbersFrom, upTo}
+use Rattle.laws.specs.Lists.{all?, numbersFrom, upTo, between}
 use Rattle.laws.proofs.Tests.{either, and-l, and-r}
 use Rattle.laws.proofs.Lists.{all?-map}
 use Rattle.laws.proofs.Numbers.{mem-numbersFrom, numbersFrom-add, numbersFrom-at}
@@ -26,8 +26,8 @@ use Rattle.layout.specs.Number.{numberOf, numberAt, word}
 use Rattle.layout.specs.Table.{headerSize, entrySize, sectionSize, placeOf, entryOf, entriesOf, sectionsOf}
 use Rattle.layout.specs.Table.{stateOf}
 use Rattle.layout.specs.Entry.{entryAt, countIn}
-use Rattle.layout.specs.Records.{recordStart, recordAt, placeByteAt, between, entriesBetween, firstRecord}
-use Rattle.layout.specs.Records.{sectionAt}
+use Rattle.layout.specs.Code.{recordStart, recordAt, placeByteAt, entriesBetween, firstRecord}
+use Rattle.layout.specs.Code.{sectionAt}
 use Rattle.layout.proofs.Halves.{numberAt-byte}
 use Rattle.layout.proofs.Table.{soundSection-size, sound-sections}
 

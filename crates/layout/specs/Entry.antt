@@ -10,9 +10,6 @@ use Rattle.layout.specs.Table.{entryOf, entrySize, headerSize}
 unfoldable pub entryAt : List ℕ → ℕ → Entry
 entryAt bs k = entryOf (k / sectionRoom) (take entrySize (drop (headerSize + entrySize * k) bs))
 
-unfoldable pub portsIn : List ℕ → ℕ
-portsIn bs = word bs 4
-
 unfoldable pub clockIn : List ℕ → ℕ
 clockIn bs = word bs 8
 

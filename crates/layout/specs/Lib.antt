@@ -1,8 +1,8 @@
 pub mod Answer
 pub mod Arrivals
+pub mod Code
 pub mod Entry
 pub mod Host
 pub mod Number
-pub mod Records
 pub mod Table
 pub mod TallyBytes

@@ -1,9 +1,9 @@
 -- Numbers as bytes, the least significant byte first.
 use Prim.Native.Nat.{ℕ, zero, suc, _+_, _*_, _/_, _%_}
 use mathlib.Core.Bool.{Bool, true, false, _&&_}
-use mathlib.Core.List.{List, [], _∷_, _++_}
+use mathlib.Core.List.{List, [], _∷_}
 use lib.Dec.{eqb}
-use lib.ListN.{take, drop, getD}
+use lib.ListN.{take, drop}
 
 -- n in so many bytes
 unfoldable pub bytesOf : ℕ → ℕ → List ℕ
@@ -28,7 +28,3 @@ sameBytes [] [] = true
 sameBytes [] (c ∷ cs) = false
 sameBytes (b ∷ bs) [] = false
 sameBytes (b ∷ bs) (c ∷ cs) = eqb b c && sameBytes bs cs
-
--- bytes at a place of a byte string, the others kept
-abbrev pub put : ℕ → ℕ → List ℕ → List ℕ → List ℕ
-put at width bs old = take at old ++ (bs ++ drop (at + width) old)

@@ -1,14 +1,13 @@
 -- The bytes of the table: a layout number, N, the clock, four bytes of zero, the number of entries of each input, one
 -- byte each, and sixteen sections of 64 records of 16 bytes. Unused records are zero. A table is the bytes of one sound
 -- state, and each sound state has one table.
-use Prim.Native.Nat.{ℕ, zero, suc, _+_, _*_, _-_, _<_}
+use Prim.Native.Nat.{ℕ, zero, suc, _+_, _*_, _-_}
 use mathlib.Core.Bool.{Bool, true, false, _&&_}
-use mathlib.Core.List.{List, [], _∷_, _++_, map}
+use mathlib.Core.List.{List, [], _∷_, _++_}
 use mathlib.Core.Path.{_≡_}
 use mathlib.Core.Option.{Option, none, some}
 use lib.Dec.{eqb}
 use lib.ListN.{length, take, drop, replicate}
-use Rattle.cell.specs.declared.Cell.{Cell}
 use Rattle.cell.specs.Limits.{portLimit, sectionRoom}
 use Rattle.model.specs.State.{Place, listed, crossed, buffered, Entry, Switch}
 use Rattle.model.specs.Sound.{sound}
@@ -31,11 +30,7 @@ abbrev pub sectionSize : ℕ
 sectionSize = sectionRoom * entrySize
 
 abbrev pub tableSize : ℕ
-tableSize = headerSize + portLimit * sectionSize
-
--- bytes of a table's length, and the number of one of its records
-abbrev pub HasEntry : List ℕ → ℕ → Type 0
-HasEntry bs k = (length bs ≡ tableSize) × (k < entryLimit)
+tableSize = headerSize + entryLimit * entrySize
 
 -- 1 in a list, 2 at a crosspoint, 3 in an output buffer
 unfoldable pub placeByte : Place → ℕ

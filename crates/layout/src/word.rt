@@ -3,7 +3,8 @@
 ghost use mathlib.Core.Path.{_≡_};
 ghost use Prim.Native.Nat.{_+_, _≤_};
 ghost use lib.ListN.{length};
-ghost use Rattle.layout.specs.Number.{word, numberAt, bytesOf, put};
+ghost use Rattle.layout.specs.Number.{word, numberAt, bytesOf};
+ghost use Rattle.layout.specs.Code.{put};
 
 // The number of 32 bits at a place.
 pub fn read_u32(bytes: &[u8], at: usize) -> u32

@@ -27,7 +27,7 @@ use Rattle.model.specs.State.{Entry, Switch, fresh, cells, isBuffered}
 use Rattle.model.specs.Checks.{Outcome, done, refused, firstFault}
 use Rattle.model.specs.Crossbar.{Course, run, slot, switchAfter, leaving, departuresOf}
 use Rattle.model.specs.Phase.{Waiting, waiting, among, beats, sameOutput}
-use Rattle.model.specs.Slackness.{Orderly, otherNumber}
+use Rattle.model.specs.CodeSlackness.{Orderly, otherNumber}
 use Rattle.model.specs.Sound.{sound}
 use Rattle.model.specs.Emulation.{lent}
 use Rattle.cell.specs.declared.Tally.{Tally}

@@ -24,7 +24,7 @@ use Rattle.model.specs.Phase.{Waiting, waiting, sameCrosspoint, Phase, p
 use Rattle.model.specs.Phase.{afterSending, moved}
 use Rattle.model.specs.Crossbar.{Course, run}
 use Rattle.model.specs.Emulation.{cellsAt, taken, brought, atCrosspoint, WithinLimits}
-use Rattle.model.specs.Slackness.{Orderly, OneCrosspoint, apart, relocate, relocated}
+use Rattle.model.specs.CodeSlackness.{Orderly, OneCrosspoint, apart, relocate, relocated}
 use Rattle.model.proofs.SoundOrderly.{sound-orderly, sound-one-crosspoint}
 use Rattle.model.proofs.SoundSlot.{arrived-sound, between-sound, settled-sound}
 use Rattle.model.proofs.PhaseLimits.{phase-taken, phase-brought, sent-crosspoint}

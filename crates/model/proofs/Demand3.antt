@@ -26,7 +26,7 @@ use Rattle.model.specs.Crossbar.{Course, answerOf, refusedAnswer, slotAn
 use Rattle.model.specs.Pifo.{Pifo, freshPifo, Sent, sentDepartures, runPifo, slotPifo, pifoAfter}
 use Rattle.model.specs.Phase.{waiting}
 use Rattle.model.specs.Sound.{sound}
-use Rattle.model.specs.Slackness.{Slack}
+use Rattle.model.specs.CodeSlackness.{Slack}
 use Rattle.model.specs.Tally.{switchAfterAll}
 use Rattle.model.specs.Emulation.{lent, AnswersAlike, Within, Alike, Demand3}
 use Rattle.model.proofs.CourseLimits.{within-limits}

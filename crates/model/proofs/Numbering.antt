@@ -29,7 +29,7 @@ use Rattle.model.specs.State.{Place, Entry, isListed}
 use Rattle.model.specs.Phase.{Waiting, numberFrom, numberSections, numbered, waiting, ahead, among, Phase}
 use Rattle.model.specs.Phase.{placeAfter, placedBy, moved}
 use Rattle.model.specs.Crossbar.{without}
-use Rattle.model.specs.Slackness.{relocate, relocated, otherNumber}
+use Rattle.model.specs.CodeSlackness.{relocate, relocated, otherNumber}
 use Rattle.model.proofs.WaitingOrder.{ahead-i, ahead-input, ahead-at}
 use Rattle.model.proofs.Bags.{mem-flatten, flatten-mem, keep-flatten}
 use Rattle.model.proofs.Sections.{flatten-map, count-flatten-one, pairwise-flatten}

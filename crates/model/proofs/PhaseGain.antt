@@ -19,7 +19,7 @@ use Rattle.cell.proofs.Flow.{flow-output}
 use Rattle.model.specs.State.{isListed, isCrossed, isBuffered}
 use Rattle.model.specs.Phase.{Waiting, sameInput, sameOutput, sameCrosspoint, ahead, beats, phase, blocked}
 use Rattle.model.specs.Phase.{crosspointEmpty, placeAfter, lists, crosspoints}
-use Rattle.model.specs.Slackness.{Orderly, thread}
+use Rattle.model.specs.CodeSlackness.{Orderly, thread}
 use Rattle.model.proofs.WaitingOrder.{input-i, input-e, output-i, output-e, crosspoint-output, beats-i}
 use Rattle.model.proofs.WaitingOrder.{beats-output, ahead-trans, beats-trans, ahead-total, beats-total}
 use Rattle.model.proofs.PhaseFacts.{firsts, lists-all, lists-listed, crosspoints-all}

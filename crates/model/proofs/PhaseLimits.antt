@@ -20,7 +20,7 @@ use Rattle.cell.specs.Order.{over}
 use Rattle.model.specs.State.{Place, isListed, isCrossed, isBuffered}
 use Rattle.model.specs.Phase.{Waiting, sameInput, sameOutput, sameCrosspoint, ahead, beats, phase, placeSent}
 use Rattle.model.specs.Phase.{placeAfter}
-use Rattle.model.specs.Slackness.{Orderly, otherNumber, otherArrival, relocate, relocated, OneCrosspoint, apart}
+use Rattle.model.specs.CodeSlackness.{Orderly, otherNumber, otherArrival, relocate, relocated, OneCrosspoint, apart}
 use Rattle.model.proofs.WaitingOrder.{input-i, output-i, crosspoint-i, crosspoint-input, crosspoint-output}
 use Rattle.model.proofs.WaitingOrder.{ahead-total, beats-total}
 use Rattle.model.proofs.PhaseFacts.{crosspoints-i, scheduled-empty, scheduled-one, sent-scheduled, sent-free}

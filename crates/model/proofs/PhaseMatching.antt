@@ -20,7 +20,7 @@ use Rattle.matching.proofs.Matching.{matched-stable, matched-best, proposals-bo
 use Rattle.model.specs.State.{isListed}
 use Rattle.model.specs.Phase.{Waiting, ahead, beats, among, phase, takesPart, candidates, straight}
 use Rattle.model.specs.Phase.{lists, crosspoints}
-use Rattle.model.specs.Slackness.{Orderly}
+use Rattle.model.specs.CodeSlackness.{Orderly}
 use Rattle.model.proofs.WaitingOrder.{ahead-strict, beats-strict, among-i, among-e, ahead-total, beats-total}
 use Rattle.model.proofs.PhaseFacts.{firsts, lists-all, crosspoints-all, head-listed}
 use Rattle.model.proofs.PhaseFacts.{scheduled-head, urgent-head, sent-scheduled, pulled-in}

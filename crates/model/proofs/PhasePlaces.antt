@@ -11,7 +11,7 @@ use mathlib.Core.List.{List, List·Memᴰ}
 use Rattle.laws.proofs.Tests.{clash, either, by-fail, cond-pass, cond-fail}
 use Rattle.model.specs.State.{Place, listed, crossed, buffered, isListed, isCrossed, isBuffered}
 use Rattle.model.specs.Phase.{Waiting, among, phase, placeSent, placeAfter, crosspoints}
-use Rattle.model.specs.Slackness.{Orderly}
+use Rattle.model.specs.CodeSlackness.{Orderly}
 use Rattle.model.proofs.WaitingOrder.{among-i, among-e}
 use Rattle.model.proofs.PhaseFacts.{lists-listed, crosspoints-crossed, head-listed, scheduled-head}
 use Rattle.model.proofs.PhaseFacts.{sent-scheduled, pulled-in}

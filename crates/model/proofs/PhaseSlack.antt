@@ -13,7 +13,7 @@ use Rattle.laws.proofs.Tests.{clash, and-i, and-l, and-r, either, cond-pass, co
 use Rattle.laws.proofs.Count.{count-le, count-lt, count-map}
 use Rattle.model.specs.State.{isListed, isCrossed, isBuffered}
 use Rattle.model.specs.Phase.{Waiting, sameInput, sameOutput, ahead, beats, phase, placeAfter}
-use Rattle.model.specs.Slackness.{Orderly, thread, Slack, cushion, relocate, relocated}
+use Rattle.model.specs.CodeSlackness.{Orderly, thread, Slack, cushion, relocate, relocated}
 use Rattle.model.proofs.PhaseFacts.{lists-i, crosspoints-i}
 use Rattle.model.proofs.PhasePlaces.{outside-buffers, after-straight, listed-forward, buffered-forward}
 use Rattle.model.proofs.PhasePlaces.{outside-forward, taken-by}

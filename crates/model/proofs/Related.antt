@@ -25,7 +25,7 @@ use Rattle.model.specs.Checks.{done, refused, firstFault}
 use Rattle.model.specs.Phase.{Waiting, waiting, among}
 use Rattle.model.specs.Crossbar.{leaving, run, slot}
 use Rattle.model.specs.Pifo.{Pifo, freshPifo, queued, join, runPifo, slotPifo}
-use Rattle.model.specs.Slackness.{otherNumber, otherArrival}
+use Rattle.model.specs.CodeSlackness.{otherNumber, otherArrival}
 use Rattle.model.specs.Emulation.{SameWaiting}
 use Rattle.model.proofs.Admitted.{same-faults, admitted}
 use Rattle.model.proofs.Bags.{SameBag, bag-of-path, bag-keep}

@@ -22,7 +22,7 @@ use Rattle.cell.specs.Cell.{sameCell}
 use Rattle.model.specs.State.{isBuffered}
 use Rattle.model.specs.Phase.{Waiting, sameOutput, beats, among}
 use Rattle.model.specs.Crossbar.{leaving, departuresOf}
-use Rattle.model.specs.Slackness.{otherNumber, otherArrival}
+use Rattle.model.specs.CodeSlackness.{otherNumber, otherArrival}
 use Rattle.model.proofs.Bags.{SameBag, bag-trans, bag-of-path, bag-keep, bag-least, bag-passed, bag-first?, first?-map}
 use Rattle.model.proofs.WaitingOrder.{beats-trans, differ}
 use Rattle.model.proofs.CellOrder.{goesTo, beatsCell, beats-cell-total, same-cell-refl, same-cell-path}

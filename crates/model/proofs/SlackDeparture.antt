@@ -24,7 +24,7 @@ use Rattle.cell.proofs.Order.{over-total}
 use Rattle.model.specs.State.{Entry, isListed, isBuffered}
 use Rattle.model.specs.Phase.{Waiting, numberFrom, waiting, beats, among}
 use Rattle.model.specs.Crossbar.{leaving, without}
-use Rattle.model.specs.Slackness.{cushion, Slack, otherNumber, otherArrival}
+use Rattle.model.specs.CodeSlackness.{cushion, Slack, otherNumber, otherArrival}
 use Rattle.model.proofs.Numbering.{entryOf, numberFrom-entries, section-waiting, count-waiting, without-at}
 use Rattle.model.proofs.Numbering.{flatten-without}
 use Rattle.model.proofs.PhasePlaces.{listed-not-buffered}

@@ -22,7 +22,7 @@ use Rattle.cell.proofs.Order.{over-trans}
 use Rattle.cell.specs.Limits.{sectionRoom}
 use Rattle.model.specs.State.{Entry, isListed, isBuffered}
 use Rattle.model.specs.Phase.{Waiting, waiting, ahead, sameOutput, beats}
-use Rattle.model.specs.Slackness.{thread, cushion, Slack}
+use Rattle.model.specs.CodeSlackness.{thread, cushion, Slack}
 use Rattle.model.proofs.Numbering.{entryOf, numberedAt, Housed, mem-waiting, waiting-mem, count-waiting}
 use Rattle.model.proofs.Numbering.{ahead-prefix}
 

@@ -21,7 +21,7 @@ use Rattle.model.specs.State.{Entry, Switch, fresh, cells}
 use Rattle.model.specs.Checks.{firstFault}
 use Rattle.model.specs.Phase.{waiting, phase, moved}
 use Rattle.model.specs.Crossbar.{enter, arrive, Course, run}
-use Rattle.model.specs.Slackness.{Slack, Orderly}
+use Rattle.model.specs.CodeSlackness.{Slack, Orderly}
 use Rattle.model.specs.Sound.{soundSections, sound}
 use Rattle.model.proofs.Bags.{flatten-mem, length-update, count-update}
 use Rattle.model.proofs.Enter.{count-enter}

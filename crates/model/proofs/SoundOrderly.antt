@@ -21,7 +21,7 @@ use Rattle.cell.specs.Order.{over}
 use Rattle.model.specs.State.{Entry, isListed, isCrossed}
 use Rattle.model.specs.Phase.{Waiting, numberFrom, numbered, waiting, ahead, sameInput, sameOutput}
 use Rattle.model.specs.Phase.{sameCrosspoint}
-use Rattle.model.specs.Slackness.{otherArrival, Orderly, apart, OneCrosspoint}
+use Rattle.model.specs.CodeSlackness.{otherArrival, Orderly, apart, OneCrosspoint}
 use Rattle.model.specs.Sound.{otherSlot, otherCrosspoint, soundSections}
 use Rattle.model.proofs.Sections.{pairwise-flatten}
 use Rattle.model.proofs.SoundLaws.{SoundSection, sections-e, together-split}

@@ -15,7 +15,7 @@ use Rattle.cell.specs.Limits.{sectionRoom}
 use Rattle.model.specs.State.{Entry, isListed}
 use Rattle.model.specs.Phase.{Waiting, numberFrom, numbered, waiting, sameInput, sameOutput, sameCrosspoint}
 use Rattle.model.specs.Phase.{Phase, phase, placeAfter, moved}
-use Rattle.model.specs.Slackness.{relocate, relocated, apart, Orderly, OneCrosspoint}
+use Rattle.model.specs.CodeSlackness.{relocate, relocated, apart, Orderly, OneCrosspoint}
 use Rattle.model.specs.Sound.{otherSlot, otherCrosspoint, together, soundSections}
 use Rattle.model.proofs.Numbering.{entryOf, entryAfter, numberFrom-entries, mem-numberFrom, placed-entry}
 use Rattle.model.proofs.Numbering.{section-waiting, numbered-at, moved-at}

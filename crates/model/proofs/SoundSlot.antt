@@ -28,7 +28,7 @@ use Rattle.model.specs.Checks.{done, refused, firstFault}
 use Rattle.model.specs.Crossbar.{leaving, Course, run, slot, switchAfter}
 use Rattle.model.specs.Emulation.{lent}
 use Rattle.model.specs.Phase.{Waiting, waiting, among}
-use Rattle.model.specs.Slackness.{Orderly}
+use Rattle.model.specs.CodeSlackness.{Orderly}
 use Rattle.model.specs.Sound.{soundSections, sound}
 use Rattle.model.proofs.CheckOrder.{slot-broken}
 use Rattle.model.proofs.Numbering.{cells-waiting, length-moved, moved-cells, without-cells, length-without}

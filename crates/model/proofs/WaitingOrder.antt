@@ -20,7 +20,7 @@ use Rattle.cell.specs.Order.{over}
 use Rattle.laws.proofs.Compared.{Compared, below, equal, above, compare}
 use Rattle.cell.proofs.Order.{over-irrefl, over-trans, over-total}
 use Rattle.model.specs.Phase.{Waiting, sameInput, sameOutput, sameCrosspoint, ahead, beats, among}
-use Rattle.model.specs.Slackness.{Orderly, otherNumber, otherArrival}
+use Rattle.model.specs.CodeSlackness.{Orderly, otherNumber, otherArrival}
 
 ------------------------------------------------------------------------
 -- intro and elim

@@ -1,7 +1,7 @@
 -- Scope 6: the checks of a record, 4 to 8, in their order. Both switches use them, each fed
 -- the cells that wait in it before the slot. A record is looked at as the cell that it would become.
 use Prim.Native.Nat.{ℕ, _+_}
-use mathlib.Core.Bool.{Bool, true, false, cond, not, _&&_, _||_}
+use mathlib.Core.Bool.{Bool, false, cond, not, _&&_, _||_}
 use mathlib.Core.List.{List, [], _∷_}
 use mathlib.Core.Option.{Option, none, some}
 use lib.Dec.{ltb, leb, eqb}
@@ -12,6 +12,8 @@ use Rattle.cell.specs.declared.Refusal.{Refusal}
 use Rattle.cell.specs.declared.Refusal.the-variants.{NoSuchPort, NoSuchFlow, InputOrder, RankOrder, Full}
 use Rattle.cell.specs.Flow.{sameFlow}
 use Rattle.cell.specs.Limits.{flowInRange, inputFull}
+use Rattle.cell.specs.declared.Fault.{Fault}
+use Rattle.cell.specs.declared.Fault.the-variants.{Clear, At}
 
 -- What a call comes to: its result, or a refusal with the record's place (from 1; 0 where it names no record).
 pub data Outcome (A : Type 0) : Type 0 where
@@ -69,3 +71,8 @@ faultFrom ports waiting place before (c ∷ cs) =
 -- record by record 4 to 8: the first fault refuses the slot with its number and the record's place
 unfoldable pub firstFault : ℕ → List Cell → List Cell → Option (Refusal × ℕ)
 firstFault ports waiting cs = faultFrom ports waiting 1 none cs
+
+-- the refusal of an outcome, if it is one
+unfoldable pub refusalOf : {A : Type 0} → Outcome A → Fault
+refusalOf (done a) = Clear
+refusalOf (refused r place) = At r place

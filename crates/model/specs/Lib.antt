@@ -1,11 +1,11 @@
 pub mod Calls
 pub mod Checks
+pub mod CodeSlackness
 pub mod Crossbar
 pub mod Emulation
 pub mod Histories
 pub mod Phase
 pub mod Pifo
-pub mod Slackness
 pub mod Sound
 pub mod State
 pub mod Tally

@@ -7,13 +7,13 @@ use mathlib.Core.Logic.{_⊎_, inl, inr}
 use mathlib.Core.Path.{_≡_, refl, sym, ap}
 use lib.ListN.{length, take, drop}
 use Rattle.trace.specs.Piece.{enough}
-use Rattle.play.specs.Turn.{Over}
-use Rattle.turns.specs.declared.Stage.{Stage}
-use Rattle.turns.specs.declared.Stage.the-variants.{Opening, Playing, Ended, TurnedBack}
-use Rattle.turns.specs.Code.{standing, turnRoom, Took}
-use Rattle.turns.specs.Driver.{Held, place, Run, stops}
-use Rattle.turns.proofs.Driver.{run-over}
-use Rattle.player.specs.Program.{Finished, statusOf}
+use Rattle.player_text.specs.Turn.{Over}
+use Rattle.player_turns.specs.declared.Stage.{Stage}
+use Rattle.player_turns.specs.declared.Stage.the-variants.{Opening, Playing, Ended, TurnedBack}
+use Rattle.player_turns.specs.Turns.{standing, turnRoom, Took}
+use Rattle.player_turns.specs.Driver.{Held, place, Run, stops}
+use Rattle.player_turns.proofs.Driver.{run-over}
+use Rattle.player.specs.Code.{Finished, statusOf}
 
 pub opening-not : Opening ≡ Playing → ⊥
 opening-not e = let z : _≡_ {A = ℕ} 0 1 = cc in omega arith

@@ -9,10 +9,10 @@ use mathlib.Core.Path.{_≡_, refl, sym, _∙_, ap, ap₂}
 use lib.ListN.{length, getD, set, take, drop, length-append, length-drop, length-take}
 use lib.Seq.{take-suc, drop-cons, append-snoc, set-at, getD-append-add, getD-drop, length-take-le, take-append-le, take-take}
 use Rattle.layout.specs.Host.{filled}
-use Rattle.play.specs.Turn.{Turn}
-use Rattle.turns.specs.declared.Stage.{Stage}
-use Rattle.turns.specs.Code.{Left}
-use Rattle.player.specs.Window.{moved}
+use Rattle.player_text.specs.Turn.{Turn}
+use Rattle.player_turns.specs.declared.Stage.{Stage}
+use Rattle.player_turns.specs.Turns.{Left}
+use Rattle.player.specs.CodeWindow.{moved}
 
 module _ (from n : ℕ) (window : List ℕ) (h : from + n < length window) where
   front : length (take n (drop from window)) ≡ n

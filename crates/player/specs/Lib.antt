@@ -1,2 +1,3 @@
+pub mod Code
+pub mod CodeWindow
 pub mod Program
-pub mod Window

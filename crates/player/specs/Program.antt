@@ -10,8 +10,6 @@ use mathlib.Core.Logic.{_⊎_}
 use mathlib.Core.Path.{_≡_}
 use Rattle.trace.specs.Ascii.{ascii}
 use Rattle.layout.specs.Number.{sameBytes}
-use Rattle.turns.specs.declared.Stage.{Stage}
-use Rattle.turns.specs.declared.Stage.the-variants.{Opening, Playing, Ended, TurnedBack}
 use Rattle.player.specs.declared.Request.{Request}
 use Rattle.player.specs.declared.Request.the-variants.{Play, Help, Version, Unknown}
 
@@ -31,13 +29,3 @@ Answered Play status = status ≤ 2
 Answered Help status = Told status
 Answered Version status = Told status
 Answered Unknown status = status ≡ 2
-
-abbrev pub Finished : Stage → Type 0
-Finished stage = (stage ≡ Ended) ⊎ (stage ≡ TurnedBack)
-
--- played to its end, or refused
-unfoldable pub statusOf : Stage → ℕ
-statusOf Opening = 1
-statusOf Playing = 1
-statusOf Ended = 0
-statusOf TurnedBack = 1

@@ -3,13 +3,14 @@
 use libc::STDERR_FILENO;
 use libc::STDIN_FILENO;
 use libc::STDOUT_FILENO;
-use turns::Stage;
-use turns::take_turns;
+use player_turns::Stage;
+use player_turns::take_turns;
 ghost use mathlib.Core.Path.{_≡_};
 ghost use Prim.Native.Nat.{_-_, _≤_};
 ghost use lib.ListN.{length};
-ghost use Rattle.player.specs.Program.{requestOf, Answered, Told, Finished, statusOf};
-ghost use Rattle.player.specs.Window.{moved, Filled};
+ghost use Rattle.player.specs.Program.{requestOf, Answered, Told};
+ghost use Rattle.player.specs.CodeWindow.{moved, Filled};
+ghost use Rattle.player.specs.Code.{Finished, statusOf};
 
 // What the arguments ask for.
 enum Request {

@@ -33,10 +33,11 @@ use Rattle.laws.proofs.Compared.{Compared, below as lower, equal as alike, abov
 use Rattle.laws.proofs.Pairwise.{pairwise-keep}
 use Rattle.laws.proofs.Count.{count-cons, count-ext, count-map, length-keep-lt}
 use Rattle.laws.proofs.Numbers.{numbersFrom-add, numbersFrom-mem, mem-numbersFrom, length-numbersFrom}
-use Rattle.sets.specs.Sets.{positions, has, pushed, setFrom, setOf, withOne, withoutOne, minus, both, below}
-use Rattle.sets.specs.Sets.{from, opened, members, headOr, firstOf, restOf, either, sizeOf}
+use Rattle.sets.specs.Sets.{positions, has, pushed, setFrom, setOf, minus, both}
+use Rattle.sets.specs.Sets.{members, headOr, firstOf, either, sizeOf}
 use Rattle.sets.proofs.Digits.{has-zero, has-suc, has-past, same-members, has-and, has-pred, digit, half-lt}
 use Rattle.sets.proofs.Digits.{trailing-none, trailing-member}
+use Rattle.sets.specs.Code.{withOne, withoutOne, below, from, opened, restOf}
 
 ------------------------------------------------------------------------
 -- the set of the positions at which a test holds

@@ -13,11 +13,12 @@ use lib.Pow.{pow-lt, ones-lt}
 use Rattle.laws.specs.Lists.{upTo}
 use Rattle.laws.proofs.Tests.{same, and-i, and-l, and-r, and-false-r}
 use Rattle.laws.proofs.Count.{length-keep}
-use Rattle.sets.specs.Sets.{positions, has, withOne, withoutOne, minus, both, below, from, members, sizeOf}
-use Rattle.sets.specs.Sets.{Last, pushed, opened, either}
+use Rattle.sets.specs.Sets.{positions, has, minus, both, members, sizeOf}
+use Rattle.sets.specs.Sets.{pushed, either}
 use Rattle.sets.proofs.Digits.{has-past, has-and, has-or, has-not, has-one, has-ones, same-members}
 use Rattle.sets.proofs.Members.{setOf-is, setOf-lt, has-below, has-from, has-pushed, has-pushed-first}
 use Rattle.sets.proofs.Members.{ones-count}
+use Rattle.sets.specs.Code.{withOne, withoutOne, below, from, opened, Last}
 
 -- one position as a set
 pub shifted-one : (k : ℕ) → k < positions → 1 * 2 ^ k % 2 ^ positions ≡ 2 ^ k

@@ -4,11 +4,10 @@
 --     setOf p         the positions at which the test holds
 --     members set     the members, rising
 --     firstOf set     the first member; 64 where there is none
-use Prim.Native.Nat.{ℕ, zero, suc, _+_, _*_, _-_, _/_, _%_, _^_, _<_}
-use mathlib.Core.Bool.{Bool, true, false, cond, not, _&&_, _||_}
-use mathlib.Core.Path.{_≡_}
+use Prim.Native.Nat.{ℕ, zero, suc, _+_, _*_, _/_, _%_, _^_}
+use mathlib.Core.Bool.{Bool, cond, not, _&&_, _||_}
 use mathlib.Core.List.{List, [], _∷_}
-use lib.Dec.{eqb, ltb}
+use lib.Dec.{eqb}
 use lib.ListN.{length}
 use Rattle.laws.specs.Lists.{keep, upTo}
 
@@ -30,13 +29,6 @@ setFrom p k (suc n) = pushed (setFrom p (k + 1) n) (p k)
 unfoldable pub setOf : (ℕ → Bool) → ℕ
 setOf p = setFrom p 0 positions
 
--- with one position more, and with one less
-unfoldable pub withOne : ℕ → ℕ → ℕ
-withOne set k = setOf (λ j. has set j || eqb j k)
-
-unfoldable pub withoutOne : ℕ → ℕ → ℕ
-withoutOne set k = setOf (λ j. has set j && not (eqb j k))
-
 -- the members of one set that another does not have
 unfoldable pub minus : ℕ → ℕ → ℕ
 minus a b = setOf (λ j. has a j && not (has b j))
@@ -49,17 +41,6 @@ both a b = setOf (λ j. has a j && has b j)
 unfoldable pub either : ℕ → ℕ → ℕ
 either a b = setOf (λ j. has a j || has b j)
 
--- the members before a position, and those from it on
-unfoldable pub below : ℕ → ℕ → ℕ
-below set k = setOf (λ j. has set j && ltb j k)
-
-unfoldable pub from : ℕ → ℕ → ℕ
-from set k = setOf (λ j. has set j && not (ltb j k))
-
--- a set whose members from a position on stand one later, so that the position is free
-unfoldable pub opened : ℕ → ℕ → ℕ
-opened set k = setOf (λ j. (has set j && ltb j k) || (ltb k j && has set (j - 1)))
-
 unfoldable pub members : ℕ → List ℕ
 members set = keep (has set) (upTo positions)
 
@@ -71,13 +52,5 @@ headOr n (x ∷ l) = x
 unfoldable pub firstOf : ℕ → ℕ
 firstOf set = headOr positions (members set)
 
-unfoldable pub restOf : ℕ → ℕ
-restOf set = withoutOne set (firstOf set)
-
 unfoldable pub sizeOf : ℕ → ℕ
 sizeOf set = length (members set)
-
--- r is the last member
-pub record Last (set r : ℕ) : Type 0 where
-  pub member : has set r ≡ true
-  pub after : (j : ℕ) → r < j → has set j ≡ false

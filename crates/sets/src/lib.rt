@@ -3,8 +3,9 @@
 ghost use mathlib.Core.Bool.{cond};
 ghost use mathlib.Core.Path.{_≡_};
 ghost use Prim.Native.Nat.{_<_, _^_};
-ghost use Rattle.sets.specs.Sets.{has, pushed, withOne, withoutOne, minus, both, below, from, opened, firstOf};
-ghost use Rattle.sets.specs.Sets.{restOf, sizeOf, Last, either};
+ghost use Rattle.sets.specs.Sets.{has, pushed, minus, both, firstOf};
+ghost use Rattle.sets.specs.Sets.{sizeOf, either};
+ghost use Rattle.sets.specs.Code.{withOne, withoutOne, below, from, opened, restOf, Last};
 
 // Whether a position is a member.
 pub fn has(set: u64, j: usize) -> bool

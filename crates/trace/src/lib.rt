@@ -1,5 +1,5 @@
-// The trace: one grammar, read by `reader` and written by `writer`. What a line, a block and a whole text mean is in
-// specs/.
+// The trace: one grammar, read by `trace_reader` and written by `trace_writer`. What a line, a block and a whole text
+// mean is in specs/.
 use cell::Refusal;
 
 // So many arrivals a block has at most, each of so many numbers: input, output, flow, rank, tag.

@@ -3,7 +3,7 @@
 use Prim.Native.Nat.{_+_, _*_}
 use mathlib.Core.Path.{sym, ap, _∙_}
 use borrow.Author.Needs.{needs}
-use Rattle.crossbar.specs.Lent.{faultResult}
+use Rattle.crossbar.specs.Code.{faultResult}
 use Rattle.crossbar.proofs.result_of.Statement.{statement}
 use Rattle.crossbar.proofs.result_of.Tie as tie
 

@@ -3,7 +3,7 @@ use Prim.Native.Nat.{_+_, _-_, _≤_, _<_}
 use mathlib.Core.Path.{_≡_, refl, sym, _∙_, ap, ap₂}
 use native.Mathlib.Omega.{arith}
 use lib.ListN.{length, getD, set, length-set}
-use Rattle.player.specs.Window.{moved}
+use Rattle.player.specs.CodeWindow.{moved}
 use Rattle.player.proofs.Window.{moved-at, moved-next, moved-none}
 use Rattle.player.proofs.close_up.Statement.{statement}
 use Rattle.player.proofs.close_up.Tie as tie

@@ -9,7 +9,7 @@ use borrow.Author.Needs.{needs}
 use lib.ListN.{length, take, length-take}
 use lib.Seq.{length-take-le}
 use Rattle.trace.specs.Piece.{enough}
-use Rattle.turns.specs.Code.{Stands, standing, lineAt}
+use Rattle.player_turns.specs.Turns.{Stands, standing, lineAt}
 use Rattle.player.proofs.Window.{taken-there, written-fits}
 use Rattle.player.proofs.Ending.{opening-not, finished, status-few}
 use Rattle.player.proofs.play.Statement.{statement}

@@ -4,11 +4,11 @@ use mathlib.Core.Logic.{_⊎_, inl, inr}
 use mathlib.Core.Path.{_≡_, refl, sym, ap}
 use native.Mathlib.Omega.{arith}
 use borrow.Author.Needs.{needs}
-use Rattle.turns.specs.declared.Stage.{Stage}
-use Rattle.turns.specs.declared.Stage.the-variants.{Opening, Playing, Ended, TurnedBack}
-use Rattle.player.specs.Program.{statusOf}
+use Rattle.player_turns.specs.declared.Stage.{Stage}
+use Rattle.player_turns.specs.declared.Stage.the-variants.{Opening, Playing, Ended, TurnedBack}
 use Rattle.player.proofs.status_of.Statement.{statement}
 use Rattle.player.proofs.status_of.Tie as tie
+use Rattle.player.specs.Code.{statusOf}
 
 enum-told : tie.Need-enum-told
 enum-told c = search needs

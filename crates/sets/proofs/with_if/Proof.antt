@@ -6,10 +6,11 @@ use native.Mathlib.Nat.{zero-mul}
 use borrow.Author.Needs.{needs}
 use lib.Bits.{bitOr, or-zero-r}
 use mir.Val.{boolByte}
-use Rattle.sets.specs.Sets.{positions, withOne}
+use Rattle.sets.specs.Sets.{positions}
 use Rattle.sets.proofs.Operations.{withOne-or}
 use Rattle.sets.proofs.with_if.Statement.{statement}
 use Rattle.sets.proofs.with_if.Tie as tie
+use Rattle.sets.specs.Code.{withOne}
 
 by-test : (set : ℕ) → set < 2 ^ positions → (j : ℕ) → j < positions → (b : Bool)
     → bitOr set (boolByte b * 2 ^ j % 2 ^ positions) ≡ cond b (withOne set j) set

@@ -1,0 +1,2 @@
+pub mod CodeCleared
+pub mod CodeEntries

@@ -1,4 +1,0 @@
-pub mod Looked
-pub mod Taken
-pub mod Ended
-pub mod Lent

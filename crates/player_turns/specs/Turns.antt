@@ -1,0 +1,92 @@
+-- The player as code: where it stands, what a turn asks, and what it leaves.
+--     standing         where the player stands, by its stage, the number of the next line and the bytes of the table
+--     lineAt           the number of the next line, as it is kept between turns
+--     Stands           what a turn asks of these
+--     tableThen, tableAfterTurns    the table after a turn, and after turns
+--     Wrote, Turned, Took           what a turn leaves, and what turns leave
+--     Closed                        what the last turn answers
+--     slotText, playedOf, Played    what a block's slot writes and answers
+use Prim.Native.Nat.{ℕ, zero, suc, _+_, _*_, _-_, _≤_, _<_}
+use mathlib.Core.List.{List, [], _∷_}
+use mathlib.Core.Bool.{Bool}
+use mathlib.Core.Logic.{_⊎_}
+use mathlib.Core.Path.{_≡_}
+use lib.ListN.{length, drop}
+use Rattle.cell.specs.Limits.{portLimit}
+use Rattle.trace.specs.Contents.{blockLines}
+use Rattle.layout.specs.Entry.{clockIn}
+use Rattle.layout.specs.Host.{filled}
+use Rattle.layout.specs.Table.{IsTable, encode, stateOf, tableSize}
+use Rattle.player_turns.specs.declared.Stage.{Stage}
+use Rattle.player_turns.specs.declared.Stage.the-variants.{Opening, Playing, Ended, TurnedBack}
+use Rattle.player_text.specs.Turn.{Standing, opening, playing, ended, turnedBack, Turn, turn, turns}
+
+unfoldable pub standing : Stage → ℕ → List ℕ → Standing
+standing Opening l table = opening
+standing Playing l table = playing l (stateOf table)
+standing Ended l table = ended
+standing TurnedBack l table = turnedBack
+
+-- what one turn can write: the line of a slot, 16 bytes, and sixteen departures of five lines, 76 bytes each
+abbrev pub departureRoom : ℕ
+departureRoom = 76
+
+abbrev pub turnRoom : ℕ
+turnRoom = 16 + portLimit * departureRoom
+
+-- the number of the next line, where the player stands; at an end there is none, and 0 stands for it
+unfoldable pub lineAt : Standing → ℕ
+lineAt opening = 1
+lineAt (playing l s) = l
+lineAt ended = 0
+lineAt turnedBack = 0
+
+-- The table has its size, and while the player plays it is the table of a sound switch. A block has at most 81 lines
+-- and moves the clock on by one: so a line's number stays far below the largest of 64 bits.
+pub record Stands (stage : Stage) (l : ℕ) (table : List ℕ) : Type 0 where
+  pub size : length table ≡ tableSize
+  pub number : l ≡ lineAt (standing stage l table)
+  pub good : stage ≡ Playing → IsTable table
+  pub few : stage ≡ Playing → l ≤ 3 + blockLines * clockIn table
+
+-- a text at the start of a buffer, and how long it is
+pub record Wrote (t buffer after : List ℕ) (n : ℕ) : Type 0 where
+  pub bytes : after ≡ filled t buffer
+  pub count : n ≡ length t
+
+-- the table once the player stands there: that of its switch; before the header and at the end it is kept
+unfoldable pub tableThen : Standing → List ℕ → List ℕ
+tableThen opening table = table
+tableThen (playing l s) table = encode s
+tableThen ended table = table
+tableThen turnedBack table = table
+
+-- the same after turns
+unfoldable pub tableAfterTurns : ℕ → Bool → Standing → List ℕ → List ℕ → List ℕ
+tableAfterTurns zero last s t table = table
+tableAfterTurns (suc most) last s t table =
+    let x = turn last s t in
+    elim (x .written) [
+      | [] ↦ table
+      | b ∷ w ↦ tableAfterTurns most last (x .after) (x .left) (tableThen (x .after) table)
+    ]
+
+-- What is left after `turn`, with the table `then`: what was written, how much of the text was taken, where the player
+-- stands.
+pub record Left (turn : Turn) (then text buffer table′ buffer′ : List ℕ) (stage : Stage) (l taken n : ℕ) : Type 0 where
+  pub wrote : Wrote (turn .written) buffer buffer′ n
+  pub used : taken ≡ length text - length (turn .left)
+  pub left : turn .left ≡ drop taken text
+  pub after : standing stage l table′ ≡ turn .after
+  pub stands : Stands stage l table′
+  pub table : table′ ≡ then
+
+-- What turns leave, one after the other. How many they are is the program's choice, but it may stop only where the next
+-- one would write nothing, or where the buffer may be too short for it.
+pub record Took (last : Bool) (s : Standing) (text table buffer table′ buffer′ : List ℕ) (stage : Stage) (l taken n : ℕ)
+    : Type 0 where
+  pub many : ℕ
+  pub left : Left (turns many last s text) (tableAfterTurns many last s text table) text buffer table′ buffer′ stage l
+      taken n
+  pub stopped : (turn last (turns many last s text .after) (turns many last s text .left) .written ≡ [])
+      ⊎ (length buffer - n < turnRoom)

@@ -1,0 +1,309 @@
+// The player: a trace in, its departures out, one turn after the other. Whoever drives it lends the text that is
+// there so far, the bytes of the table and a buffer, and keeps the stage and the number of the next line between the
+// turns. Its theorems are on the definitions: over the PIFO switch it writes the same text, and turn by turn it
+// writes the same text however the trace arrives.
+use cell::Arrival;
+use cell::Fault;
+use cell::Refusal;
+use layout::HELD;
+use trace::Answer;
+use trace::FIELDS;
+use trace::Key;
+use trace::Opening;
+ghost use mathlib.Core.List.{_++_};
+ghost use mathlib.Core.Option.{some};
+ghost use mathlib.Core.Path.{_≡_};
+ghost use Prim.Native.Nat.{_+_, _*_, _≤_};
+ghost use lib.ListN.{length, take};
+ghost use Rattle.cell.specs.Limits.{portLimit, clockEnd};
+ghost use Rattle.model.specs.Crossbar.{slot};
+ghost use Rattle.trace.specs.declared.Key.the-variants.{Ports, First, Slot};
+ghost use Rattle.trace.specs.Flat.{arrivalsFrom};
+ghost use Rattle.trace.specs.Line.{line};
+ghost use Rattle.trace.specs.Piece.{nextIn, headerIn};
+ghost use Rattle.trace.specs.Contents.{blockLimit, blockNumbers, blockLines};
+ghost use Rattle.trace.specs.Lines.{departureText, departuresText};
+ghost use Rattle.trace_writer.specs.Writing.{Put};
+ghost use Rattle.layout.specs.Answer.{departureIn, departuresIn, departuresSize, departureSize};
+ghost use Rattle.layout.specs.Entry.{clockIn};
+ghost use Rattle.layout.specs.Table.{IsTable, stateOf, tableSize};
+ghost use Rattle.player_text.specs.Player.{lineOf};
+ghost use Rattle.player_text.specs.Turn.{headerTurn, nextTurn, turn};
+ghost use Rattle.player_turns.specs.Turns.{standing, turnRoom, Took, Stands, Wrote, departureRoom};
+ghost use Rattle.player_turns.specs.Code.{Turned, Closed, SlotPlayed};
+
+// What one turn can write at most: the line of a slot, and sixteen departures of five lines.
+const TURN_ROOM: usize = 16 + layout::PORTS * 76;
+
+// Where the player stands: before the header; before a block or the end; or behind all that it writes, where the trace
+// was played to its end or was turned back.
+pub enum Stage {
+    Opening,
+    Playing,
+    Ended,
+    TurnedBack,
+}
+
+// What a turn leaves: the stage, the number of the next line, how many bytes of the text it took and how many it wrote.
+pub struct Turn {
+    pub stage: Stage,
+    pub line: usize,
+    pub used: usize,
+    pub written: usize,
+}
+
+// What became of a block's slot, with the number of bytes written: it ran, or it was refused.
+enum Played {
+    Ran(usize),
+    Stopped(usize),
+}
+
+// Plays the header, a block or the end, if the text that is there is enough; `last` says that no more will come.
+pub fn take_turn(
+    stage: Stage,
+    line: usize,
+    text: &[u8],
+    last: bool,
+    table: &mut [u8],
+    out: &mut [u8],
+) -> Turn
+    requires { ⌜ Stands stage line (now table) ⌝ }
+    requires { ⌜ turnRoom ≤ length (now out) ⌝ }
+    ensures { λ r. ⌜ Turned (turn last (standing stage line (now (table .entry))) (now (text .entry)))
+        (now (text .entry)) (now (table .entry)) (now (out .entry)) (now (table .exit)) (now (out .exit))
+        (r .stage) (r .line) (r .used) (r .written) ⌝ }
+{
+    match stage {
+        Stage::Opening => header_turn(text, last, table, out),
+        Stage::Playing => next_turn(line, text, last, table, out),
+        Stage::Ended => over(Stage::Ended, 0),
+        Stage::TurnedBack => over(Stage::TurnedBack, 0),
+    }
+}
+
+// Takes turns until one writes nothing or the buffer may be too short for another.
+pub fn take_turns(
+    stage: Stage,
+    line: usize,
+    text: &[u8],
+    last: bool,
+    table: &mut [u8],
+    out: &mut [u8],
+) -> Turn
+    requires { ⌜ Stands stage line (now table) ⌝ }
+    ensures { λ r. ⌜ Took last (standing stage line (now (table .entry)))
+        (now (text .entry)) (now (table .entry)) (now (out .entry)) (now (table .exit)) (now (out .exit))
+        (r .stage) (r .line) (r .used) (r .written) ⌝ }
+{
+    let mut stage = stage;
+    let mut line = line;
+    let mut used = 0;
+    let mut written = 0;
+    while TURN_ROOM <= out.len() - written {
+        let turn = take_turn(stage, line, &text[used..], last, table, &mut out[written..]);
+        stage = turn.stage;
+        line = turn.line;
+        used += turn.used;
+        written += turn.written;
+        if turn.written == 0 {
+            break;
+        }
+    }
+    Turn {
+        stage,
+        line,
+        used,
+        written,
+    }
+}
+
+// The turn at the header.
+fn header_turn(text: &[u8], last: bool, table: &mut [u8], out: &mut [u8]) -> Turn
+    requires { ⌜ length (now table) ≡ tableSize ⌝ }
+    requires { ⌜ turnRoom ≤ length (now out) ⌝ }
+    ensures { λ r. ⌜ Turned (headerTurn (now (text .entry)) (headerIn last (now (text .entry))))
+        (now (text .entry)) (now (table .entry)) (now (out .entry)) (now (table .exit)) (now (out .exit))
+        (r .stage) (r .line) (r .used) (r .written) ⌝ }
+{
+    match trace_reader::read_header(text, last) {
+        Opening::Open(ports, first, used) => {
+            crossbar::start(ports, first, table);
+            let written = put_header(out, ports, first);
+            Turn {
+                stage: Stage::Playing,
+                line: 3,
+                used,
+                written,
+            }
+        }
+        Opening::Refused(refusal, fault) => {
+            let written = trace_writer::put_refusal(out, 0, refusal, fault as usize);
+            over(Stage::TurnedBack, written)
+        }
+        Opening::Short => Turn {
+            stage: Stage::Opening,
+            line: 1,
+            used: 0,
+            written: 0,
+        },
+    }
+}
+
+// The turn at a block or the end.
+fn next_turn(line: usize, text: &[u8], last: bool, table: &mut [u8], out: &mut [u8]) -> Turn
+    requires { ⌜ IsTable (now table) ⌝ }
+    requires { ⌜ line ≤ 3 + blockLines * clockIn (now table) ⌝ }
+    requires { ⌜ turnRoom ≤ length (now out) ⌝ }
+    ensures { λ r. ⌜ Turned (nextTurn line (stateOf (now (table .entry))) (now (text .entry))
+        (nextIn last (clockIn (now (table .entry))) (now (text .entry))))
+        (now (text .entry)) (now (table .entry)) (now (out .entry)) (now (table .exit)) (now (out .exit))
+        (r .stage) (r .line) (r .used) (r .written) ⌝ }
+{
+    let clock = layout_table::header::clock_of(table);
+    let mut numbers = [0u32; trace::NUMBERS];
+    match trace_reader::read_block(text, clock, last, &mut numbers) {
+        Answer::Slot(count, used, lines) => {
+            match play_slot(line, clock, count, &numbers, table, out) {
+                Played::Ran(written) => Turn {
+                    stage: Stage::Playing,
+                    line: line + lines as usize,
+                    used,
+                    written,
+                },
+                Played::Stopped(written) => over(Stage::TurnedBack, written),
+            }
+        }
+        Answer::End => over(
+            Stage::Ended,
+            trace_writer::put_line(out, 0, Key::End, clock),
+        ),
+        Answer::Bad(k) => {
+            let written = trace_writer::put_refusal(out, 0, Refusal::BadLine, line + k as usize);
+            over(Stage::TurnedBack, written)
+        }
+        Answer::More => Turn {
+            stage: Stage::Playing,
+            line,
+            used: 0,
+            written: 0,
+        },
+    }
+}
+
+// The last turn, and each after it: it leaves the text alone, and no line is next.
+fn over(stage: Stage, written: usize) -> Turn
+    ensures { λ r. ⌜ Closed stage written (r .stage) (r .line) (r .used) (r .written) ⌝ }
+{
+    Turn {
+        stage,
+        line: 0,
+        used: 0,
+        written,
+    }
+}
+
+// Runs the slot of a block, and writes its lines; or writes the refusal. Of the numbers five for each arrival count.
+fn play_slot(
+    line: usize,
+    clock: u32,
+    count: u32,
+    numbers: &[u32],
+    table: &mut [u8],
+    out: &mut [u8],
+) -> Played
+    requires { ⌜ IsTable (now table) ⌝ }
+    requires { ⌜ (clock ≡ clockIn (now table)) × (line ≤ 3 + blockLines * clock) ⌝ }
+    requires { ⌜ (length (now numbers) ≡ blockNumbers) × (count ≤ blockLimit) ⌝ }
+    requires { ⌜ turnRoom ≤ length (now out) ⌝ }
+    ensures { λ r. ⌜ SlotPlayed (slot (stateOf (now (table .entry))) (some (arrivalsFrom count (now (numbers .entry)))))
+        clock line (now (table .entry)) (now (out .entry)) (now (table .exit)) (now (out .exit)) r ⌝ }
+{
+    let many = count as usize;
+    let records = records_of(numbers, many);
+    let mut answer = [0u8; layout::ANSWER_BYTES];
+    match slot_call::sound_slot(table, records, many, &mut answer) {
+        Fault::At(refusal, place) => {
+            Played::Stopped(trace_writer::put_refusal(out, 0, refusal, line_of(line, place)))
+        }
+        Fault::Clear => Played::Ran(put_slot(out, clock, &answer)),
+    }
+}
+
+// The first records of a block's numbers.
+fn records_of(numbers: &[u32], count: usize) -> [Arrival; HELD]
+    requires { ⌜ (length (now numbers) ≡ blockNumbers) × (count ≤ blockLimit) ⌝ }
+    ensures { λ r. ⌜ take count r ≡ arrivalsFrom count (now (numbers .entry)) ⌝ }
+{
+    let none = Arrival {
+        input: 0,
+        output: 0,
+        flow: 0,
+        rank: 0,
+        tag: 0,
+    };
+    let mut records = [none; HELD];
+    let mut n = 0;
+    while n < count {
+        records[n] = trace_writer::arrival_at(&numbers[FIELDS * n..]);
+        n += 1;
+    }
+    records
+}
+
+// The line that a refusal names: the slot's own, or the first of the record's.
+fn line_of(line: usize, place: u32) -> usize
+    requires { ⌜ line ≤ 3 + blockLines * clockEnd ⌝ }
+    ensures { λ r. ⌜ r ≡ lineOf line place ⌝ }
+{
+    if place == 0 {
+        return line;
+    }
+    line + 1 + FIELDS * (place as usize - 1)
+}
+
+// The lines `ports` and `first`.
+fn put_header(out: &mut [u8], ports: u32, first: u32) -> usize
+    requires { ⌜ turnRoom ≤ length (now out) ⌝ }
+    ensures { λ r. ⌜ Wrote (line Ports ports ++ line First first) (now (out .entry)) (now (out .exit)) r ⌝ }
+{
+    let at = trace_writer::put_line(out, 0, Key::Ports, ports);
+    trace_writer::put_line(out, at, Key::First, first)
+}
+
+// The line `slot`, and the departures of an answer.
+fn put_slot(out: &mut [u8], clock: u32, answer: &[u8]) -> usize
+    requires { ⌜ (turnRoom ≤ length (now out)) × (departuresSize ≤ length (now answer)) ⌝ }
+    ensures { λ r. ⌜ Wrote (line Slot clock ++ departuresText (departuresIn portLimit (now (answer .entry))))
+        (now (out .entry)) (now (out .exit)) r ⌝ }
+{
+    let at = trace_writer::put_line(out, 0, Key::Slot, clock);
+    put_departures(out, at, answer)
+}
+
+// The departures of the sixteen outputs.
+fn put_departures(out: &mut [u8], at: usize, answer: &[u8]) -> usize
+    requires { ⌜ (at + portLimit * departureRoom ≤ length (now out)) × (departuresSize ≤ length (now answer)) ⌝ }
+    ensures { λ r. ⌜ Put (now (out .entry)) at (departuresText (departuresIn portLimit (now (answer .entry))))
+        (now (out .exit)) r ⌝ }
+{
+    let mut place = at;
+    let mut output = 0;
+    while output < layout::PORTS {
+        let start = layout::DEPARTURE_BYTES * output;
+        let end = start + layout::DEPARTURE_BYTES;
+        place = put_sent(out, place, &answer[start..end]);
+        output += 1;
+    }
+    place
+}
+
+// The departure of one output, if it sends a cell.
+fn put_sent(out: &mut [u8], at: usize, sent: &[u8]) -> usize
+    requires { ⌜ length (now sent) ≡ departureSize ⌝ }
+    ensures { λ r. ⌜ Put (now (out .entry)) at (departureText (departureIn (now (sent .entry)))) (now (out .exit)) r ⌝ }
+{
+    if layout_answer::is_none(sent) {
+        return at;
+    }
+    trace_writer::put_departure(out, at, layout_answer::cell_in(sent))
+}

@@ -1,0 +1,164 @@
+// Scope 9, the shows without a star, and shows of our own, on the proved switch against a shadow switch that was
+// written apart: a line for each show, with what came of each slot call. A call that is turned back has its number
+// and the record's place (0 where no record is at fault), and the calls after it go on as if it had not been.
+mod made;
+mod say;
+mod shadow;
+mod stage;
+mod wrong;
+
+use layout::ANSWER_BYTES;
+use layout::ARRIVAL_BYTES;
+use layout::TABLE_BYTES;
+use layout::TALLY_BYTES;
+use say::say;
+use say::tell;
+use stage::show;
+use trace_reader::Verdict;
+
+fn main() {
+    bad_line();
+    starts();
+    lent();
+    clock_end();
+    records();
+    ranks();
+    matchings();
+    made::crowd_and_load();
+}
+
+// `rank=05` gives 9, by the reader.
+fn bad_line() {
+    match trace_reader::verify(b"ports=2\nfirst=0\nslot=0\nin=0\nout=1\nflow=0\nrank=05\n") {
+        Verdict::Accepted(_) => say(b"rank=05: DIFFERS\n"),
+        Verdict::Refused(refusal, line) => {
+            tell(b"rank=05: ", refusal.number() as u64);
+            tell(b" at line ", line as u64);
+            say(b"\n");
+        }
+    }
+}
+
+// 1 comes before 10.
+fn starts() {
+    wrong::show_start(b"start with 0 ports: ", 0, TABLE_BYTES);
+    wrong::show_start(b"start with 17 ports: ", 17, TABLE_BYTES - 1);
+    wrong::show_start(b"start in 16415 bytes: ", 2, TABLE_BYTES - 1);
+}
+
+// 2 comes before 10.
+fn lent() {
+    wrong::show_slot(b"table of 0 ports: ", 0, 0, ANSWER_BYTES, TALLY_BYTES);
+    wrong::show_slot(
+        b"arrivals of 19 bytes: ",
+        2,
+        ARRIVAL_BYTES - 1,
+        ANSWER_BYTES - 1,
+        TALLY_BYTES,
+    );
+    wrong::show_slot(
+        b"tally of 31 bytes: ",
+        2,
+        0,
+        ANSWER_BYTES - 1,
+        TALLY_BYTES - 1,
+    );
+    wrong::show_slot(
+        b"answer of 455 bytes: ",
+        2,
+        0,
+        ANSWER_BYTES - 1,
+        TALLY_BYTES,
+    );
+}
+
+// 3, in the first slot and after the last.
+fn clock_end() {
+    let rows = [[0, 0, 1, 0, 5, 1], [1, 1, 1, 0, 5, 2]];
+    show(b"first slot 4294967295: ", 2, 4294967295, 2, &rows, true);
+    show(b"first slot 4294967294: ", 2, 4294967294, 3, &rows, true);
+}
+
+// 4, 5 and 6. The first record at fault is named.
+fn records() {
+    turned_back(
+        b"input 2 of 2 ports: ",
+        [1, 0, 1, 0, 1, 3],
+        [1, 2, 0, 0, 1, 4],
+    );
+    turned_back(
+        b"output 2 of 2 ports: ",
+        [1, 0, 2, 8, 1, 3],
+        [1, 1, 0, 0, 1, 4],
+    );
+    turned_back(b"flow 8: ", [1, 0, 1, 8, 1, 3], [1, 2, 1, 0, 1, 4]);
+    turned_back(b"input 1 twice: ", [1, 1, 1, 0, 1, 3], [1, 1, 1, 1, 1, 4]);
+}
+
+// 7: rank 5 of input 0 waits.
+fn ranks() {
+    turned_back(b"rank 4 after 5: ", [1, 0, 0, 0, 4, 3], [1, 1, 1, 0, 1, 4]);
+    turned_back(b"rank 5 after 5: ", [1, 0, 0, 0, 5, 3], [1, 1, 1, 0, 1, 4]);
+}
+
+// Rank 5 of input 0 and rank 3 of input 1 come for output 0, then the two given records in call 1, then a cell for
+// output 1.
+fn turned_back(name: &[u8], first: [u32; 6], second: [u32; 6]) {
+    let before = [0, 0, 0, 0, 5, 1];
+    let with = [0, 1, 0, 0, 3, 2];
+    let after = [2, 0, 1, 0, 6, 5];
+    let rows = [before, with, first, second, after];
+    show(name, 2, 0, 5, &rows, true);
+}
+
+// Matchings, and the order of equal ranks.
+fn matchings() {
+    show(b"several proposals: ", 3, 0, 6, &SEVERAL, true);
+    show(b"two urgent cells of a pair: ", 4, 0, 10, &PAIR, true);
+    show(b"scheduled over urgent: ", 3, 0, 7, &SCHEDULED, true);
+    show(b"equal ranks: ", 3, 0, 6, &EQUAL, true);
+}
+
+// In slot 1 both cells are matched: rank 4, which is urgent, loses to rank 3, and goes straight in the second phase.
+const SEVERAL: [[u32; 6]; 5] = [
+    [0, 0, 0, 0, 9, 1],
+    [0, 1, 0, 0, 1, 2],
+    [0, 2, 0, 0, 2, 3],
+    [1, 0, 0, 1, 4, 4],
+    [1, 1, 0, 0, 3, 5],
+];
+
+// Two flows of a pair: in slot 2 ranks 6 and 4 of input 2 for output 0 are urgent at once, rank 6 first in the list.
+const PAIR: [[u32; 6]; 11] = [
+    [0, 0, 0, 0, 7, 1],
+    [0, 1, 0, 0, 3, 2],
+    [0, 2, 0, 0, 8, 3],
+    [0, 3, 0, 0, 7, 4],
+    [1, 1, 0, 1, 2, 5],
+    [1, 2, 0, 1, 4, 6],
+    [1, 3, 0, 1, 1, 7],
+    [2, 0, 0, 1, 5, 8],
+    [2, 2, 0, 2, 6, 9],
+    [2, 3, 0, 2, 5, 10],
+    [3, 2, 1, 0, 9, 11],
+];
+
+// In slot 1 rank 4 is urgent, and loses to scheduled cells that stand first in their lists: to rank 2, and then, at
+// the crosspoint, to rank 3.
+const SCHEDULED: [[u32; 6]; 6] = [
+    [0, 0, 0, 0, 9, 1],
+    [0, 1, 0, 0, 0, 2],
+    [0, 2, 0, 0, 1, 3],
+    [1, 0, 0, 1, 4, 4],
+    [1, 1, 0, 0, 2, 5],
+    [1, 2, 0, 0, 3, 6],
+];
+
+// The cell of the smaller slot, then that of the smaller input.
+const EQUAL: [[u32; 6]; 5] = [
+    [0, 0, 0, 0, 1, 1],
+    [0, 2, 0, 0, 4, 2],
+    [1, 0, 0, 0, 4, 3],
+    [1, 1, 0, 0, 4, 4],
+    [2, 0, 0, 1, 4, 5],
+];

@@ -1,0 +1,40 @@
+-- The definitions give every starred show of scope 9, for the crossbar and, where it can answer, the PIFO switch.
+-- Assumes nothing.
+use mathlib.Core.Bool.{true}
+use mathlib.Core.List.{flatten}
+use mathlib.Core.Option.{bind}
+use mathlib.Core.Path.{_≡_, refl}
+use Rattle.laws.specs.Lists.{keep, some?, none?, all?, count, least, pairwise, update, first?, numbersFrom}
+use Rattle.laws.specs.Lists.{upTo, sameList}
+use Rattle.cell.specs.Flow.{sameFlow}
+use Rattle.cell.specs.Limits.{fits32, portsInRange}
+use Rattle.cell.specs.Order.{over}
+use Rattle.cell.specs.Cell.{accepted, sameCell}
+use Rattle.matching.specs.Matching.{proposed, round, rounds, settled, matched, proposals}
+use Rattle.model.specs.State.{fresh, isListed, isCrossed, isBuffered, cells}
+use Rattle.model.specs.Checks.{noSuchPort, noSuchFlow, outOfTurn, fallingRank, full, fault, faultFrom}
+use Rattle.model.specs.Checks.{firstFault}
+use Rattle.model.specs.Phase.{numberFrom, numberSections, numbered, waiting, lists, crosspoints, sameInput}
+use Rattle.model.specs.Phase.{sameOutput, ahead}
+use Rattle.model.specs.Phase.{beats, among, sameCrosspoint, heads, blocked, crosspointEmpty, ready, scheduled}
+use Rattle.model.specs.Phase.{isUrgent, urgent, takesPart, candidates, straight, sent, pulled, phase}
+use Rattle.model.specs.Phase.{placeSent, placeAfter, placedBy, moved}
+use Rattle.model.specs.Crossbar.{inListOf, newEntry, enterAfter, enter, arrive, leaving, departuresOf, without}
+use Rattle.model.specs.Crossbar.{run, slot, switchAfter, start}
+use Rattle.model.specs.Pifo.{freshPifo, queued, join, best, rest, runPifo, slotPifo, pifoAfter}
+use Rattle.layout.specs.Number.{sameBytes}
+use Rattle.trace.specs.Ascii.{ascii}
+use Rattle.trace.specs.Line.{keyName, keyText, digitsWithin, decimal, line, after, upToLineFeed, isDigit}
+use Rattle.trace.specs.Line.{valueAfter, noLeadingZero, readNumber, readLine}
+use Rattle.trace.specs.Reader.{give, _>>=_, number, exactly, begins, arrival as read-arrival}
+use Rattle.trace.specs.Reader.{arrivals as read-arrivals, block, afterEnd, next, header}
+use Rattle.trace.specs.Lines.{departureText, departuresText, refusalText}
+use Rattle.player_text.specs.Player.{lineOf, playFrom, play, crossbar}
+use Rattle.player_text.specs.Player.{pifo, playCrossbar, playPifo}
+use Rattle.model.specs.Calls.{sameDeparture, crossbarAnswers, pifoAnswers, crossbarRuns, pifoRuns, bothRun}
+use Rattle.model.specs.Calls.{arrival, cell, call}
+use Rattle.show_starred.specs.Shows.{startAnswers, given, starred}
+
+pub starred-shows : all? given starred ≡ true
+unfolding bind flatten keep some? none? all? count least pairwise update first? numbersFrom upTo sameFlow fits32 portsInRange over accepted sameCell proposed round rounds settled matched proposals fresh isListed isCrossed isBuffered cells noSuchPort noSuchFlow outOfTurn fallingRank full fault faultFrom firstFault numberFrom numberSections numbered waiting lists crosspoints sameInput sameOutput ahead beats among sameCrosspoint heads blocked crosspointEmpty ready scheduled isUrgent urgent takesPart candidates straight sent pulled phase placeSent placeAfter placedBy moved inListOf newEntry enterAfter enter arrive leaving departuresOf without run slot switchAfter start freshPifo queued join best rest runPifo slotPifo pifoAfter sameBytes ascii keyName keyText digitsWithin decimal line after upToLineFeed isDigit valueAfter noLeadingZero readNumber readLine give _>>=_ number exactly begins read-arrival read-arrivals block afterEnd next header departureText departuresText refusalText lineOf playFrom play crossbar pifo playCrossbar playPifo sameDeparture sameList crossbarAnswers pifoAnswers crossbarRuns pifoRuns bothRun arrival cell call startAnswers given starred
+starred-shows = refl

@@ -1,0 +1,2 @@
+pub mod CodeArrival
+pub mod CodeFault

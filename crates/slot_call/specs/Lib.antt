@@ -1,0 +1,5 @@
+pub mod CodeEnded
+pub mod CodeLent
+pub mod CodeLooked
+pub mod CodeTaken
+pub mod Records

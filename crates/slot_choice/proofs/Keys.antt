@@ -1,0 +1,316 @@
+-- The best crosspoint cell of an output by its row of keys.
+--     least-one, least-join    the least of a row, part by part
+--     leading-key              the least key is that of the cell whose number is held
+--     leading-best             and that cell is the best
+use Prim.Native.Nat.{ℕ, _+_, _<_, _≤_, _^_, min}
+use native.Mathlib.Nat.{min-eq-left, min-eq-right}
+use native.Mathlib.Omega.{arith}
+use mathlib.Core.Bool.{true}
+use mathlib.Core.Path.{_≡_, refl, sym, _∙_, ap, subst}
+use mathlib.Core.Logic.{_⊎_, inl, inr, _≢_}
+use mathlib.Core.List.{List, [], List·Memᴰ}
+use borrow.Author.Tests.{lt-ltb, le-ltb}
+use lib.ListN.{length, getD, set, length-set}
+use Rattle.cell.specs.Order.{over, key}
+use Rattle.cell.specs.Limits.{fits32}
+use Rattle.laws.proofs.Compared.{Compared, below, equal, above, compare}
+use Rattle.model.specs.Phase.{Waiting}
+use Rattle.layout.specs.Entry.{entryAt}
+use Rattle.layout.specs.Code.{recordStart, portsIn}
+use Rattle.layout.proofs.Number.{bytes?, word-fits, fits32-below}
+use Rattle.layout.proofs.Records.{entryAt-rank}
+use Rattle.layout_table.specs.CodeEntries.{nowhere}
+use Rattle.layout_table.proofs.Keys.{over-keys, over-tie}
+use Rattle.slot_view.specs.CodeView.{placesIn, crosspointAt, InTable, Agrees}
+use Rattle.slot_view.specs.CodeChoices.{bestOf, empty, best}
+use Rattle.slot_view.specs.CodeScan.{Readable, Holds, Bests}
+use Rattle.slot_view.specs.CodeViewed.{noKey, keyAt, Keyed}
+use Rattle.slot_view.proofs.Window.{inTable-below, agrees-holds}
+use Rattle.slot_choice.specs.CodeKeys.{leastOfFour, leastOf, FirstWith, Leading, LeadingTo}
+use Rattle.slot_choice.specs.CodeWalk.{BestKnown}
+use Rattle.slot_choice.proofs.Columns.{set-both}
+use Rattle.slot_choice.proofs.Best.{Crossed, BestUpTo, held-input, port, best-of}
+
+------------------------------------------------------------------------
+-- the least of a row
+
+-- between two places
+record LeastIn (row : List ℕ) (from to r : ℕ) : Type 0 where
+  holder : ℕ
+  low : from ≤ holder
+  high : holder < to
+  held : getD row holder 0 ≡ r
+  under : (i : ℕ) → from ≤ i → i < to → r ≤ getD row i 0
+
+module _ (row : List ℕ) where
+  least-one : (i to : ℕ) → to ≡ i + 1 → LeastIn row i to (getD row i 0)
+  least-one i to e = record {
+    holder = i;
+    low = omega arith;
+    high = omega arith;
+    held = refl;
+    under = λ j a b. let q : i ≡ j = omega arith in subst (λ n. getD row i 0 ≤ getD row n 0) q (omega arith);
+  }
+
+  least-join : {from mid to a b : ℕ} → from ≤ mid → mid ≤ to → LeastIn row from mid a → LeastIn row mid to b
+      → LeastIn row from to (min a b)
+  least-join {from} {mid} {to} {a} {b} x y p q = go (compare a b)
+    where
+      under : (i : ℕ) → from ≤ i → i < to → Compared i mid → min a b ≤ getD row i 0
+      under i l h (below c) = omega (arith, p .under i l c)
+      under i l h (equal c) = omega (arith, q .under i (omega arith) h)
+      under i l h (above c) = omega (arith, q .under i (omega arith) h)
+
+      left : a ≤ b → LeastIn row from to (min a b)
+      left s = record {
+        holder = p .holder;
+        low = p .low;
+        high = omega (arith, p .high);
+        held = p .held ∙ sym (min-eq-left s);
+        under = λ i l h. under i l h (compare i mid);
+      }
+
+      go : Compared a b → LeastIn row from to (min a b)
+      go (below s) = left (omega arith)
+      go (equal s) = left (omega arith)
+      go (above s) = record {
+        holder = q .holder;
+        low = omega (arith, q .low);
+        high = q .high;
+        held = q .held ∙ sym (min-eq-right (omega arith));
+        under = λ i l h. under i l h (compare i mid);
+      }
+
+  least-four : (from : ℕ) → LeastIn row from (from + 4) (leastOfFour row from)
+  least-four from =
+      least-join (omega arith) (omega arith)
+      (least-join (omega arith) (omega arith) (least-one from (from + 1) (omega arith))
+      (least-one (from + 1) (from + 2) (omega arith)))
+      (least-join (omega arith) (omega arith) (least-one (from + 2) (from + 3) (omega arith))
+      (least-one (from + 3) (from + 4) (omega arith)))
+
+  least-all : LeastIn row 0 16 (leastOf row)
+  least-all =
+      least-join (omega arith) (omega arith)
+      (least-join (omega arith) (omega arith) (least-four 0) (least-four 4))
+      (least-join (omega arith) (omega arith) (least-four 8) (least-four 12))
+
+------------------------------------------------------------------------
+-- the first place with a number
+
+module _ {row : List ℕ} {v : ℕ} where
+  pub first-none : FirstWith row v 16 0
+  first-none = record { inside = omega arith; first = λ i a b e. absurd (omega arith) }
+
+  pub first-to : {m n r : ℕ} → m ≡ n → FirstWith row v m r → FirstWith row v n r
+  first-to {r = r} e f = subst (λ n. FirstWith row v n r) e f
+
+  module _ {n : ℕ} where
+    pub first-here : n < 16 → getD row n 0 ≡ v → FirstWith row v n n
+    first-here l h = record { inside = l; first = λ i a b e. (a, h) }
+
+    pub first-later : {r : ℕ} → getD row n 0 ≢ v → FirstWith row v (n + 1) r → FirstWith row v n r
+    first-later {r} h f = record { inside = f .inside; first = λ i a b e. go i a b e (compare i n) }
+      where
+        go : (i : ℕ) → n ≤ i → i < 16 → getD row i 0 ≡ v → Compared i n → (r ≤ i) × (getD row r 0 ≡ v)
+        go i a b e (below c) = absurd (omega arith)
+        go i a b e (equal c) = absurd (h (ap (λ j. getD row j 0) (sym c) ∙ e))
+        go i a b e (above c) = f .first i (omega arith) b e
+
+------------------------------------------------------------------------
+-- the key of a number
+
+module _ (table : List ℕ) where
+  pub key-cell : (k : ℕ) → k < nowhere → keyAt table k ≡ key (entryAt table k .cell)
+  unfolding keyAt
+  key-cell k h = rw (lt-ltb k nowhere h)
+
+  key-none : (k : ℕ) → nowhere ≤ k → keyAt table k ≡ noKey
+  unfolding keyAt
+  key-none k h = rw (le-ltb k nowhere h)
+
+-- a cell's key is below that of an empty crosspoint
+module _ (table : List ℕ) (r : Readable table) (bytes : bytes? table ≡ true) where
+  key-below : (k : ℕ) → InTable table k → key (entryAt table k .cell) < noKey
+  key-below k t =
+      let small = inTable-below r t in
+      let rank : entryAt table k .cell .rank < 2 ^ 32 =
+      fits32-below (entryAt table k .cell .rank)
+      (ap fits32 (entryAt-rank table k) ∙ word-fits table (recordStart k + 4) bytes (omega (arith, r .size))) in
+      omega (arith, r .early k t)
+
+  slot-of : (k : ℕ) → InTable table k → entryAt table k .cell .slot < 2 ^ 32
+  slot-of k t = omega (arith, r .early k t)
+
+  ------------------------------------------------------------------------
+  -- the best of an output
+
+  module _ (cross keys : List (List ℕ)) (keyed : Keyed table cross keys) {output number least : ℕ} (o : output < 16)
+      (leading : Leading cross keys output number least) where
+    abbrev row : List ℕ
+    row = getD keys output []
+
+    row-at : (i : ℕ) → i < 16 → getD row i 0 ≡ keyAt table (crosspointAt cross i output)
+    row-at i h = keyed .at i output h o
+
+    -- what stands at the crosspoint
+    abbrev held : ℕ
+    held = crosspointAt cross (leading .holder) output
+
+    smallest : LeastIn row 0 16 least
+    smallest = subst (LeastIn row 0 16) (sym (leading .least)) (least-all row)
+
+    least-held : least ≡ keyAt table held
+    least-held =
+        sym (leading .holds .first (smallest .holder) (smallest .low) (smallest .high) (smallest .held) .1)
+        ∙ row-at (leading .holder) (leading .holds .inside)
+
+    number-cell : held < nowhere → number ≡ held
+    number-cell h = leading .number-is ∙ min-eq-left (omega arith)
+
+    number-none : nowhere ≤ held → number ≡ nowhere
+    number-none h = leading .number-is ∙ min-eq-right h
+
+    leading-key : least ≡ keyAt table number
+    leading-key = least-held ∙ go (compare held nowhere)
+      where
+        none : nowhere ≤ held → keyAt table held ≡ keyAt table number
+        none h = key-none table held h ∙ sym (key-none table number (omega (arith, number-none h)))
+
+        go : Compared held nowhere → keyAt table held ≡ keyAt table number
+        go (below h) = ap (keyAt table) (sym (number-cell h))
+        go (equal h) = none (omega arith)
+        go (above h) = none (omega arith)
+
+    module _ {cells : List Waiting} (h : Holds table cross cells) where
+      inside : (i : ℕ) → i < 16 → crosspointAt cross i output < nowhere → InTable table (crosspointAt cross i output)
+      inside i l s = let w = h .real i output l o s in subst (InTable table) (w .2) (h .inside (w .0) (w .1))
+
+      -- the key of a cell at a crosspoint is no less
+      no-less : {k : ℕ} (c : Crossed cross output (portsIn table) k)
+          → (least ≤ key (entryAt table k .cell)) × InTable table k × (c .holder < 16)
+          × (getD row (c .holder) 0 ≡ key (entryAt table k .cell))
+      no-less {k} c =
+          let port : c .holder < 16 = omega (arith, c .early, r .ports) in
+          let full : crosspointAt cross (c .holder) output < nowhere = omega (arith, c .held, c .some) in
+          let own : getD row (c .holder) 0 ≡ key (entryAt table k .cell) =
+          row-at (c .holder) port ∙ ap (keyAt table) (c .held) ∙ key-cell table k (c .some) in (
+            omega (arith, smallest .under (c .holder) (omega arith) port),
+            subst (InTable table) (c .held) (inside (c .holder) port full),
+            port,
+            own,
+          )
+
+      none : nowhere ≤ held → BestUpTo table cross output (portsIn table) number
+      none s =
+          empty (number-none s) (λ k c.
+          let w = no-less c in omega (arith, key-below k (w .1), least-held, key-none table held s))
+
+      one : held < nowhere → BestUpTo table cross output (portsIn table) held
+      one s = best s (record { own = own; upper = λ k c. upper k c (no-less c) })
+        where
+          here : InTable table held
+          here = inside (leading .holder) (leading .holds .inside) s
+
+          w : (e : Waiting) × List·Memᴰ e cells × (e .at ≡ held) × (e .cell .input ≡ leading .holder)
+              × (e .cell .output ≡ output)
+          w = h .real (leading .holder) output (leading .holds .inside) o s
+
+          own : Crossed cross output (portsIn table) held
+          own = record {
+            some = s;
+            holder = leading .holder;
+            early = subst (λ i. i < portsIn table) (w .3) (port table cross output h o (w .1));
+            held = refl;
+          }
+
+          upper : (k : ℕ) (c : Crossed cross output (portsIn table) k)
+              → (least ≤ key (entryAt table k .cell)) × InTable table k × (c .holder < 16)
+              × (getD row (c .holder) 0 ≡ key (entryAt table k .cell))
+              → (k ≡ held) ⊎ (over (entryAt table held .cell) (entryAt table k .cell) ≡ true)
+          upper k c (low, t, small, own-key) = go (compare least (key (entryAt table k .cell)))
+            where
+              mine : least ≡ key (entryAt table held .cell)
+              mine = least-held ∙ key-cell table held s
+
+              go : Compared least (key (entryAt table k .cell))
+                  → (k ≡ held) ⊎ (over (entryAt table held .cell) (entryAt table k .cell) ≡ true)
+              go (below l) =
+                  inr (sym
+                  (over-keys (entryAt table held .cell) (entryAt table k .cell) (slot-of held here) (slot-of k t)
+                  (λ e. omega (arith, mine)))
+                  ∙ lt-ltb (key (entryAt table held .cell)) (key (entryAt table k .cell)) (omega (arith, mine)))
+              go (above l) = absurd (omega arith)
+              go (equal e) = tie (compare (leading .holder) (c .holder))
+                where
+                  first : leading .holder ≤ c .holder
+                  first = leading .holds .first (c .holder) (omega arith) small (own-key ∙ sym e) .0
+
+                  tie : Compared (leading .holder) (c .holder)
+                      → (k ≡ held) ⊎ (over (entryAt table held .cell) (entryAt table k .cell) ≡ true)
+                  tie (below l) =
+                      inr (sym
+                      (over-tie (entryAt table held .cell) (entryAt table k .cell) (slot-of held here) (slot-of k t)
+                      (sym mine ∙ e))
+                      ∙ lt-ltb (entryAt table held .cell .input) (entryAt table k .cell .input)
+                      (omega (
+                        arith,
+                        held-input table cross output h o held (leading .holder) (leading .holds .inside) s refl,
+                        held-input table cross output h o k (c .holder) small (c .some) (c .held),
+                      )))
+                  tie (equal q) = inl (sym (c .held) ∙ ap (λ i. crosspointAt cross i output) (sym q))
+                  tie (above l) = absurd (omega (arith, first))
+
+      leading-best : number ≡ bestOf cells output
+      leading-best = best-of table cross output h o number (r .ports) (go (compare held nowhere))
+        where
+          go : Compared held nowhere → BestUpTo table cross output (portsIn table) number
+          go (below s) = subst (BestUpTo table cross output (portsIn table)) (sym (number-cell s)) (one s)
+          go (equal s) = none (omega arith)
+          go (above s) = none (omega arith)
+
+  -- of every output
+  module _ {cross keys : List (List ℕ)} {best least : List ℕ} (keyed : Keyed table cross keys)
+      (leading : LeadingTo cross keys 16 best least) where
+    pub leading-bests : Bests table cross best
+    leading-bests = record {
+      size = leading .best-size;
+      at = λ cells h o l. leading-best cross keys keyed l (leading .each o l) h;
+    }
+
+    pub leading-known : Agrees table (placesIn table) cross → BestKnown table cross best least
+    leading-known a = record {
+      readable = r;
+      agrees = a;
+      bests = leading-bests .at _ (agrees-holds table (placesIn table) r cross a);
+      keys = λ o l. leading-key cross keys keyed l (leading .each o l);
+    }
+
+------------------------------------------------------------------------
+-- output by output
+
+module _ (cross keys : List (List ℕ)) where
+  pub leading-none : {numbers least : List ℕ} → length numbers ≡ 16 → length least ≡ 16
+      → LeadingTo cross keys 0 numbers least
+  leading-none b l = record { best-size = b; least-size = l; each = λ o h. absurd (omega arith) }
+
+  pub leading-to : {m n : ℕ} {numbers least : List ℕ} → m ≡ n → LeadingTo cross keys m numbers least
+      → LeadingTo cross keys n numbers least
+  leading-to {numbers = numbers} {least = least} e w = subst (λ n. LeadingTo cross keys n numbers least) e w
+
+  pub leading-more : (n number key : ℕ) {numbers least : List ℕ} → n < 16 → Leading cross keys n number key
+      → LeadingTo cross keys n numbers least → LeadingTo cross keys (n + 1) (set numbers n number) (set least n key)
+  leading-more n number key {numbers} {least} l f w = record {
+    best-size = length-set numbers n number ∙ w .best-size;
+    least-size = length-set least n key ∙ w .least-size;
+    each = set-both (Leading cross keys) numbers least n number key (omega (arith, w .best-size))
+        (omega (arith, w .least-size)) (w .each) f;
+  }
+
+------------------------------------------------------------------------
+-- the smaller of a number and none, as a branch finds it
+
+pub smaller-came : {A B : Type 0} {x n : ℕ} → (A → x < nowhere) → (B → nowhere ≤ x)
+    → (A × (n ≡ x)) ⊎ (B × (n ≡ nowhere)) → n ≡ min x nowhere
+smaller-came some none (inl (a, e)) = e ∙ sym (min-eq-left (omega (arith, some a)))
+smaller-came some none (inr (b, e)) = e ∙ sym (min-eq-right (none b))

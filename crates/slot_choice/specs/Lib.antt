@@ -1,0 +1,2 @@
+pub mod CodeKeys
+pub mod CodeWalk

@@ -1,0 +1,283 @@
+// Scope 3.3 to 3.6, rules 1 to 4: which cells a phase schedules, which are urgent, and which are matched. Rule 6
+// goes on from the best crosspoint cells that rule 3 finds.
+// Entry k of a table is a cell of input k / 64. The view of the table is only read.
+use layout::CELLS;
+use layout::PORTS;
+use layout_table::priority::NOWHERE;
+use slot_view::Choice;
+ghost use mathlib.Core.Path.{_≡_};
+ghost use mathlib.Core.List.{[]};
+ghost use Prim.Native.Nat.{ℕ, _+_, _≤_, _<_, min};
+ghost use lib.ListN.{length, getD, replicate};
+ghost use Rattle.cell.specs.Order.{over, key as cellKey};
+ghost use Rattle.cell.specs.Limits.{portLimit};
+ghost use Rattle.layout.specs.Table.{tableSize, entryLimit};
+ghost use Rattle.layout.specs.Entry.{entryAt};
+ghost use Rattle.layout.specs.Code.{portsIn};
+ghost use Rattle.layout_table.specs.CodeEntries.{nowhere};
+ghost use Rattle.slot_view.specs.CodeView.{placesIn, waitingIn, waitingAt, Square, Agrees};
+ghost use Rattle.slot_view.specs.CodeScan.{Readable};
+ghost use Rattle.slot_view.specs.CodeViewed.{headSet, ListsOf, Keyed, Chosen};
+ghost use Rattle.slot_choice.specs.CodeKeys.{leastOfFour, leastOf, FirstWith, LeadingTo};
+ghost use Rattle.slot_choice.specs.CodeWalk.{BestKnown, HeadOf, Means, Scanned, ScannedAll, entered, Entered};
+
+// What a walk along the heads of an input makes of one: whether its crosspoint is empty; and if not, whether it is
+// blocked and over every cell in the crosspoints of its output.
+struct Kind {
+    ready: bool,
+    pressing: bool,
+}
+
+// What the walk finds: the number of the scheduled cell, 1,024 where there is none, and the positions of the urgent
+// cells.
+struct Found {
+    scheduled: u16,
+    urgent: u64,
+}
+
+// Rules 1 to 4. Nothing is matched where no cell is urgent.
+pub fn choose(
+    table: &[u8],
+    listed: &[u64; PORTS],
+    heads: &[u64; PORTS],
+    cross: &[[u16; PORTS]; PORTS],
+    keys: &[[u64; PORTS]; PORTS],
+) -> Choice
+    requires { ⌜ Readable (now table) ⌝ }
+    requires { ⌜ ListsOf (now table) (placesIn (now table)) (now listed) (now heads) ⌝ }
+    requires { ⌜ Square (now cross) × Agrees (now table) (placesIn (now table)) (now cross)
+        × Keyed (now table) (now cross) (now keys) ⌝ }
+    ensures { λ r. ⌜ Chosen (now (table .entry)) (now (cross .entry)) (r .urgent) (r .scheduled) (r .candidates)
+        (r .best) ⌝ }
+{
+    let mut best = [NOWHERE; PORTS];
+    let mut least = [0; PORTS];
+    best_of_each(cross, keys, &mut best, &mut least);
+    let mut scheduled = [NOWHERE; PORTS];
+    let mut candidates = [0; PORTS];
+    let urgent = scan_each(
+        table,
+        heads,
+        cross,
+        &best,
+        &least,
+        &mut scheduled,
+        &mut candidates,
+    );
+    if urgent {
+        enter_scheduled(listed, &scheduled, &mut candidates);
+    }
+    Choice {
+        urgent,
+        scheduled,
+        candidates,
+        best,
+    }
+}
+
+// The best crosspoint cell of each output, and its key. Of equal keys the one of the smallest input goes first.
+fn best_of_each(
+    cross: &[[u16; PORTS]; PORTS],
+    keys: &[[u64; PORTS]; PORTS],
+    best: &mut [u16; PORTS],
+    least: &mut [u64; PORTS],
+)
+    requires { ⌜ (length (now best) ≡ portLimit) × (length (now least) ≡ portLimit) ⌝ }
+    ensures { λ _. ⌜ LeadingTo (now (cross .entry)) (now (keys .entry)) portLimit (now (best .exit))
+        (now (least .exit)) ⌝ }
+{
+    let mut output = 0;
+    while output < PORTS {
+        let key = least_key(keys, output);
+        let number = cross[holder(keys, output, key)][output];
+        least[output] = key;
+        best[output] = if number < NOWHERE { number } else { NOWHERE };
+        output += 1;
+    }
+}
+
+// The least key of an output. A tree of minima is made without branches, and a longer chain is not.
+fn least_key(keys: &[[u64; PORTS]; PORTS], output: usize) -> u64
+    requires { ⌜ output < portLimit ⌝ }
+    ensures { λ r. ⌜ r ≡ leastOf (getD (now (keys .entry)) output []) ⌝ }
+{
+    let a = least_of_four(keys, output, 0);
+    let b = least_of_four(keys, output, 4);
+    let c = least_of_four(keys, output, 8);
+    let d = least_of_four(keys, output, 12);
+    lesser(lesser(a, b), lesser(c, d))
+}
+
+// The least of the keys of an output from an input on.
+fn least_of_four(keys: &[[u64; PORTS]; PORTS], output: usize, from: usize) -> u64
+    requires { ⌜ (output < portLimit) × (from + 4 ≤ portLimit) ⌝ }
+    ensures { λ r. ⌜ r ≡ leastOfFour (getD (now (keys .entry)) output []) from ⌝ }
+{
+    lesser(
+        lesser(keys[output][from], keys[output][from + 1]),
+        lesser(keys[output][from + 2], keys[output][from + 3]),
+    )
+}
+
+fn lesser(a: u64, b: u64) -> u64
+    ensures { λ r. ⌜ r ≡ min a b ⌝ }
+{
+    if a < b { a } else { b }
+}
+
+// The first input with a key, if some input has it. Nothing branches on the keys, as that would be guessed badly.
+fn holder(keys: &[[u64; PORTS]; PORTS], output: usize, key: u64) -> usize
+    requires { ⌜ output < portLimit ⌝ }
+    ensures { λ r. ⌜ FirstWith (getD (now (keys .entry)) output []) key 0 r ⌝ }
+{
+    let mut found = 0;
+    let mut input = PORTS;
+    while 0 < input {
+        input -= 1;
+        found = if keys[output][input] == key {
+            input
+        } else {
+            found
+        };
+    }
+    found
+}
+
+// Rules 1 to 3 for each input, and whether some cell is urgent.
+fn scan_each(
+    table: &[u8],
+    heads: &[u64; PORTS],
+    cross: &[[u16; PORTS]; PORTS],
+    best: &[u16; PORTS],
+    least: &[u64; PORTS],
+    scheduled: &mut [u16; PORTS],
+    urgent: &mut [u64; PORTS],
+) -> bool
+    requires { ⌜ BestKnown (now table) (now cross) (now best) (now least) ⌝ }
+    requires { ⌜ ((input : ℕ) → input < portLimit → getD (now heads) input 0
+        ≡ headSet (now table) (placesIn (now table)) input) ⌝ }
+    requires { ⌜ (now scheduled ≡ replicate portLimit nowhere) × (now urgent ≡ replicate portLimit 0) ⌝ }
+    ensures { λ r. ⌜ ScannedAll (now (table .entry)) (now (scheduled .exit)) (now (urgent .exit)) r ⌝ }
+{
+    let mut some = false;
+    let ports = layout_table::header::ports_of(table);
+    let mut input = 0;
+    while input < ports {
+        let found = scan(table, heads[input], cross, best, least, input);
+        scheduled[input] = found.scheduled;
+        urgent[input] = found.urgent;
+        some = some | (found.urgent != 0);
+        input += 1;
+    }
+    some
+}
+
+// Rules 1 to 3 for an input: the first head in its list whose crosspoint is empty is scheduled, and each pressing
+// head before it is urgent. The walk ends there, since nothing behind it can be urgent. Nothing branches on which
+// heads press, as that would be guessed badly.
+fn scan(
+    table: &[u8],
+    heads: u64,
+    cross: &[[u16; PORTS]; PORTS],
+    best: &[u16; PORTS],
+    least: &[u64; PORTS],
+    input: usize,
+) -> Found
+    requires { ⌜ BestKnown (now table) (now cross) (now best) (now least) ⌝ }
+    requires { ⌜ (input < portsIn (now table)) × (heads ≡ headSet (now table) (placesIn (now table)) input) ⌝ }
+    ensures { λ r. ⌜ Scanned (now (table .entry)) input (r .scheduled) (r .urgent) ⌝ }
+{
+    let mut urgent = 0;
+    let mut left = heads;
+    while left != 0 {
+        let position = sets::first(left);
+        let k = CELLS * input + position;
+        left = sets::rest(left);
+        let kind = kind_of(table, cross, best, least, input, k);
+        if kind.ready {
+            return Found {
+                scheduled: k as u16,
+                urgent,
+            };
+        }
+        urgent = sets::with_if(urgent, position, kind.pressing);
+    }
+    Found {
+        scheduled: NOWHERE,
+        urgent,
+    }
+}
+
+// Rules 2 and 3 for a head.
+fn kind_of(
+    table: &[u8],
+    cross: &[[u16; PORTS]; PORTS],
+    best: &[u16; PORTS],
+    least: &[u64; PORTS],
+    input: usize,
+    k: usize,
+) -> Kind
+    requires { ⌜ BestKnown (now table) (now cross) (now best) (now least) ⌝ }
+    requires { ⌜ HeadOf (now table) input k ⌝ }
+    ensures { λ r. ⌜ Means (waitingIn (now (table .entry)))
+        (waitingAt (now (table .entry)) (placesIn (now (table .entry))) k) (r .ready) (r .pressing) ⌝ }
+{
+    let output = layout_table::entry::output_of(table, k) as usize;
+    let held = cross[input][output];
+    let rival = best[output];
+    let key = least[output];
+    if held >= NOWHERE {
+        return Kind {
+            ready: true,
+            pressing: false,
+        };
+    }
+    Kind {
+        ready: false,
+        pressing: is_pressing(table, k, rival, key),
+    }
+}
+
+// Rule 3 for a head whose crosspoint is full, by the best cell in the crosspoints of its output and its key: the head
+// is blocked and over every cell there if it is over that one.
+fn is_pressing(table: &[u8], k: usize, best: u16, key: u64) -> bool
+    requires { ⌜ (length (now table) ≡ tableSize) × (k < entryLimit) × (best < entryLimit) ⌝ }
+    requires { ⌜ key ≡ cellKey (entryAt (now table) best .cell) ⌝ }
+    ensures { λ r. ⌜ r ≡ over (entryAt (now (table .entry)) k .cell) (entryAt (now (table .entry)) best .cell) ⌝ }
+{
+    layout_table::priority::goes_first(
+        table,
+        layout_table::entry::key_of(table, k),
+        k,
+        key,
+        best as usize,
+    )
+}
+
+// Rule 4 for each input, where some cell is urgent.
+fn enter_scheduled(listed: &[u64; PORTS], scheduled: &[u16; PORTS], candidates: &mut [u64; PORTS])
+    requires { ⌜ length (now candidates) ≡ portLimit ⌝ }
+    ensures { λ _. ⌜ Entered (now (listed .entry)) (now (scheduled .entry)) (now (candidates .entry)) portLimit
+        (now (candidates .exit)) ⌝ }
+{
+    let mut input = 0;
+    while input < PORTS {
+        candidates[input] = enter(listed[input], scheduled[input], candidates[input]);
+        input += 1;
+    }
+}
+
+// The scheduled cell of an input is matched if it stands first in its list, and otherwise the urgent cells are. None of
+// its input is urgent where it stands first.
+fn enter(listed: u64, scheduled: u16, urgent: u64) -> u64
+    ensures { λ r. ⌜ r ≡ entered listed scheduled urgent ⌝ }
+{
+    if scheduled >= NOWHERE {
+        return urgent;
+    }
+    let position = scheduled as usize % CELLS;
+    if sets::first(listed) != position {
+        return urgent;
+    }
+    sets::with(0, position)
+}

@@ -1,0 +1,119 @@
+-- Loading, and the two phases. The loop's invariant: where the phases stand after so many, and the view of the table.
+use Prim.Native.Nat.{_-_, _≤_, _<_}
+use native.Mathlib.Omega.{arith}
+use mathlib.Core.Path.{_≡_, refl, _∙_, subst}
+use lib.ListN.{length, length-set}
+use borrow.Author.Needs.{needs}
+use Rattle.layout.specs.Table.{stateOf}
+use Rattle.slot_view.specs.CodeViewed.{Viewed}
+use Rattle.slot_course.specs.Code.{Phased}
+use Rattle.slot_course.proofs.Course.{phased-none, phased-more, schedules}
+use Rattle.slot_course.proofs.slot.schedule.Statement.{statement}
+use Rattle.slot_course.proofs.slot.schedule.Tie as tie
+
+abbrev Inv-loop : tie.InvT-loop
+Inv-loop table₀ listed₀ heads₀ crossed buffered best₀ cross₀ keys₀ made₀ n₀ table listed heads best cross keys made n =
+    (n ≤ 2) × Phased (stateOf table₀) n table made × Viewed table listed heads cross keys best × (length made ≡ 2)
+    × (length table ≡ length table₀)
+
+abbrev μ-loop : tie.MeasureT-loop
+μ-loop table₀ listed₀ heads₀ crossed buffered best₀ cross₀ keys₀ made₀ n₀ table listed heads best cross keys made n =
+    2 - n
+
+load-requires : tie.Need-load-requires Inv-loop μ-loop
+load-requires c κs =
+    let start = c .before .before .before .before .before in
+    let sets = start .pre .1 in (
+      start .pre .0 .0,
+      (
+        sets .crossed-at,
+        (
+          sets .buffered-at,
+          record { no-crosspoints = refl; no-keys = refl; no-buffers = start .pre .0 .1 },
+        ),
+      ),
+    )
+
+loop-holds : tie.Need-loop-holds Inv-loop μ-loop
+loop-holds c =
+    let start = c .before .before .before .before .before .before in
+    let l = c .load .ensures in (
+      omega arith,
+      phased-none _ _ _ (start .pre .0 .0) refl,
+      record {
+        lists = start .pre .1 .lists;
+        square = l .square;
+        agrees = l .agrees;
+        keyed = l .keyed;
+        bests = l .bests;
+      },
+      refl,
+      refl,
+    )
+
+phase-requires : tie.Need-phase-requires Inv-loop μ-loop
+phase-requires c κs =
+    let loop = c .before .before .before .before .before .before .before .loop in
+    (loop .inv .1 .good, loop .inv .2)
+
+mul-made : tie.Need-mul-made Inv-loop μ-loop
+mul-made c = omega arith
+
+array-write-made : tie.Need-array-write-made Inv-loop μ-loop
+array-write-made c = omega arith
+
+add-n : tie.Need-add-n Inv-loop μ-loop
+add-n c = omega arith
+
+loop-less : tie.Need-loop-less Inv-loop μ-loop
+loop-less c = omega arith
+
+loop-again : tie.Need-loop-again Inv-loop μ-loop
+loop-again c =
+    let test = c .before .before .before .before .before .before .before .before .before in
+    let loop = test .before .loop in
+    let p = c .before .before .phase in
+    let room : loop .n < length (loop .made) = omega (arith, loop .inv .3, test .loop-test .taken) in (
+      omega arith,
+      phased-more _ _ _ _ _ _ (loop .inv .1) room (p .ensures .0) (p .ensures .1 .1),
+      p .ensures .1 .0,
+      simp length-set (loop .inv .3),
+      p .kept .0 ∙ loop .inv .4,
+    )
+
+array-read-first : tie.Need-array-read-first Inv-loop μ-loop
+array-read-first c = search needs
+
+array-read-second : tie.Need-array-read-second Inv-loop μ-loop
+array-read-second c = search needs
+
+same-length : tie.Need-same-length Inv-loop μ-loop
+same-length c = c .before .loop .inv .4
+
+returns : tie.Need-returns Inv-loop μ-loop
+returns c =
+    let loop = c .before .loop in
+    let start = c .before .before .before .before .before .before .before .before in
+    let last : loop .n ≡ 2 = omega (arith, loop .inv .0) in
+    schedules _ _ _ _
+    (subst (λ k. Phased (stateOf (start .args .table .now)) k (loop .table) (loop .made)) last (loop .inv .1))
+    (loop .inv .2 .bests)
+
+pub schedule-spec : {M : Type 1} → statement M
+schedule-spec =
+    tie.close
+    (tie.spec
+    Inv-loop
+    μ-loop
+    load-requires
+    loop-holds
+    phase-requires
+    mul-made
+    array-write-made
+    add-n
+    loop-less
+    loop-again
+    array-read-first
+    array-read-second
+    same-length
+    returns)

@@ -1,0 +1,54 @@
+-- Scope 3: a slot on the bytes of a sound table, from where its cells have arrived.
+use mathlib.Core.List.{List}
+use mathlib.Core.Path.{_≡_}
+use lib.ListN.{getD}
+use Prim.Native.Nat.{ℕ, zero, suc, _<_}
+use Rattle.model.specs.State.{Switch}
+use Rattle.model.specs.Phase.{waiting, phase, moved}
+use Rattle.model.specs.Crossbar.{Course, leaving, departuresOf, without}
+use Rattle.layout.specs.Table.{IsTable, stateOf}
+use Rattle.slot_view.specs.CodeView.{placesIn}
+use Rattle.slot_view.specs.CodeViewed.{BestBuffered}
+use Rattle.slot_moves.specs.CodeMoved.{afterPhase}
+
+-- the course of a slot whose cells have arrived and whose clock has risen
+unfoldable pub courseOf : Switch → Course
+courseOf s =
+    let arrived = s .sections in
+    let one = phase (waiting arrived) in
+    let between = moved one arrived in
+    let two = phase (waiting between) in
+    let settled = moved two between in
+    let out = leaving (waiting settled) in
+    record {
+      arrived = arrived;
+      one = one;
+      between = between;
+      two = two;
+      settled = settled;
+      departures = departuresOf (s .ports) out;
+      switch = record { ports = s .ports; clock = s .clock; sections = without out settled };
+    }
+
+-- the switch after so many phases
+unfoldable pub afterPhases : ℕ → Switch → Switch
+afterPhases zero s = s
+afterPhases (suc n) s = afterPhase (afterPhases n s)
+
+-- the proposals that the phase after so many phases makes
+unfoldable pub proposalsAfter : ℕ → Switch → ℕ
+proposalsAfter n s = phase (waiting (afterPhases n s .sections)) .proposals
+
+-- where the phases stand after so many: the table is that of the switch then, and the proposals of each phase are counted
+pub record Phased (s : Switch) (n : ℕ) (table made : List ℕ) : Type 0 where
+  pub good : IsTable table
+  pub state : stateOf table ≡ afterPhases n s
+  pub counted : (k : ℕ) → k < n → getD made k 0 ≡ proposalsAfter k s
+
+-- what the two phases leave
+pub record Scheduled (s : Switch) (table best : List ℕ) (one two : ℕ) : Type 0 where
+  pub good : IsTable table
+  pub state : stateOf table ≡ afterPhases 2 s
+  pub bests : BestBuffered table (placesIn table) best
+  pub first : one ≡ proposalsAfter 0 s
+  pub second : two ≡ proposalsAfter 1 s

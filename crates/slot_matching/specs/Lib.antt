@@ -1,0 +1,2 @@
+pub mod CodeFound
+pub mod CodeProposing

@@ -1,0 +1,101 @@
+-- One move: where there is no cell, nothing changes; and what a move takes from a table is the same in one that keeps it.
+use Prim.Native.Nat.{ℕ, _/_, _<_, _≤_}
+use native.Mathlib.Omega.{arith}
+use mathlib.Core.Bool.{Bool, true}
+use mathlib.Core.Path.{_≡_, sym, _∙_, ap}
+use mathlib.Core.List.{List}
+use borrow.Author.Tests.{lt-ltb}
+use lib.Dec.{ltb}
+use lib.ListN.{length, getD, set}
+use lib.Seq.{set-out}
+use Rattle.laws.proofs.Tests.{cond-pass}
+use Rattle.cell.specs.Limits.{sectionRoom}
+use Rattle.cell.specs.Order.{key}
+use Rattle.layout.specs.Entry.{entryAt}
+use Rattle.layout.specs.Table.{tableSize}
+use Rattle.layout_table.specs.CodeEntries.{nowhere, betterOf}
+use Rattle.slot_view.specs.CodeView.{Square}
+use Rattle.slot_view.specs.CodeViewed.{noKey, keyAt}
+use Rattle.slot_view.proofs.Placing.{Kept, placed-past}
+use Rattle.slot_moves.specs.CodeMoves.{left, headsLeft, leftHeads, entered, markOf, Straight, Crossed, Taken}
+use Rattle.slot_moves.proofs.Agreeing.{put-nowhere, put-past}
+use Rattle.slot_moves.proofs.Entering.{entered-none}
+use Rattle.slot_moves.proofs.Rules.{mark-none}
+
+------------------------------------------------------------------------
+-- no cell
+
+module _ (k : ℕ) (none : nowhere ≤ k) where
+  pub left-none : (listed : List ℕ) → length listed ≡ 16 → left listed k ≡ listed
+  unfolding left
+  left-none listed size = set-out listed (k / sectionRoom) _ (omega arith)
+
+  pub leftHeads-none : (table listed heads : List ℕ) → length heads ≡ 16 → leftHeads table listed heads k ≡ heads
+  unfolding leftHeads
+  leftHeads-none table listed heads size = set-out heads (k / sectionRoom) _ (omega arith)
+
+  mark-past : (marks : List Bool) (output : ℕ) → length marks ≡ 16 → set marks (markOf k output) true ≡ marks
+  mark-past marks output size =
+      ap (λ o. set marks o true) (mark-none k output none) ∙ set-out marks 16 true (omega arith)
+
+  module _ (table best : List ℕ) (size : length table ≡ tableSize) where
+    pub straight-none : (output : ℕ) (listed heads : List ℕ) (inputs outputs : List Bool) → length listed ≡ 16
+        → length heads ≡ 16 → length inputs ≡ 16 → length outputs ≡ 16
+        → Straight table k output table listed listed heads heads best best inputs inputs outputs outputs
+    straight-none output listed heads inputs outputs l h i o =
+        record {
+          to-buffer = sym (placed-past table k 3 size none);
+          left-list = sym (left-none listed l);
+          left-heads = sym (leftHeads-none table listed heads h);
+          best-in = sym (entered-none table best k none);
+          from-input = sym (set-out inputs (k / sectionRoom) true (omega arith));
+          to-output = sym (mark-past outputs output o);
+        }
+
+    module _ (cross keys : List (List ℕ)) (square : Square cross) (keyed : Square keys) where
+      pub crossed-none : (listed heads : List ℕ) → length listed ≡ 16 → length heads ≡ 16
+          → Crossed table k table listed listed heads heads cross cross keys keys best best
+      crossed-none listed heads l h =
+          record {
+            to-crosspoint = sym (placed-past table k 2 size none);
+            left-list = sym (left-none listed l);
+            left-heads = sym (leftHeads-none table listed heads h);
+            filled = sym (put-nowhere cross square (k / sectionRoom) _ k (omega arith));
+            keyed = sym (put-past keys keyed _ (k / sectionRoom) (keyAt table k) (omega arith));
+            best-in = sym (entered-none table best k none);
+          }
+
+      pub taken-none : (output : ℕ) → Taken table k output table cross cross keys keys best best
+      taken-none output =
+          record {
+            to-buffer = sym (placed-past table k 3 size none);
+            emptied = sym (put-nowhere cross square (k / sectionRoom) output nowhere (omega arith));
+            unkeyed = sym (put-past keys keyed output (k / sectionRoom) noKey (omega arith));
+            best-in = sym (entered-none table best k none);
+          }
+
+------------------------------------------------------------------------
+-- the same cells
+
+module _ {old new : List ℕ} (kept : Kept old new) where
+  better-kept : (held k : ℕ) → betterOf new held k ≡ betterOf old held k
+  unfolding betterOf
+  better-kept held k = rw (kept .cells k, kept .cells held)
+
+  pub entered-kept : (best : List ℕ) (k : ℕ) → entered new best k ≡ entered old best k
+  unfolding entered
+  entered-kept best k =
+      ap (λ c. set best (c .output) (betterOf new (getD best (c .output) 0) k)) (kept .cells k)
+      ∙ ap (set best (entryAt old k .cell .output)) (better-kept (getD best (entryAt old k .cell .output) 0) k)
+
+  pub leftHeads-kept : (listed heads : List ℕ) (k : ℕ) → leftHeads new listed heads k ≡ leftHeads old listed heads k
+  unfolding leftHeads headsLeft
+  leftHeads-kept listed heads k = simp (kept .cells)
+
+  pub keyAt-kept : (k : ℕ) → keyAt new k ≡ keyAt old k
+  unfolding keyAt
+  keyAt-kept k = rw (kept .cells k)
+
+pub keyAt-some : (table : List ℕ) (k : ℕ) → k < nowhere → key (entryAt table k .cell) ≡ keyAt table k
+unfolding keyAt
+keyAt-some table k h = sym (cond-pass (ltb k nowhere) (key (entryAt table k .cell)) noKey (lt-ltb k nowhere h))

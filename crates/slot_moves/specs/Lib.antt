@@ -1,0 +1,2 @@
+pub mod CodeMoved
+pub mod CodeMoves

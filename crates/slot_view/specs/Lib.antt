@@ -1,0 +1,5 @@
+pub mod CodeChoices
+pub mod CodeScan
+pub mod CodeSections
+pub mod CodeView
+pub mod CodeViewed

@@ -1,4 +1,0 @@
-pub mod Check
-pub mod Cleared
-pub mod Entries
-pub mod Handed

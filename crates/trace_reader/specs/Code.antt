@@ -1,0 +1,49 @@
+-- The steps of the reader, as the code takes them.
+use Prim.Native.Nat.{ℕ, _+_, _*_, _-_}
+use mathlib.Core.Bool.{Bool, true, false}
+use mathlib.Core.List.{List}
+use mathlib.Core.Option.{Option, none, some, bind, Option·map}
+use lib.ListN.{length, getD}
+use Rattle.cell.specs.declared.Arrival.{Arrival}
+use Rattle.cell.specs.declared.Refusal.the-variants.{BadLine}
+use Rattle.trace_reader.specs.declared.Came.{Came}
+use Rattle.trace_reader.specs.declared.Came.the-variants.{Whole, Bad as BadCame}
+use Rattle.trace_reader.specs.declared.Verdict.{Verdict}
+use Rattle.trace_reader.specs.declared.Verdict.the-variants.{Accepted, Refused}
+use Rattle.trace.specs.Line.{after, upToLineFeed, readNumber}
+use Rattle.trace.specs.Reader.{Read, got, badAt, Next, slotAhead, faulty, blocks}
+use Rattle.trace_reader.specs.Reading.{from}
+
+-- four bytes as one number, the first of them its lowest
+abbrev pub wordAt : List ℕ → ℕ → ℕ
+wordAt t i = getD t i 0 + 256 * getD t (i + 1) 0 + 65536 * getD t (i + 2) 0 + 16777216 * getD t (i + 3) 0
+
+-- whether a text begins with p
+unfoldable pub beginsWith : List ℕ → List ℕ → Bool
+beginsWith p t = elim (after p t) [ none ↦ false | some u ↦ true ]
+
+-- a line behind its key: the number, and what follows the line feed
+unfoldable pub readBody : List ℕ → Option (ℕ × List ℕ)
+readBody t = bind (upToLineFeed t) (λ s. Option·map (λ n. (n, s .1)) (readNumber (s .0)))
+
+-- a line that begins with p
+unfoldable pub readMarked : List ℕ → List ℕ → Option (ℕ × List ℕ)
+readMarked p t = bind (after p t) readBody
+
+unfoldable pub cameOf : List ℕ → Read Arrival → Came
+cameOf t (got a d) = Whole a (length t - length (d .text))
+cameOf t (badAt l) = BadCame l
+
+-- the arrivals of a block, once its `slot` line is read
+unfoldable pub ahead : Read (List Arrival) → Next
+ahead (got rs d) = slotAhead rs d
+ahead (badAt l) = faulty l
+
+-- the slots of a text, after n others
+unfoldable pub ended : ℕ → Read (List (List Arrival)) → Verdict
+ended n (got slots d) = Accepted (n + length slots)
+ended n (badAt l) = Refused BadLine l
+
+-- the text after the header, which has two lines
+unfoldable pub endedOf : ℕ → List ℕ → Verdict
+endedOf first t = ended 0 (blocks (length t) first (from 3 t))

@@ -1,0 +1,377 @@
+// Scope 7: the reader, a function for each rule of the grammar, which stands over it. A text is lent and
+// only read; what was read is handed on with its length, and the next reader gets the slice from there.
+// No public function has a `requires`.
+use cell::Arrival;
+use cell::Refusal;
+use cell::Switch;
+use trace::Answer;
+use trace::BLOCK_LIMIT;
+use trace::BLOCK_LINES;
+use trace::FIELDS;
+use trace::Key;
+use trace::NUMBERS;
+use trace::Opening;
+ghost use mathlib.Core.Bool.{true, false};
+ghost use mathlib.Core.List.{[], _∷_};
+ghost use mathlib.Core.Path.{_≡_};
+ghost use Prim.Native.Nat.{_+_, _*_, _≤_, _<_};
+ghost use lib.ListN.{length, drop};
+ghost use lib.Seq.{sets};
+ghost use Rattle.trace.specs.declared.Key.the-variants.{End};
+ghost use Rattle.trace.specs.Line.{isDigit, readLine};
+ghost use Rattle.trace.specs.Contents.{blockLimit, blockLines};
+ghost use Rattle.trace.specs.Reader.{arrival, arrivals, begins, next, read};
+ghost use Rattle.trace.specs.Piece.{known, decided, nextIn, headerIn, numbersOf, answerOf, openingOf};
+ghost use Rattle.trace_reader.specs.Reading.{from, lineOf};
+ghost use Rattle.trace_reader.specs.Reading.{wholeArrivals, wholeOf, numbersAfter, verdictOf};
+ghost use Rattle.trace_reader.specs.Code.{wordAt, beginsWith, readBody, readMarked, cameOf, ahead, endedOf};
+
+// The arrivals of a block, as an index.
+const ARRIVALS: usize = BLOCK_LIMIT as usize;
+
+// What stands at the start of a text.
+pub enum Line {
+    // The number, and how many bytes the line has.
+    Number(u32, usize),
+    Bad,
+}
+
+// What reading a whole text by the grammar alone gives.
+pub enum Verdict {
+    // The number of slots.
+    Accepted(u32),
+    // A refusal and its line, counted from 1.
+    Refused(Refusal, usize),
+}
+
+// What stands where an arrival may begin.
+enum Came {
+    // The arrival, and how many bytes its lines have.
+    Whole(Arrival, usize),
+    // The line at fault.
+    Bad(u32),
+}
+
+// text = header { block } end
+pub fn verify(text: &[u8]) -> Verdict
+    ensures { λ r. ⌜ r ≡ verdictOf (read (now (text .entry))) ⌝ }
+{
+    let opening = read_header(text, true);
+    match opening {
+        Opening::Open(_, first, used) => verify_blocks(&text[used..], first),
+        Opening::Refused(refusal, line) => Verdict::Refused(refusal, line as usize),
+        // never: all of the text is there
+        Opening::Short => Verdict::Refused(Refusal::BadLine, 1),
+    }
+}
+
+// header = ports-line first-line
+pub fn read_header(text: &[u8], last: bool) -> Opening
+    ensures { λ r. ⌜ r ≡ openingOf (now (text .entry)) (headerIn last (now (text .entry))) ⌝ }
+{
+    if !decided(text, last) {
+        return Opening::Short;
+    }
+    let Line::Number(ports, used) = read_marked(text, b"ports=") else {
+        return Opening::Refused(Refusal::BadLine, 1);
+    };
+    if !Switch::ports_in_range(ports) {
+        return Opening::Refused(Refusal::BadSize, 1);
+    }
+    let Line::Number(first, more) = read_marked(&text[used..], b"first=") else {
+        return Opening::Refused(Refusal::BadLine, 2);
+    };
+    Opening::Open(ports, first, used + more)
+}
+
+// next = block | end. The numbers of the block's arrivals, of a bad block those that are whole before the fault, come
+// first among the lent ones; the others are kept.
+pub fn read_block(text: &[u8], clock: u32, last: bool, numbers: &mut [u32; NUMBERS]) -> Answer
+    ensures { λ r. ⌜ r ≡ answerOf (now (text .entry)) (nextIn last clock (now (text .entry))) ⌝ }
+    ensures { λ _. ⌜ now (numbers .exit) ≡ numbersAfter (wholeOf clock (from 0 (now (text .entry))))
+        (nextIn last clock (now (text .entry))) (now (numbers .entry)) ⌝ }
+{
+    if !decided(text, last) {
+        return Answer::More;
+    }
+    if begins(text, b"end=") {
+        return read_end(text, clock);
+    }
+    read_slot(text, clock, numbers)
+}
+
+// line = key "=" number "\n"
+pub fn read_line(text: &[u8], key: Key) -> Line
+    ensures { λ r. ⌜ r ≡ lineOf (now (text .entry)) (readLine key (now (text .entry))) ⌝ }
+{
+    match key {
+        Key::Ports => read_marked(text, b"ports="),
+        Key::First => read_marked(text, b"first="),
+        Key::Slot => read_marked(text, b"slot="),
+        Key::In => read_marked(text, b"in="),
+        Key::Out => read_marked(text, b"out="),
+        Key::Flow => read_marked(text, b"flow="),
+        Key::Rank => read_marked(text, b"rank="),
+        Key::Tag => read_marked(text, b"tag="),
+        Key::End => read_marked(text, b"end="),
+        Key::Refused => read_marked(text, b"refused="),
+        Key::Line => read_marked(text, b"line="),
+    }
+}
+
+// { block } end, from line 3 on; no line has the number after 4,294,967,295
+fn verify_blocks(text: &[u8], first: u32) -> Verdict
+    ensures { λ r. ⌜ r ≡ endedOf first (now (text .entry)) ⌝ }
+{
+    let mut numbers = [0u32; NUMBERS];
+    let mut rest = text;
+    let mut clock = first;
+    let mut line: usize = 3;
+    // with this test the compiler sees one call of read_block, and puts it in line
+    while 0 < rest.len() {
+        match read_block(rest, clock, true, &mut numbers) {
+            Answer::Slot(_, used, lines) => {
+                line += lines as usize;
+                if clock == Switch::CLOCK_END {
+                    return Verdict::Refused(Refusal::BadLine, line);
+                }
+                clock += 1;
+                rest = &rest[used..];
+            }
+            Answer::End => {
+                return Verdict::Accepted(clock - first);
+            }
+            Answer::Bad(k) => {
+                return Verdict::Refused(Refusal::BadLine, line + k as usize);
+            }
+            // never: all of the text is there
+            Answer::More => {
+                return Verdict::Refused(Refusal::BadLine, line);
+            }
+        }
+    }
+    // a line is missing
+    Verdict::Refused(Refusal::BadLine, line)
+}
+
+// Whether the text is enough to decide by: it is all there, or more than any block can have.
+fn decided(text: &[u8], last: bool) -> bool
+    ensures { λ r. ⌜ r ≡ decided last (now (text .entry)) ⌝ }
+{
+    if last {
+        return true;
+    }
+    2048 <= text.len()
+}
+
+// end = end-line, with the clock's number and nothing after it
+fn read_end(text: &[u8], clock: u32) -> Answer
+    requires { ⌜ begins End (from 0 (now text)) ≡ true ⌝ }
+    ensures { λ r. ⌜ r ≡ answerOf (now (text .entry)) (known (next clock (from 0 (now (text .entry))))) ⌝ }
+{
+    let Line::Number(number, used) = read_marked(text, b"end=") else {
+        return Answer::Bad(0);
+    };
+    if number != clock {
+        return Answer::Bad(0);
+    }
+    if used < text.len() {
+        return Answer::Bad(1);
+    }
+    Answer::End
+}
+
+// block = slot-line, with the clock's number, and at most 16 arrivals
+fn read_slot(text: &[u8], clock: u32, numbers: &mut [u32; NUMBERS]) -> Answer
+    requires { ⌜ begins End (from 0 (now text)) ≡ false ⌝ }
+    ensures { λ r. ⌜ r ≡ answerOf (now (text .entry)) (known (next clock (from 0 (now (text .entry))))) ⌝ }
+    ensures { λ _. ⌜ now (numbers .exit) ≡ numbersAfter (wholeOf clock (from 0 (now (text .entry))))
+        (known (next clock (from 0 (now (text .entry))))) (now (numbers .entry)) ⌝ }
+{
+    let Line::Number(number, used) = read_marked(text, b"slot=") else {
+        return Answer::Bad(0);
+    };
+    if number != clock {
+        return Answer::Bad(0);
+    }
+    read_arrivals(text, used, numbers)
+}
+
+// { arrival }, up to the first line that does not begin `in=`
+fn read_arrivals(text: &[u8], start: usize, numbers: &mut [u32; NUMBERS]) -> Answer
+    requires { ⌜ start ≤ length (now text) ⌝ }
+    ensures { λ r. ⌜ r ≡ answerOf (now (text .entry))
+        (known (ahead (arrivals blockLimit (from 1 (drop start (now (text .entry))))))) ⌝ }
+    ensures { λ _. ⌜ now (numbers .exit)
+        ≡ numbersAfter (wholeArrivals blockLimit (from 1 (drop start (now (text .entry)))))
+        (known (ahead (arrivals blockLimit (from 1 (drop start (now (text .entry))))))) (now (numbers .entry)) ⌝ }
+{
+    let mut at = start;
+    let mut k: usize = 0;
+    while k < ARRIVALS {
+        let rest = &text[at..];
+        let line = (FIELDS * k + 1) as u32;
+        if !begins(rest, b"in=") {
+            return Answer::Slot(k as u32, at, line);
+        }
+        match read_arrival(rest, line) {
+            Came::Bad(fault) => {
+                return Answer::Bad(fault);
+            }
+            Came::Whole(a, used) => {
+                store(numbers, k, a);
+                at += used;
+                k += 1;
+            }
+        }
+    }
+    Answer::Slot(BLOCK_LIMIT, at, BLOCK_LINES)
+}
+
+// arrival = in-line out-line flow-line rank-line tag-line
+fn read_arrival(text: &[u8], line: u32) -> Came
+    requires { ⌜ line < blockLines ⌝ }
+    ensures { λ r. ⌜ r ≡ cameOf (now (text .entry)) (arrival (from line (now (text .entry)))) ⌝ }
+{
+    let Line::Number(input, a) = read_marked(text, b"in=") else {
+        return Came::Bad(line);
+    };
+    let after_in = &text[a..];
+    let Line::Number(output, b) = read_marked(after_in, b"out=") else {
+        return Came::Bad(line + 1);
+    };
+    let after_out = &after_in[b..];
+    let Line::Number(flow, c) = read_marked(after_out, b"flow=") else {
+        return Came::Bad(line + 2);
+    };
+    let after_flow = &after_out[c..];
+    let Line::Number(rank, d) = read_marked(after_flow, b"rank=") else {
+        return Came::Bad(line + 3);
+    };
+    let after_rank = &after_flow[d..];
+    let Line::Number(tag, e) = read_marked(after_rank, b"tag=") else {
+        return Came::Bad(line + 4);
+    };
+    let arrival = Arrival {
+        input,
+        output,
+        flow,
+        rank,
+        tag,
+    };
+    Came::Whole(arrival, a + b + c + d + e)
+}
+
+// The numbers of an arrival, at its place among those of its block.
+fn store(numbers: &mut [u32; NUMBERS], k: usize, a: Arrival)
+    requires { ⌜ k < blockLimit ⌝ }
+    ensures { λ _. ⌜ now (numbers .exit) ≡ sets (now (numbers .entry)) (5 * k) (numbersOf (a ∷ [])) ⌝ }
+{
+    let at = FIELDS * k;
+    numbers[at] = a.input;
+    numbers[at + 1] = a.output;
+    numbers[at + 2] = a.flow;
+    numbers[at + 3] = a.rank;
+    numbers[at + 4] = a.tag;
+}
+
+// A line whose key and `=` are these bytes.
+fn read_marked(text: &[u8], mark: &[u8]) -> Line
+    ensures { λ r. ⌜ r ≡ lineOf (now (text .entry)) (readMarked (now (mark .entry)) (now (text .entry))) ⌝ }
+{
+    // a line has more behind its key; with this test first the compiler drops those of begins and read_number
+    if text.len() <= mark.len() {
+        return Line::Bad;
+    }
+    if !begins(text, mark) {
+        return Line::Bad;
+    }
+    read_number(text, mark.len())
+}
+
+// Whether the text begins with these very bytes.
+fn begins(text: &[u8], mark: &[u8]) -> bool
+    ensures { λ r. ⌜ r ≡ beginsWith (now (mark .entry)) (now (text .entry)) ⌝ }
+{
+    if text.len() < mark.len() {
+        return false;
+    }
+    let mut i = 0;
+    // four at a time: the compiler makes one comparison of them
+    while i + 4 <= mark.len() {
+        if word_at(text, i) != word_at(mark, i) {
+            return false;
+        }
+        i += 4;
+    }
+    while i < mark.len() {
+        if text[i] != mark[i] {
+            return false;
+        }
+        i += 1;
+    }
+    true
+}
+
+// Four bytes as one number, the first of them its lowest.
+fn word_at(bytes: &[u8], i: usize) -> u32
+    requires { ⌜ i + 4 ≤ length (now bytes) ⌝ }
+    ensures { λ r. ⌜ r ≡ wordAt (now (bytes .entry)) i ⌝ }
+{
+    wide(bytes[i])
+        + 256 * wide(bytes[i + 1])
+        + 65536 * wide(bytes[i + 2])
+        + 16777216 * wide(bytes[i + 3])
+}
+
+// A byte as wide as a word.
+fn wide(b: u8) -> u32
+    ensures { λ r. ⌜ (r ≡ b) × (r < 256) ⌝ }
+{
+    b as u32
+}
+
+// number "\n" from a place of the text; number = "0" | digit { digit }, the first not "0", at most 4294967295
+fn read_number(text: &[u8], start: usize) -> Line
+    ensures { λ r. ⌜ r ≡ lineOf (now (text .entry)) (readBody (drop start (now (text .entry)))) ⌝ }
+{
+    if text.len() <= start {
+        return Line::Bad;
+    }
+    let first = text[start];
+    if !is_digit(first) {
+        return Line::Bad;
+    }
+    let mut n = (first - 48) as u32;
+    let mut at = start + 1;
+    while at < text.len() {
+        let b = text[at];
+        // first, since most bytes are digits
+        if !is_digit(b) {
+            if b == 10 {
+                return Line::Number(n, at + 1);
+            }
+            return Line::Bad;
+        }
+        if n == 0 {
+            return Line::Bad;
+        }
+        let m = 10 * (n as u64) + ((b - 48) as u64);
+        if 4294967295 < m {
+            return Line::Bad;
+        }
+        n = m as u32;
+        at += 1;
+    }
+    Line::Bad
+}
+
+// digit = "0" .. "9"
+fn is_digit(b: u8) -> bool
+    ensures { λ r. ⌜ r ≡ isDigit b ⌝ }
+{
+    if b < 48 {
+        return false;
+    }
+    b <= 57
+}
