@@ -95,8 +95,8 @@ def tellings():
     macro = r"^#define (?P<name>\w+) +(?P<number>\d+)u +/\* (?P<word>[a-z ]+): (?P<when>.*) \*/$"
     row = r'^    (?P<number>\d+): \("(?P<word>.*)", "(?P<when>.*)"\),$'
     item = r"^\.TP\n(?P<number>\d+)\n(?P<word>[a-z ]+):"
-    # The comments of the code say in their own words when a refusal comes, and so does the manual page, of a trace's lines.
-    yield "crates/cell/src/lib.rt", by_place("crates/cell/src/lib.rt", case.format("//", ".*")), False
+    # The manual page says in its own words, of a trace's lines, when a refusal comes.
+    yield "crates/cell/src/lib.rt", by_place("crates/cell/src/lib.rt", case.format("//", "(?P<when>.*)")), False
     yield "host/src/lib.rs", by_place("host/src/lib.rs", case.format("///", "(?P<when>.*)")), False
     yield "include/crossbar.h", told("include/crossbar.h", macro), False
     yield "viewer/show.py", told("viewer/show.py", row), True

@@ -1,7 +1,6 @@
 -- The number of slots from the reader's verdict.
 use Prim.Native.Nat.{ℕ}
-use native.Mathlib.Omega.{arith}
-use mathlib.Core.Path.{_≡_, refl, sym, _∙_}
+use mathlib.Core.Path.{_≡_, refl}
 use Rattle.cell.specs.declared.Refusal.{Refusal}
 use Rattle.trace.specs.Reader.{Outcome, accepted, refused}
 use Rattle.trace_reader.specs.declared.Verdict.{Verdict}

@@ -2,7 +2,6 @@
 --     flow-by-input, flow-by-output, flow-by-number   which field decides
 --     flow-sym, flow-trans                            an equivalence
 --     flow-input, flow-output                         cells of a flow have one input and one output
-use Prim.Native.Nat.{ℕ}
 use mathlib.Core.Bool.{Bool, true, false, _&&_}
 use mathlib.Core.Path.{_≡_, refl, sym, _∙_}
 use mathlib.Core.Logic.{_≢_}

@@ -2,9 +2,9 @@
 --     over-by-rank, over-by-slot, over-by-input   which field decides
 --     over-irrefl, over-trans, over-total         a strict order, total on cells that differ in input or slot
 --     over-in-flow                                within a flow whose ranks do not fall, the order of acceptance
-use Prim.Native.Nat.{ℕ, _<_, _≤_}
+use Prim.Native.Nat.{_<_, _≤_}
 use native.Mathlib.Omega.{arith}
-use mathlib.Core.Bool.{Bool, true, false, _&&_, or-false}
+use mathlib.Core.Bool.{true, false, or-false}
 use mathlib.Core.Path.{_≡_, refl, sym, _∙_}
 use mathlib.Core.Logic.{_⊎_, inl, inr, _≢_}
 use borrow.Author.Tests.{ltb-true, lt-ltb, le-ltb, eq-eqb, ne-eqb}

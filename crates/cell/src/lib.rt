@@ -35,21 +35,21 @@ pub struct Tally {
 
 // Why a call is turned back.
 pub enum Refusal {
-    // bad size: the number of ports is not 1 to 16
+    // bad size: N is not 1 to 16
     BadSize,
-    // broken table: the lent table is not sound or has the wrong length
+    // broken table: the lent table is not sound, or its length is wrong
     BrokenTable,
-    // clock end: the clock stands at its last value
+    // clock end: the clock is at 4,294,967,295
     ClockEnd,
-    // no such port: an input or output is N or more
+    // no such port: an input or an output is not below N
     NoSuchPort,
     // no such flow: a flow is above 7
     NoSuchFlow,
-    // out of turn: an input is not above that of the record before it
+    // out of turn: an input is not above the one of the record before
     InputOrder,
-    // falling rank: a cell of the same flow is in the switch with a higher rank
+    // falling rank: a cell of higher rank of the same flow is in the switch
     RankOrder,
-    // full: 64 cells from this input are in the switch
+    // full: 64 cells of this input are in the switch
     Full,
     // bad line: the text breaks the grammar
     BadLine,

@@ -2,8 +2,7 @@
 -- What is kept between calls: the table is that of a state with N ports, which the model's induction keeps beside the
 -- PIFO switch.
 use Prim.Native.Nat.{ℕ, _-_, _≤_}
-use native.Mathlib.Omega.{arith}
-use mathlib.Core.Bool.{Bool, true, false, _&&_}
+use mathlib.Core.Bool.{true, _&&_}
 use mathlib.Core.List.{List, [], _∷_, _++_, append-assoc}
 use mathlib.Core.Option.{Option, none, some}
 use mathlib.Core.Path.{_≡_, refl, sym, ap, subst, _∙_}
@@ -18,9 +17,9 @@ use Rattle.cell.specs.declared.Arrival.{Arrival}
 use Rattle.cell.specs.Limits.{portLimit, portsInRange, fits32}
 use Rattle.model.specs.Checks.{Outcome, done, refused, noDepartures}
 use Rattle.model.specs.Crossbar.{Course, answerOf, slotAnswer, slot, switchAfter}
-use Rattle.model.specs.Emulation.{lent, Within}
+use Rattle.model.specs.Emulation.{lent}
 use Rattle.model.specs.Emulation as Model
-use Rattle.model.specs.Pifo.{Pifo, freshPifo, Sent, slotPifo, pifoAfter}
+use Rattle.model.specs.Pifo.{Pifo, freshPifo, Sent, pifoAfter}
 use Rattle.model.specs.Sound.{sound}
 use Rattle.model.specs.State.{Switch, fresh}
 use Rattle.model.proofs.Demand3.{Kept, Step, step, kept-fresh}
@@ -29,7 +28,7 @@ use Rattle.model.proofs.SoundSlot.{after-ports}
 use Rattle.layout.specs.Answer.{departuresBytes, answerBytes, answerSize}
 use Rattle.layout.specs.Arrivals.{recordsOf}
 use Rattle.layout.specs.Number.{bytesOf}
-use Rattle.layout.specs.Host.{resultOf, startCall, bufferAfter, slotCall, tableAfter, answerAfter, filled}
+use Rattle.layout.specs.Host.{resultOf, startCall, bufferAfter, tableAfter, answerAfter, filled}
 use Rattle.layout.specs.Table.{decode, encode, tableSize}
 use Rattle.layout.specs.TallyBytes.{tallySize}
 use Rattle.layout.proofs.Answer.{length-departuresBytes}
@@ -38,7 +37,7 @@ use Rattle.layout.proofs.Number.{isByte, bytes?}
 use Rattle.layout.proofs.Host.{startCall-done, slotCall-arrivals, slotCall-slot, take-filled, result-refused}
 use Rattle.layout.proofs.Read.{answer-read, outputs-read}
 use Rattle.layout.proofs.Table.{decode-encode, length-encode}
-use Rattle.crossbar.specs.HostCalls.{Call, lendable, outcome, shadow, AnswersAlike, SameState, Alike, Demand3}
+use Rattle.crossbar.specs.HostCalls.{Call, lendable, outcome, shadow, AnswersAlike, Alike, Demand3}
 
 -- what a call that can be lent is
 parts : (c : Call) → lendable c ≡ true

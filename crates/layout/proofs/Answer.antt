@@ -15,8 +15,8 @@ use Rattle.model.specs.Crossbar.{Answer}
 use Rattle.layout.specs.Number.{bytesOf, numberAt, numberOf, word}
 use Rattle.layout.specs.Answer.{departureSize, answerSize, departureBytes, departuresBytes, answerBytes}
 use Rattle.layout.specs.Answer.{departureIn, departuresIn, answerIn}
-use Rattle.layout.proofs.Number.{bytes?, bytes?-append, zeros-bytes, take-first, drop-first, length-bytesOf}
-use Rattle.layout.proofs.Number.{bytesOf-bytes, numberOf-word, word-here, word-past}
+use Rattle.layout.proofs.Number.{take-first, drop-first, length-bytesOf}
+use Rattle.layout.proofs.Number.{numberOf-word, word-here, word-past}
 
 ------------------------------------------------------------------------
 -- one departure
@@ -36,11 +36,6 @@ pub length-departureBytes : (d : Option Cell) → length (departureBytes d) ≡ 
 unfolding departureBytes
 length-departureBytes none = length-replicate {A = ℕ} departureSize 0
 length-departureBytes (some c) = simp (length-append, length-bytesOf)
-
-pub departureBytes-bytes : (d : Option Cell) → bytes? (departureBytes d) ≡ true
-unfolding departureBytes
-departureBytes-bytes none = zeros-bytes departureSize
-departureBytes-bytes (some c) = search (bytes?-append, bytesOf-bytes) depth 12
 
 pub departureIn-departureBytes : (d : Option Cell) → departureFits d ≡ true → departureIn (departureBytes d) ≡ d
 unfolding departureFits cellFits departureIn departureBytes word numberAt numberOf bytesOf
@@ -77,14 +72,6 @@ length-departuresBytes (suc n) (d ∷ ds) =
     length-append (departureBytes d) (departuresBytes n ds)
     ∙ ap₂ _+_ (length-departureBytes d) (length-departuresBytes n ds)
     ∙ omega arith
-
-pub departuresBytes-bytes : (n : ℕ) (ds : List (Option Cell)) → bytes? (departuresBytes n ds) ≡ true
-unfolding departuresBytes bytes? all?
-departuresBytes-bytes zero ds = refl
-departuresBytes-bytes (suc n) [] =
-    bytes?-append (departureBytes none) (departuresBytes n []) (departureBytes-bytes none) (departuresBytes-bytes n [])
-departuresBytes-bytes (suc n) (d ∷ ds) =
-    bytes?-append (departureBytes d) (departuresBytes n ds) (departureBytes-bytes d) (departuresBytes-bytes n ds)
 
 pub departuresIn-departuresBytes : (n : ℕ) (ds : List (Option Cell)) (bs : List ℕ)
     → all? departureFits ds ≡ true → length ds ≤ n → departuresIn (length ds) (departuresBytes n ds ++ bs) ≡ ds
@@ -135,10 +122,6 @@ departuresIn-all (suc n) (d ∷ ds) k bs h e =
 pub length-answerBytes : (a : Answer) → length (answerBytes a) ≡ answerSize
 unfolding answerBytes
 length-answerBytes a = simp (length-append, length-bytesOf, length-departuresBytes)
-
-pub answerBytes-bytes : (a : Answer) → bytes? (answerBytes a) ≡ true
-unfolding answerBytes
-answerBytes-bytes a = search (bytes?-append, bytesOf-bytes, departuresBytes-bytes)
 
 -- the departures, then the proposals of both phases, then what follows
 answer-parts : (a : Answer) (bs : List ℕ)

@@ -1,7 +1,7 @@
 -- Laws of the arrivals as bytes: a record and its 20 bytes are each other's, and so are the records of a slot and the
 -- bytes that it is lent.
 use Prim.Native.Nat.{ℕ, zero, suc, _+_, _*_, _/_, _%_, _≤_}
-use mathlib.Core.Bool.{Bool, true, false, _&&_}
+use mathlib.Core.Bool.{Bool, true, false}
 use mathlib.Core.Path.{_≡_, refl, sym, _∙_, ap, ap₂}
 use mathlib.Core.List.{List, [], _∷_, _++_}
 use mathlib.Core.Option.{none, some, Option·some-injective, Option·some-ne-none}
@@ -17,7 +17,7 @@ use Rattle.cell.specs.Cell.{arrivalFits}
 use Rattle.cell.specs.Limits.{fits32}
 use Rattle.layout.specs.Number.{bytesOf, numberAt, word}
 use Rattle.layout.specs.Arrivals.{arrivalSize, arrivalBytes, arrivalOf, arrivalsBytes, arrivalsOf, recordsOf}
-use Rattle.layout.proofs.Number.{bytes?, bytes?-append, bytes?-take, bytes?-drop, length-bytesOf, bytesOf-bytes}
+use Rattle.layout.proofs.Number.{bytes?, bytes?-take, bytes?-drop, length-bytesOf}
 use Rattle.layout.proofs.Number.{numberOf-word, bytesOf-at, bytesOf-last, word-fits}
 
 ------------------------------------------------------------------------
@@ -26,10 +26,6 @@ use Rattle.layout.proofs.Number.{numberOf-word, bytesOf-at, bytesOf-las
 pub length-arrivalBytes : (a : Arrival) → length (arrivalBytes a) ≡ arrivalSize
 unfolding arrivalBytes
 length-arrivalBytes a = simp (length-append, length-bytesOf)
-
-pub arrivalBytes-bytes : (a : Arrival) → bytes? (arrivalBytes a) ≡ true
-unfolding arrivalBytes
-arrivalBytes-bytes a = search (bytes?-append, bytesOf-bytes) depth 9
 
 pub arrivalOf-arrivalBytes : (a : Arrival) → arrivalFits a ≡ true → arrivalOf (arrivalBytes a) ≡ a
 unfolding arrivalFits arrivalBytes arrivalOf word numberAt bytesOf
@@ -82,12 +78,6 @@ length-arrivalsBytes (a ∷ rs) =
     length-append (arrivalBytes a) (arrivalsBytes rs)
     ∙ ap₂ _+_ (length-arrivalBytes a) (length-arrivalsBytes rs)
     ∙ omega arith
-
-pub arrivalsBytes-bytes : (rs : List Arrival) → bytes? (arrivalsBytes rs) ≡ true
-unfolding arrivalsBytes bytes? all?
-arrivalsBytes-bytes [] = refl
-arrivalsBytes-bytes (a ∷ rs) =
-    bytes?-append (arrivalBytes a) (arrivalsBytes rs) (arrivalBytes-bytes a) (arrivalsBytes-bytes rs)
 
 pub arrivalsOf-arrivalsBytes : (rs : List Arrival) → all? arrivalFits rs ≡ true
     → arrivalsOf (length rs) (arrivalsBytes rs) ≡ rs

@@ -8,7 +8,7 @@ use native.Mathlib.Omega.{arith}
 use borrow.Author.Tests.{lt-ltb, le-ltb, ne-eqb}
 use lib.Dec.{lit≤}
 use lib.ListN.{length, take, drop, length-append, length-drop}
-use lib.Seq.{take-append-seam, drop-append-seam}
+use lib.Seq.{take-append-seam}
 use Rattle.cell.specs.declared.Arrival.{Arrival}
 use Rattle.cell.specs.declared.Refusal.{Refusal}
 use Rattle.cell.specs.declared.Refusal.the-variants.{BadSize, BrokenTable, ClockEnd, NoSuchPort, NoSuchFlow}
@@ -16,16 +16,14 @@ use Rattle.cell.specs.declared.Refusal.the-variants.{InputOrder, RankOrder, Ful
 use Rattle.cell.specs.Limits.{portsInRange}
 use Rattle.cell.specs.Refusal.{number}
 use Rattle.model.specs.State.{Switch, fresh}
-use Rattle.model.specs.Sound.{sound}
 use Rattle.model.specs.Checks.{Outcome, done, refused}
 use Rattle.model.specs.Crossbar.{Course, start, slot}
 use Rattle.layout.specs.Arrivals.{recordsOf}
 use Rattle.layout.specs.Answer.{answerSize}
-use Rattle.layout.specs.Table.{encode, decode, tableSize}
+use Rattle.layout.specs.Table.{decode, tableSize}
 use Rattle.layout.specs.TallyBytes.{tallySize}
-use Rattle.layout.specs.Host.{filled, startCall, checkCall, slotOf, slotCall, tableAfter, answerAfter}
+use Rattle.layout.specs.Host.{filled, startCall, checkCall, slotOf, slotCall, tableAfter}
 use Rattle.layout.specs.Host.{resultOf, tallyBytesAfter}
-use Rattle.layout.proofs.Table.{decode-encode}
 
 ------------------------------------------------------------------------
 -- a filled buffer: its first bytes, the others, its length
@@ -33,10 +31,6 @@ use Rattle.layout.proofs.Table.{decode-encode}
 pub take-filled : (bs buffer : List ℕ) → take (length bs) (filled bs buffer) ≡ bs
 unfolding filled
 take-filled bs buffer = take-append-seam bs (drop (length bs) buffer)
-
-pub drop-filled : (bs buffer : List ℕ) → drop (length bs) (filled bs buffer) ≡ drop (length bs) buffer
-unfolding filled
-drop-filled bs buffer = drop-append-seam bs (drop (length bs) buffer)
 
 pub length-filled : (bs buffer : List ℕ) → length bs ≤ length buffer → length (filled bs buffer) ≡ length buffer
 unfolding filled
@@ -72,9 +66,6 @@ pub checkCall-broken : (table : List ℕ) → decode table ≡ none → checkCal
 unfolding checkCall
 checkCall-broken table e = rw (e, checkCall)
 
-pub checkCall-encode : (s : Switch) → sound s ≡ true → checkCall (encode s) ≡ 0
-checkCall-encode s h = checkCall-table (encode s) s (decode-encode s h)
-
 ------------------------------------------------------------------------
 -- slot: 2, then 10, then what the slot itself finds
 
@@ -91,11 +82,6 @@ slotOf-tally (some s) none room tally h = refl
 slotOf-tally (some s) (some records) room tally h = rw (ne-eqb tally tallySize h, slotOf)
 
 module _ (table arrivals answer tally : List ℕ) where
-  -- 2: the table, the arrivals or the tally, whatever the rest
-  pub slotCall-table : decode table ≡ none → slotCall table arrivals answer tally ≡ refused BrokenTable 0
-  unfolding slotCall slotOf
-  slotCall-table e = rw e
-
   pub slotCall-arrivals : recordsOf arrivals ≡ none → slotCall table arrivals answer tally ≡ refused BrokenTable 0
   unfolding slotCall
   slotCall-arrivals e = rw e (slotOf-arrivals (decode table) (length answer) (length tally))
@@ -106,11 +92,6 @@ module _ (table arrivals answer tally : List ℕ) where
 
   module _ (s : Switch) (records : List Arrival) (t : decode table ≡ some s) (a : recordsOf arrivals ≡ some records)
       (c : length tally ≡ tallySize) where
-    -- 10: the buffer for the answer
-    pub slotCall-short : length answer < answerSize → slotCall table arrivals answer tally ≡ refused ShortBuffer 0
-    unfolding slotCall slotOf
-    slotCall-short h = rw (t, a, c, lt-ltb (length answer) answerSize h, slotOf)
-
     pub slotCall-slot : answerSize ≤ length answer → slotCall table arrivals answer tally ≡ slot s (some records)
     unfolding slotCall slotOf
     slotCall-slot h = rw (t, a, c, le-ltb (length answer) answerSize h, slotOf)
@@ -136,10 +117,6 @@ result-refused r place h = omega (arith, number-positive r)
 pub tableAfter-refused : (table : List ℕ) (r : Refusal) (place : ℕ) → tableAfter table (refused r place) ≡ table
 unfolding tableAfter
 tableAfter-refused table r place = refl
-
-pub answerAfter-refused : (answer : List ℕ) (r : Refusal) (place : ℕ) → answerAfter answer (refused r place) ≡ answer
-unfolding answerAfter
-answerAfter-refused answer r place = refl
 
 pub tallyBytesAfter-broken : (arrivals tally : List ℕ) (o : Outcome Course) → (length tally ≡ tallySize → ⊥)
     → tallyBytesAfter arrivals tally o ≡ tally

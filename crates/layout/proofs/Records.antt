@@ -173,11 +173,6 @@ pub all?-entriesBetween : (p : Entry → Bool) (bs : List ℕ) (from to : ℕ)
 unfolding entriesBetween
 all?-entriesBetween p bs from to = all?-map p (entryAt bs) (between from to)
 
-pub entriesBetween-each : (p : Entry → Bool) (bs : List ℕ) (from to k : ℕ) → all? p (entriesBetween bs from to) ≡ true
-    → from ≤ k → k < to → p (entryAt bs k) ≡ true
-entriesBetween-each p bs from to k h low high =
-    between-each (λ k. p (entryAt bs k)) from to k (sym (all?-entriesBetween p bs from to) ∙ h) low high
-
 ------------------------------------------------------------------------
 -- the entries of a state by their numbers
 

@@ -360,10 +360,6 @@ pub isTable-some : (bs : List ℕ) (s : Switch) → decode bs ≡ some s → isT
 unfolding isTable
 isTable-some bs s e = rw (e, isTable)
 
-pub isTable-none : (bs : List ℕ) → decode bs ≡ none → isTable bs ≡ false
-unfolding isTable
-isTable-none bs e = rw (e, isTable)
-
 pub is-table : (bs : List ℕ) → isTable bs ≡ true → IsTable bs
 unfolding isTable
 is-table bs h = go (decode bs) refl h

@@ -1,6 +1,6 @@
 -- The arrivals of a slot as bytes: records of 20 bytes, five numbers of 32 bits each. Any bits are a record.
 use Prim.Native.Nat.{ℕ, zero, suc, _/_, _%_}
-use mathlib.Core.Bool.{Bool, true, false}
+use mathlib.Core.Bool.{true, false}
 use mathlib.Core.List.{List, [], _∷_, _++_}
 use mathlib.Core.Option.{Option, none, some}
 use lib.Dec.{eqb}

@@ -1,14 +1,13 @@
 -- The three calls of the host on bytes: start, check and slot. Scope 6.1: for a slot the order
 -- is 2, 10, 3, then record by record 4 to 8; at start 1 comes before 10. Bytes of a buffer past its answer are kept.
 use Prim.Native.Nat.{ℕ, _+_, _*_}
-use mathlib.Core.Bool.{Bool, true, false}
+use mathlib.Core.Bool.{true, false}
 use mathlib.Core.List.{List, _++_}
 use mathlib.Core.Option.{Option, none, some}
 use mathlib.Core.Path.{_≡_}
 use lib.Dec.{ltb, eqb}
 use lib.ListN.{length, drop}
 use Rattle.cell.specs.declared.Arrival.{Arrival}
-use Rattle.cell.specs.declared.Refusal.{Refusal}
 use Rattle.cell.specs.declared.Refusal.the-variants.{BrokenTable, ShortBuffer}
 use Rattle.cell.specs.Refusal.{number}
 use Rattle.model.specs.State.{Switch}

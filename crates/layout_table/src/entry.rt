@@ -6,7 +6,7 @@ use layout::CELLS;
 use layout::ENTRY_BYTES;
 use layout::HEADER_BYTES;
 ghost use mathlib.Core.Path.{_≡_};
-ghost use Prim.Native.Nat.{_+_, _*_, _%_, _<_, _≤_};
+ghost use Prim.Native.Nat.{_+_, _%_, _<_, _≤_};
 ghost use lib.ListN.{length, set};
 ghost use Rattle.cell.specs.Order.{key};
 ghost use Rattle.cell.specs.Limits.{portLimit};

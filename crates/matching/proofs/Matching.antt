@@ -1,11 +1,10 @@
 -- What is proved of the matching, for any two strict orders:
 --     matched-stable, matched-best      it is stable, and no stable matching is better for an input
 --     matched-any-order                 refusing in any other order ends at it
---     matched-never                     what a proposal made in any order is over is not matched
 --     matched-per-input, -per-output    at most one match of those that one order compares
 --     matched-keep, matched-nil         it is a part of the list, in the order of the list
 --     proposals-made                    each refused candidate and each match is proposed once
---     proposals-bound, proposals-matched
+--     proposals-bound                   there are no more proposals than candidates
 -- That the rounds end is settled-fixed, in Rounds.
 use Prim.Native.Nat.{ℕ, _+_, _≤_}
 use native.Mathlib.Omega.{arith}
@@ -17,14 +16,14 @@ use lib.ListN.{length}
 use Rattle.laws.specs.Lists.{keep, none?, count, pairwise}
 use Rattle.laws.specs.Order.{Strict}
 use Rattle.laws.proofs.Tests.{clash, or-l, or-r, or-cases, or-false}
-use Rattle.laws.proofs.Lists.{none?-clash, all?-i, mem-keep-passes}
+use Rattle.laws.proofs.Lists.{all?-i, mem-keep-passes}
 use Rattle.laws.proofs.Count.{count-keep, count-ext, count-or, count-all, count-le-length, length-keep}
 use Rattle.laws.proofs.Pairwise.{pairwise-keep, pairwise-mono, pairwise-le-one}
 use Rattle.matching.specs.Matching.{proposed, rounds, settled, matched, proposals}
 use Rattle.matching.specs.Stable.{Stable, BestForInputs, Refusing, AtRest}
 use Rattle.matching.proofs.Proposed.{proposed-nil, proposed-keeps, none?-proposed}
-use Rattle.matching.proofs.Refusing.{refusing-part, refusing-keep, refusing-proposed, stable-not-over}
-use Rattle.matching.proofs.Refusing.{stable-left, rest-stable, rest-best, rest-same}
+use Rattle.matching.proofs.Refusing.{refusing-keep, refusing-proposed}
+use Rattle.matching.proofs.Refusing.{rest-stable, rest-best, rest-same}
 use Rattle.matching.proofs.Rounds.{settled-refusing, settled-rest, settled-proposed}
 
 module _ {A : Type 0} (ahead over : A → A → Bool) where
@@ -77,19 +76,6 @@ module _ {A : Type 0} (ahead over : A → A → Bool) where
     unfolding matched
     matched-any-order {l} r rest =
         rest-same ahead over by-input by-output r rest (settled-refusing ahead over l) (settled-rest ahead over l)
-
-    -- a match is never refused
-    pub matched-left : {l l′ : List A} → Refusing ahead over l l′ → (c : A) → List·Memᴰ c (matched ahead over l)
-        → List·Memᴰ c l′
-    matched-left {l} r = stable-left ahead over by-output (matched-stable l) r
-
-    -- what a proposal is over is not matched
-    pub matched-never : {l l′ : List A} → Refusing ahead over l l′ → (c d : A) → List·Memᴰ c (proposed ahead over l′)
-        → over c d ≡ true → List·Memᴰ d (matched ahead over l) → ⊥
-    matched-never {l} {l′} r c d m t i =
-        none?-clash (λ e. over e d)
-        (stable-not-over ahead over by-output (matched-stable l) l′ (refusing-part ahead over r) (matched-left r) d i)
-        m t
 
     ------------------------------------------------------------------------
     -- at most one match
@@ -170,6 +156,3 @@ module _ {A : Type 0} (ahead over : A → A → Bool) where
             go : (c : A) → List·Memᴰ c k ⊎ (first c ≡ true) → (left c || made c) ≡ true
             go c (inl i) = or-l (left c) (made c) (mem-keep-passes left l (rw (part .1) at i))
             go c (inr f) = or-r (left c) (made c) (none?-proposed ahead over by-input k c ∙ f)
-
-    pub proposals-matched : (l : List A) → length (matched ahead over l) ≤ proposals ahead over l
-    proposals-matched l = omega (arith, proposals-made l, settled-length l)

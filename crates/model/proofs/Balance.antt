@@ -1,7 +1,7 @@
 -- Cells in less cells out is the number waiting, for every list of slot calls from a fresh switch and a tally of zeros
 -- that did not reach a top (`balance`). In one slot: those waiting after it and those sent are those waiting before it
 -- and those that came (`slot-balance`), because each output sends at most one cell.
-use Prim.Native.Nat.{ℕ, zero, suc, _+_, _≤_, _<_, min}
+use Prim.Native.Nat.{ℕ, zero, suc, _+_, _≤_, _<_}
 use native.Mathlib.Omega.{arith}
 use mathlib.Core.Bool.{Bool, true, false, not, _&&_, _||_}
 use mathlib.Core.List.{List, [], _∷_, _++_, map, List·Memᴰ, List·Memᴰ·head, List·Memᴰ·tail}
@@ -14,13 +14,12 @@ use borrow.Author.Tests.{eqb-true, eqb-false, eq-eqb, ne-eqb}
 use Rattle.laws.specs.Lists.{keep, some?, none?, all?, count, pairwise, first?, numbersFrom, upTo}
 use Rattle.laws.proofs.Count.{count-nil, count-pass, count-fail, count-ext, count-or, count-map, count-zero, count-all, count-not}
 use Rattle.laws.proofs.Count.{length-keep}
-use Rattle.laws.proofs.Least.{least-keeps, mem-least-in, mem-least-first}
-use Rattle.laws.proofs.Lists.{keep-nil, keep-pass, keep-fail, keep-keep, keep-mem, mem-keep-in, mem-keep-passes}
+use Rattle.laws.proofs.Least.{least-keeps}
+use Rattle.laws.proofs.Lists.{keep-nil, keep-pass, keep-fail, keep-keep, keep-mem, mem-keep-passes}
 use Rattle.laws.proofs.Lists.{some?-nil, some?-cons, some?-e, none?-i, all?-i, all?-cons}
 use Rattle.laws.proofs.Pairwise.{pairwise-head, pairwise-tail, pairwise-keep, pairwise-mono}
-use Rattle.laws.proofs.Tests.{either, clash, same, and-l, and-r, not-i, not-e, by-fail}
+use Rattle.laws.proofs.Tests.{clash, same, and-l, and-r, not-i, not-e, by-fail}
 use Rattle.cell.specs.declared.Arrival.{Arrival}
-use Rattle.cell.specs.declared.Cell.{Cell}
 use Rattle.cell.specs.Cell.{accepted, arrivalFits}
 use Rattle.cell.specs.Limits.{portsInRange, fits32, clockEnd}
 use Rattle.model.specs.State.{Entry, Switch, fresh, cells, isBuffered}

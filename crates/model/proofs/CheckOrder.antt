@@ -23,7 +23,6 @@ use Rattle.cell.specs.Refusal.{number}
 use Rattle.model.specs.Checks.{Outcome, refused, noSuchPort, noSuchFlow, outOfTurn, fallingRank, full, fault}
 use Rattle.model.specs.Checks.{done, faultFrom, firstFault}
 use Rattle.model.specs.Crossbar.{Course, run, slot}
-use Rattle.model.specs.Pifo.{Pifo, Sent, slotPifo}
 use Rattle.model.specs.State.{Switch, cells}
 
 pub slot-broken : (s : Switch) → slot s none ≡ refused BrokenTable 0
@@ -33,11 +32,6 @@ slot-broken s = refl
 pub slot-clock-end : (s : Switch) (records : List Arrival) → s .clock ≡ 4294967295 → slot s (some records) ≡ refused ClockEnd 0
 unfolding slot
 slot-clock-end s records h = rw (eq-eqb (s .clock) 4294967295 h, slot)
-
-pub pifo-clock-end : (q : Pifo) (records : List Arrival) → q .clock ≡ 4294967295
-    → slotPifo q (some records) ≡ refused ClockEnd 0
-unfolding slotPifo
-pifo-clock-end q records h = rw (eq-eqb (q .clock) 4294967295 h, slotPifo)
 
 module _ (ports : ℕ) (waiting : List Cell) (before : Option Cell) (c : Cell) where
   pub fault-port : noSuchPort ports c ≡ true → fault ports waiting before c ≡ some NoSuchPort

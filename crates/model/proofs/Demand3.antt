@@ -7,21 +7,19 @@
 -- That refusal 2 never comes where the arrivals are whole records is `slot-not-broken` (CheckOrder); that cells in less
 -- cells out is the number waiting is `balance` (Balance).
 use Prim.Native.Nat.{ℕ}
-use mathlib.Core.Bool.{Bool, true, false}
-use mathlib.Core.List.{List, [], _∷_, map}
-use mathlib.Core.Option.{Option, none, some}
-use mathlib.Core.Path.{_≡_, refl, sym, subst}
+use mathlib.Core.Bool.{true, false}
+use mathlib.Core.List.{List, [], _∷_}
+use mathlib.Core.Option.{Option, none}
+use mathlib.Core.Path.{_≡_, refl, subst}
 use lib.Dec.{eqb}
 use Rattle.laws.specs.Lists.{all?}
 use Rattle.laws.proofs.Lists.{all?-cons}
 use Rattle.laws.proofs.Tests.{and-l, and-r}
 use Rattle.cell.specs.declared.Arrival.{Arrival}
-use Rattle.cell.specs.declared.Cell.{Cell}
-use Rattle.cell.specs.declared.Refusal.{Refusal}
-use Rattle.cell.specs.Cell.{accepted, arrivalFits}
+use Rattle.cell.specs.Cell.{arrivalFits}
 use Rattle.cell.specs.Limits.{portsInRange, fits32, clockEnd}
 use Rattle.model.specs.State.{Switch, fresh, cells}
-use Rattle.model.specs.Checks.{Outcome, done, refused, refusal, firstFault}
+use Rattle.model.specs.Checks.{Outcome, refused, refusal, firstFault}
 use Rattle.model.specs.Crossbar.{Course, answerOf, refusedAnswer, slotAnswer, run, slot, switchAfter}
 use Rattle.model.specs.Pifo.{Pifo, freshPifo, Sent, sentDepartures, runPifo, slotPifo, pifoAfter}
 use Rattle.model.specs.Phase.{waiting}

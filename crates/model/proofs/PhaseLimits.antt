@@ -3,30 +3,27 @@
 --     phase-brought      at most one cell enters the buffer of an output
 --     sent-crosspoint    no crosspoint holds two cells once the scheduled cells are sent
 --     phase-crosspoint   nor at the end of the phase
---     phase-orderly      the cells are orderly afterwards
 --     apart-e            what it is that two cells do not share a crosspoint
 use Prim.Native.Nat.{ℕ, _≤_}
 use mathlib.Core.Bool.{Bool, true, not, _&&_}
-use mathlib.Core.Path.{_≡_, sym, _∙_, ap, ap₂}
+use mathlib.Core.Path.{_≡_, sym, _∙_, ap}
 use mathlib.Core.Logic.{_⊎_, inl, inr}
-use mathlib.Core.List.{List, map, List·Memᴰ, Memᴰ·of-map}
+use mathlib.Core.List.{List, map, List·Memᴰ}
 use borrow.Author.Tests.{eqb-true, eqb-false}
 use lib.Dec.{eqb}
 use Rattle.laws.specs.Lists.{count}
 use Rattle.laws.proofs.Tests.{clash, and-i, and-l, and-r, not-e, not-i, by-fail}
 use Rattle.laws.proofs.Pairwise.{pairwise-e, pairwise-mono, pairwise-map, pairwise-le-one}
-use Rattle.cell.specs.Flow.{sameFlow}
-use Rattle.cell.specs.Order.{over}
 use Rattle.model.specs.State.{Place, isListed, isCrossed, isBuffered}
 use Rattle.model.specs.Phase.{Waiting, sameInput, sameOutput, sameCrosspoint, ahead, beats, phase, placeSent}
 use Rattle.model.specs.Phase.{placeAfter}
-use Rattle.model.specs.CodeSlackness.{Orderly, otherNumber, otherArrival, relocate, relocated, OneCrosspoint, apart}
+use Rattle.model.specs.CodeSlackness.{Orderly, otherNumber, relocate, relocated, OneCrosspoint, apart}
 use Rattle.model.proofs.WaitingOrder.{input-i, output-i, crosspoint-i, crosspoint-input, crosspoint-output}
 use Rattle.model.proofs.WaitingOrder.{ahead-total, beats-total}
 use Rattle.model.proofs.PhaseFacts.{crosspoints-i, scheduled-empty, scheduled-one, sent-scheduled, sent-free}
 use Rattle.model.proofs.PhaseFacts.{pulled-free, pulled-one}
 use Rattle.model.proofs.PhaseMatching.{straight-matched, sent-all, pulled-all, match-input, match-output}
-use Rattle.model.proofs.PhasePlaces.{listed-forward, sent-forward, crossed-forward, taken-by, brought-by}
+use Rattle.model.proofs.PhasePlaces.{sent-forward, crossed-forward, taken-by, brought-by}
 use Rattle.model.proofs.Numbering.{putAt}
 
 -- what it is that two cells do not share a crosspoint
@@ -218,29 +215,3 @@ module _ (all : List Waiting) (o : Orderly all) where
   pub phase-crosspoint : OneCrosspoint all → OneCrosspoint (relocated (phase all) all)
   unfolding relocated relocate
   phase-crosspoint one = crosspoint-placed one (placeAfter (phase all)) (λ e m. crossed-forward all o m)
-
-  ------------------------------------------------------------------------
-  -- order
-
-  pub phase-orderly : Orderly (relocated (phase all) all)
-  unfolding relocated relocate otherNumber otherArrival ahead sameInput
-  phase-orderly = record {
-    numbers = pairwise-map otherNumber there all ∙ o .numbers;
-    arrivals = pairwise-map otherArrival there all ∙ o .arrivals;
-    flows = λ e f m k h j s a. go h j s a (Memᴰ·of-map there all m) (Memᴰ·of-map there all k);
-  }
-    where
-      there : Waiting → Waiting
-      there e = relocate (phase all) e
-
-      go : {e f : Waiting} → isListed (e .place) ≡ true → isListed (f .place) ≡ true
-          → sameFlow (e .cell) (f .cell) ≡ true → ahead e f ≡ true
-          → (x : Waiting) × List·Memᴰ x all × (there x ≡ e) → (y : Waiting) × List·Memᴰ y all × (there y ≡ f)
-          → over (e .cell) (f .cell) ≡ true
-      go h j s a v w =
-          ap₂ (λ x y. over (x .cell) (y .cell)) (sym (v .2)) (sym (w .2))
-          ∙ o .flows (v .0) (w .0) (v .1) (w .1)
-          (listed-forward all o (v .1) (ap (λ x. isListed (x .place)) (v .2) ∙ h))
-          (listed-forward all o (w .1) (ap (λ x. isListed (x .place)) (w .2) ∙ j))
-          (ap₂ (λ x y. sameFlow (x .cell) (y .cell)) (v .2) (w .2) ∙ s)
-          (ap₂ ahead (v .2) (w .2) ∙ a)

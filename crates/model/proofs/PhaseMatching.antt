@@ -1,6 +1,6 @@
 -- Rule 4 of a phase, the matching, and the straight cells of rule 5.
 --     candidate-       what is a candidate; candidates-few, how many there are
---     phase-stable, phase-best, phase-proposals   what the laws of the matching say of it
+--     phase-stable, phase-proposals   what the laws of the matching say of it
 --     head-all, ..     the members of each step are waiting cells
 --     match-           a match is urgent or scheduled, and an input and an output have one
 --     straight-        a straight cell is an urgent match
@@ -15,8 +15,8 @@ use Rattle.laws.specs.Lists.{keep, none?}
 use Rattle.laws.proofs.Tests.{clash, and-i, and-l, or-l, or-r, or-cases}
 use Rattle.laws.proofs.Count.{length-keep, count-le-length}
 use Rattle.laws.proofs.Lists.{keep-mem, mem-keep-in, mem-keep-passes}
-use Rattle.matching.specs.Stable.{Stable, BestForInputs}
-use Rattle.matching.proofs.Matching.{matched-stable, matched-best, proposals-bound}
+use Rattle.matching.specs.Stable.{Stable}
+use Rattle.matching.proofs.Matching.{matched-stable, proposals-bound}
 use Rattle.model.specs.State.{isListed}
 use Rattle.model.specs.Phase.{Waiting, ahead, beats, among, phase, takesPart, candidates, straight}
 use Rattle.model.specs.Phase.{lists, crosspoints}
@@ -113,10 +113,6 @@ module _ (all : List Waiting) where
   pub phase-stable : Stable ahead beats (phase all .candidates) (phase all .matched)
   unfolding phase
   phase-stable = matched-stable ahead beats ahead-strict beats-strict _
-
-  pub phase-best : BestForInputs ahead beats (phase all .candidates) (phase all .matched)
-  unfolding phase
-  phase-best = matched-best ahead beats ahead-strict beats-strict _
 
   pub phase-proposals : phase all .proposals ≤ length (phase all .candidates)
   unfolding phase

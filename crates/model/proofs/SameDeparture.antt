@@ -12,7 +12,7 @@ use mathlib.Core.Option.{Option·map}
 use borrow.Author.Tests.{eqb-true, eqb-false, eq-eqb}
 use lib.Dec.{eqb}
 use Rattle.laws.specs.Lists.{keep, some?, none?, least, pairwise, first?, upTo}
-use Rattle.laws.proofs.Tests.{clash, by-pass, by-fail, same, and-i, and-r, not-e, and-false-cases}
+use Rattle.laws.proofs.Tests.{clash, by-pass, by-fail, same, and-i, and-r, not-e}
 use Rattle.laws.proofs.Lists.{Passing, some?-i, some?-e, some?-map, none?-not-some?, none?-within, none?-i, none?-clash}
 use Rattle.laws.proofs.Lists.{some?-ext, keep-mem, mem-keep-in, mem-keep-passes, keep-ext, keep-keep, keep-map}
 use Rattle.laws.proofs.Least.{least-keeps, least-mem, mem-least-in, mem-least-none, mem-least-first, least-map, least-ext}

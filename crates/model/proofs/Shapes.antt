@@ -1,7 +1,7 @@
 -- Sections are known by their lengths and their waiting cells: two lists of sections of one shape with the same waiting
 -- cells are equal.
 use Prim.Native.Nat.{ℕ, _+_, _*_}
-use mathlib.Core.List.{List, [], _∷_, _++_, map, flatten, cons-eq-cons, head-eq-of-cons-eq, tail-eq-of-cons-eq, nil≢cons, cons≢nil}
+use mathlib.Core.List.{List, [], _∷_, _++_, map, flatten, head-eq-of-cons-eq, tail-eq-of-cons-eq, nil≢cons, cons≢nil}
 use mathlib.Core.Path.{_≡_, refl, sym, ap, ap₂, _∙_}
 use lib.ListN.{length, take, drop, length-map}
 use lib.Seq.{take-at, drop-at}

@@ -6,13 +6,13 @@ use Prim.Native.Nat.{ℕ, _+_, _*_, _≤_}
 use native.Mathlib.Omega.{arith}
 use mathlib.Core.Bool.{Bool, true, false, not, _&&_, and-comm}
 use mathlib.Core.Path.{_≡_, refl, sym, _∙_, ap}
-use mathlib.Core.Logic.{_⊎_, inl, inr, _≢_}
+use mathlib.Core.Logic.{_⊎_, inl, inr}
 use mathlib.Core.List.{List, [], _∷_, map, flatten, List·Memᴰ, List·Memᴰ·head, List·Memᴰ·tail, Memᴰ·cast}
-use borrow.Author.Tests.{eqb-true, eqb-false}
+use borrow.Author.Tests.{eqb-true}
 use lib.Dec.{eqb}
 use lib.ListN.{getD}
 use Rattle.laws.specs.Lists.{keep, count, pairwise}
-use Rattle.laws.proofs.Tests.{clash, by-fail, and-l, and-r, and-false-cases, not-i, not-e}
+use Rattle.laws.proofs.Tests.{clash, by-fail, and-l, and-r, not-i}
 use Rattle.laws.proofs.Lists.{Passing, some?-e, keep-mem, mem-keep-in, mem-keep-passes, keep-nil, keep-pass, keep-fail}
 use Rattle.laws.proofs.Count.{count-map, count-keep, count-ext, count-split, count-find}
 use Rattle.laws.proofs.Least.{mem-least-in, mem-least-first}

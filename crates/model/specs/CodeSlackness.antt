@@ -13,7 +13,7 @@ use lib.Dec.{eqb}
 use Rattle.laws.specs.Lists.{count, pairwise}
 use Rattle.cell.specs.Flow.{sameFlow}
 use Rattle.cell.specs.Order.{over}
-use Rattle.model.specs.State.{Entry, isListed, isCrossed, isBuffered}
+use Rattle.model.specs.State.{isListed, isCrossed, isBuffered}
 use Rattle.model.specs.Phase.{Waiting, ahead, beats, sameCrosspoint, Phase, placeAfter}
 
 unfoldable pub thread : List Waiting → Waiting → ℕ

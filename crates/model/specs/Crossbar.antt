@@ -1,6 +1,6 @@
 -- Scope 3, one slot: the crossbar's slot, with its refusals.
 use Prim.Native.Nat.{ℕ, _+_}
-use mathlib.Core.Bool.{Bool, true, false, cond, not, _&&_}
+use mathlib.Core.Bool.{Bool, true, false, not, _&&_}
 use mathlib.Core.List.{List, [], _∷_, map}
 use mathlib.Core.Option.{Option, none, some, Option·map}
 use lib.Dec.{eqb}
@@ -11,7 +11,7 @@ use Rattle.cell.specs.declared.Refusal.the-variants.{BrokenTable, ClockEnd, Bad
 use Rattle.cell.specs.Cell.{accepted}
 use Rattle.cell.specs.Flow.{sameFlow}
 use Rattle.cell.specs.Limits.{clockEnd, portsInRange}
-use Rattle.model.specs.State.{Place, listed, Entry, Switch, fresh, cells, isListed, isBuffered}
+use Rattle.model.specs.State.{listed, Entry, Switch, fresh, cells, isListed, isBuffered}
 use Rattle.model.specs.Checks.{Outcome, done, refused, noDepartures, firstFault}
 use Rattle.model.specs.Phase.{Waiting, numbered, waiting, beats, among, Phase, phase, moved}
 

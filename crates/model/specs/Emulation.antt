@@ -1,8 +1,8 @@
 -- Demand 3: for every list of slot calls from a fresh switch the crossbar answers as the PIFO switch does. One claim
 -- about the whole list, refused calls included; each call gets the switch that the call before returned, or left in
 -- refusing. The tally takes no part in a slot's answer.
-use Prim.Native.Nat.{ℕ, _≤_, _<_}
-use mathlib.Core.Bool.{Bool, true, false, _&&_}
+use Prim.Native.Nat.{ℕ, _≤_}
+use mathlib.Core.Bool.{Bool, true, _&&_}
 use mathlib.Core.List.{List, [], _∷_, map, flatten}
 use mathlib.Core.Option.{Option, none, some}
 use mathlib.Core.Path.{_≡_}

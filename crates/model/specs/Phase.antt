@@ -5,8 +5,8 @@
 --     heads, scheduled, urgent, candidates, matched   rules 1 to 4
 --     straight, sent       rule 5
 --     pulled               rule 6
-use Prim.Native.Nat.{ℕ, zero, suc, _+_, _*_}
-use mathlib.Core.Bool.{Bool, true, false, cond, not, _&&_, _||_}
+use Prim.Native.Nat.{ℕ, _+_, _*_}
+use mathlib.Core.Bool.{Bool, cond, not, _&&_, _||_}
 use mathlib.Core.List.{List, [], _∷_, _++_, map, flatten}
 use lib.Dec.{ltb, eqb}
 use Rattle.laws.specs.Lists.{keep, some?, none?, all?, least}

@@ -2,7 +2,7 @@
 --     rest                       what is still to be written, by where the player stands and all the text that is left
 --     turn-rest                  a turn writes the next part of that, wherever the text that is there is cut
 --     turn-stuck                 a turn that writes nothing changes nothing,
---     turn-waits, turn-last      and then the player is over, or it waits for more text and more is to come
+--     turn-waits                 and then the player is over, or it waits for more text and more is to come
 --     Plays                      a run of the player over pieces, its turns and the pieces in any order
 --     whatever-pieces            whatever the pieces and the run, what is written is the player's text
 --     whatever-end               and by its last lines the trace was played to its end or turned back
@@ -334,14 +334,6 @@ module _ (last : Bool) (s : Standing) (t : List ℕ) (h : turn last s t .written
       go : Comes last s t (turn last s t) → Over s ⊎ ((last ≡ false) × (length t < enough))
       go (still _ _ _ w) = w
       go (writes n _) = absurd (n h)
-
--- where the last of the text is there, a player that is not over writes something
-pub turn-last : (s : Standing) (t : List ℕ) → (Over s → ⊥) → turn true s t .written ≢ []
-turn-last s t n h = go (turn-waits true s t h)
-  where
-    go : Over s ⊎ ((true ≡ false) × (length t < enough)) → ⊥
-    go (inl e) = n e
-    go (inr w) = clash refl (w .0)
 
 -- any run
 

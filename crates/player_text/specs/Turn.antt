@@ -5,7 +5,6 @@ use Prim.Native.Nat.{ℕ, zero, suc, _+_}
 use mathlib.Core.Bool.{Bool}
 use mathlib.Core.List.{List, [], _∷_, _++_}
 use mathlib.Core.Option.{some}
-use Rattle.cell.specs.declared.Refusal.{Refusal}
 use Rattle.cell.specs.declared.Refusal.the-variants.{BadLine}
 use Rattle.model.specs.State.{Switch, fresh}
 use Rattle.model.specs.Checks.{Outcome, done, refused}

@@ -3,7 +3,7 @@
 --     next-more, -end, -bad, -stopped, -ran       at a block or the end
 --     rests                                       behind the end
 --     block-size                                  how many arrivals and lines a block has
-use Prim.Native.Nat.{ℕ, _+_, _*_, _-_, _≤_}
+use Prim.Native.Nat.{ℕ, _+_, _*_, _≤_}
 use native.Mathlib.Omega.{arith}
 use mathlib.Core.Bool.{Bool, true, false}
 use mathlib.Core.List.{List, [], _∷_, _++_, append-nil}
@@ -15,7 +15,6 @@ use Rattle.cell.specs.declared.Arrival.{Arrival}
 use Rattle.cell.specs.declared.Refusal.{Refusal}
 use Rattle.cell.specs.declared.Refusal.the-variants.{BadLine}
 use Rattle.cell.specs.Cell.{arrivalFits}
-use Rattle.cell.specs.Limits.{fits32, portsInRange}
 use Rattle.laws.specs.Lists.{all?}
 use Rattle.model.specs.Checks.{Outcome}
 use Rattle.model.specs.Crossbar.{Course, slot}
@@ -30,11 +29,11 @@ use Rattle.trace.specs.declared.Opening.the-variants.{Open, Refused, Short}
 use Rattle.trace.specs.Flat.{arrivalAt, arrivalsFrom}
 use Rattle.trace.specs.Line.{line}
 use Rattle.trace.specs.Piece.{known, more, decided, nextIn, headerIn, numbersOf, answerOf, openingOf}
-use Rattle.trace.specs.Reader.{Cursor, Read, got, badAt, number, next}
-use Rattle.trace.specs.Reader.{slotAhead, opened, header}
-use Rattle.trace.proofs.Blocks.{number-exact, blockFits-e, next-exact}
+use Rattle.trace.specs.Reader.{number, next}
+use Rattle.trace.specs.Reader.{slotAhead, header}
+use Rattle.trace.proofs.Blocks.{blockFits-e, next-exact}
 use Rattle.trace.proofs.Flat.{length-numbersOf}
-use Rattle.trace.proofs.RoundTrip.{header-bad-ports, header-bad-size, header-bad-first, header-opened, header-exact}
+use Rattle.trace.proofs.RoundTrip.{header-exact}
 use Rattle.trace.specs.Lines.{departuresText, refusalText}
 use Rattle.trace_reader.specs.Reading.{from, numbersAfter, stored}
 use Rattle.trace_reader.proofs.Answered.{opening-open-e, opening-refused-e, opening-short-e}

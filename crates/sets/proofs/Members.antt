@@ -146,10 +146,6 @@ module _ (set k j : ℕ) (position : j < positions) where
   unfolding withoutOne
   has-withoutOne = has-setOf (λ j. has set j && not (eqb j k)) j position
 
-  pub has-minus : has (minus set k) j ≡ (has set j && not (has k j))
-  unfolding minus
-  has-minus = has-setOf (λ j. has set j && not (has k j)) j position
-
   pub has-below : has (below set k) j ≡ (has set j && ltb j k)
   unfolding below
   has-below = has-setOf (λ j. has set j && ltb j k) j position

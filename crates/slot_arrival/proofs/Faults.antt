@@ -32,7 +32,6 @@ use Rattle.cell.specs.Limits.{sectionRoom, flowLimit, inputFull}
 use Rattle.cell.proofs.Flow.{flow-input}
 use Rattle.model.specs.State.{Entry, cells}
 use Rattle.model.specs.Checks.{noSuchPort, noSuchFlow, outOfTurn, fallingRank, full, fault}
-use Rattle.model.proofs.Admitted.{faultless}
 pub use Rattle.model.proofs.Admitted.{port-input}
 use Rattle.model.proofs.Bags.{flatten-mem, mem-flatten}
 use Rattle.model.proofs.Sections.{count-flatten-one}

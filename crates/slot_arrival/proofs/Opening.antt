@@ -4,7 +4,7 @@
 --     sets-kept               two tables with the same sections have the same sets
 --     sets-entered            where a cell has entered, the sets of its input are opened at its position
 --     sets-arrived            the same by the record of the cell
-use Prim.Native.Nat.{ℕ, suc, _+_, _*_, _-_, _/_, _^_, _≤_, _<_}
+use Prim.Native.Nat.{ℕ, suc, _+_, _*_, _-_, _^_, _≤_, _<_}
 use mathlib.Core.Bool.{Bool, true, false, cond}
 use mathlib.Core.Path.{_≡_, refl, sym, _∙_, ap, ap₂, subst}
 use mathlib.Core.Logic.{_⊎_, inl, inr, _≢_}

@@ -1,9 +1,8 @@
 -- When bytes are a table: exactly if the header is right and every section is.
 use Prim.Native.Nat.{ℕ, _+_, _≤_, _<_}
-use mathlib.Core.Bool.{true, false, cond, false≢true}
+use mathlib.Core.Bool.{true}
 use mathlib.Core.Path.{_≡_, refl, sym, _∙_, ap, ap₂}
 use mathlib.Core.List.{List, _++_, map}
-use mathlib.Core.Option.{Option, none, some}
 use native.Mathlib.Omega.{arith}
 use borrow.Author.Tests.{leb-true, eq-eqb}
 use lib.Dec.{leb, lit≤}
@@ -17,14 +16,12 @@ use Rattle.cell.specs.Limits.{sectionRoom, portLimit, fits32, portsInRange}
 use Rattle.model.specs.State.{Switch}
 use Rattle.model.specs.Sound.{sound, soundSections}
 use Rattle.layout.specs.Number.{bytesOf, numberOf, numberAt, word}
-use Rattle.layout.specs.Table.{layoutNumber, headerSize, tableSize, countsBytes, sectionsBytes, encode, stateOf, isTable, decode}
-use Rattle.layout.specs.Host.{checkCall}
+use Rattle.layout.specs.Table.{layoutNumber, headerSize, tableSize, countsBytes, sectionsBytes, encode, stateOf, isTable}
 use Rattle.layout.specs.Entry.{countIn}
 use Rattle.layout.specs.Code.{sectionAt}
 use Rattle.slot_check.specs.Code.{isSection}
 use Rattle.layout.proofs.Number.{bytes?, word-here, word-fits, below-fits32, bytesOf-at}
-use Rattle.layout.proofs.Table.{stateOf-encode, decode-some-iff, decode-sound, encode-decode, length-encode, decode-state, isTable-some, isTable-none, is-table, encode-counts, encode-sections, length-countsBytes, sound-sections}
-use Rattle.layout.proofs.Host.{checkCall-table, checkCall-broken}
+use Rattle.layout.proofs.Table.{decode-some-iff, decode-sound, encode-decode, length-encode, isTable-some, is-table, encode-counts, encode-sections, length-countsBytes, sound-sections}
 use Rattle.layout.proofs.Records.{between-mem, between-each, stateOf-sections, stateOf-few}
 use Rattle.slot_check.proofs.Parts.{Section, roomOf-le, isSection-i, isSection-e, counts-i, sections-i, sounds-i, rows-e}
 
@@ -174,10 +171,3 @@ isTable-e bs h =
 
 ------------------------------------------------------------------------
 -- check
-
-pub checkCall-isTable : (bs : List ℕ) → checkCall bs ≡ cond (isTable bs) 0 2
-checkCall-isTable bs = go (decode bs) refl
-  where
-    go : (o : Option Switch) → decode bs ≡ o → checkCall bs ≡ cond (isTable bs) 0 2
-    go none e = checkCall-broken bs e ∙ ap (λ t. cond t 0 2) (sym (isTable-none bs e))
-    go (some s) e = checkCall-table bs s e ∙ ap (λ t. cond t 0 2) (sym (isTable-some bs s e))

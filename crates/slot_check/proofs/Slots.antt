@@ -3,7 +3,7 @@
 --     unshared-       the walk over the positions
 --     met-            the walk over the entries
 use Prim.Native.Nat.{ℕ, _+_, _-_, _%_, _^_, _≤_, _<_}
-use mathlib.Core.Bool.{Bool, true, false, not, _&&_, _||_}
+use mathlib.Core.Bool.{true, false, not, _||_}
 use mathlib.Core.Path.{_≡_, refl, sym, _∙_, ap, ap₂, subst}
 use mathlib.Core.Logic.{_⊎_, inl, inr}
 use mathlib.Core.List.{List, [], _∷_, _++_, map, append-nil, List·Memᴰ, List·Memᴰ·head, Memᴰ·map, List·Memᴰ·not-nil, List·Memᴰ·append-cases, List·Memᴰ·eq-of-singleton}
@@ -13,11 +13,11 @@ use lib.Dec.{eqb}
 use lib.ListN.{length, getD, set, replicate, length-set, getD-replicate}
 use lib.Seq.{getD-set-same, getD-set-other}
 use Rattle.laws.specs.Lists.{keep, some?, all?, pairwise}
-use Rattle.laws.proofs.Tests.{either, clash, by-fail, by-pass, and-i, or-false, or-false-r}
+use Rattle.laws.proofs.Tests.{either, clash, by-fail, and-i}
 use Rattle.laws.proofs.Lists.{Passing, some?-nil, some?-cons, some?-append, some?-i, some?-e, all?-i, keep-nil, keep-pass, keep-fail, keep-append, keep-mem, mem-keep-in}
 use Rattle.laws.proofs.Pairwise.{pairwise-nil, pairwise-snoc, pairwise-split}
 use Rattle.sets.specs.Sets.{positions, members, firstOf}
-use Rattle.sets.proofs.Members.{Visited, visited-start, visited-next, visited-cons, visited-end, visited-member, members-none, members-with, members-in, in-members, withOne-lt}
+use Rattle.sets.proofs.Members.{Visited, visited-start, visited-next, visited-end, visited-member, members-none, members-with}
 use Rattle.sets.specs.Code.{withOne, restOf}
 use Rattle.cell.specs.Limits.{sectionRoom}
 use Rattle.model.specs.State.{Entry}

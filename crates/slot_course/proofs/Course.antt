@@ -3,9 +3,9 @@
 --     phased-none, phased-more, schedules    what the phases leave
 --     run-course                        a slot's course, from where its cells have arrived
 --     ran-table, ran-answer             what the departure makes of it
-use Prim.Native.Nat.{ℕ, zero, suc, _+_, _≤_, _<_}
+use Prim.Native.Nat.{ℕ, _+_, _≤_, _<_}
 use mathlib.Core.Bool.{true, false}
-use mathlib.Core.Path.{_≡_, refl, sym, _∙_, ap, ap₂, subst}
+use mathlib.Core.Path.{_≡_, refl, sym, _∙_, ap, ap₂}
 use mathlib.Core.List.{List, _++_}
 use mathlib.Core.Logic.{_⊎_, inl, inr, _≢_}
 use borrow.Author.Tests.{eqb-true, eqb-false}
@@ -16,7 +16,7 @@ use native.Mathlib.Omega.{arith}
 use native.Mathlib.Numerals.{add-one}
 use Rattle.laws.proofs.Tests.{either}
 use Rattle.model.specs.State.{Switch}
-use Rattle.model.specs.Phase.{phase, waiting, moved}
+use Rattle.model.specs.Phase.{phase, waiting}
 use Rattle.cell.specs.declared.Cell.{Cell}
 use Rattle.model.specs.Crossbar.{Course, arrive, run, leaving, departuresOf, answerOf}
 use Rattle.layout.specs.Answer.{departuresBytes, answerBytes, answerSize}

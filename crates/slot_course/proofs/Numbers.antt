@@ -1,12 +1,12 @@
 -- The candidates of a phase as numbers of entries, and their matching.
 --     candidates-numbers                    the cells with the numbers of the candidates are the candidates, in their order
 --     matched-numbers, proposals-numbers    so the matching is that of the numbers
-use Prim.Native.Nat.{ℕ, _+_, _*_, _/_, _-_, _<_, _≤_}
+use Prim.Native.Nat.{ℕ, _+_, _*_, _-_, _<_}
 use native.Mathlib.Omega.{arith}
 use mathlib.Core.Bool.{Bool, false, _&&_}
 use mathlib.Core.Path.{_≡_, refl, sym, _∙_, ap, ap₂}
 use mathlib.Core.List.{List, [], _∷_, _++_, map, flatten, append-nil, List·Memᴰ, List·Memᴰ·head, List·Memᴰ·tail}
-use mathlib.Core.List.{Memᴰ·cast, Memᴰ·map}
+use mathlib.Core.List.{Memᴰ·map}
 use lib.Dec.{ltb, eqb}
 use lib.ListN.{getD}
 use Rattle.laws.specs.Lists.{keep, numbersFrom, upTo}
@@ -21,13 +21,13 @@ use Rattle.model.specs.State.{isListed}
 use Rattle.model.specs.Phase.{Waiting, phase, ahead, beats, sameInput, sameOutput, candidates, takesPart, lists}
 use Rattle.model.proofs.PhaseFacts.{lists-all}
 use Rattle.model.proofs.PhaseMatching.{candidate-listed}
-use Rattle.layout.specs.Entry.{entryAt, countIn}
+use Rattle.layout.specs.Entry.{countIn}
 use Rattle.layout.proofs.Records.{entryAt-input}
 use Rattle.layout.specs.Code.{portsIn}
-use Rattle.slot_view.specs.CodeView.{waitingAt, inTable, window, InTable}
+use Rattle.slot_view.specs.CodeView.{waitingAt, inTable, window}
 use Rattle.slot_view.specs.CodeScan.{Readable}
 use Rattle.slot_view.specs.CodeChoices.{ofInput, candidatesOf}
-use Rattle.slot_view.proofs.Window.{ofInput-window, ofInput-none, inTable-e, waitingAt-at}
+use Rattle.slot_view.proofs.Window.{ofInput-window, ofInput-none, inTable-e}
 use Rattle.slot_moves.proofs.Relocated.{flatten-through}
 use Rattle.slot_matching.specs.CodeFound.{numbersIn, numbersOf, aheadAt, overAt}
 

@@ -2,10 +2,10 @@
 --     match-held       the cell that an output holds is its match
 --     match-of         and every match is held
 --     settled          so the code's straight cells are those of the phase
-use Prim.Native.Nat.{ℕ, _+_, _*_, _/_, _<_, _≤_}
+use Prim.Native.Nat.{ℕ, _/_, _<_, _≤_}
 use native.Mathlib.Omega.{arith}
 use mathlib.Core.Bool.{Bool, true, false}
-use mathlib.Core.Path.{_≡_, refl, sym, _∙_, ap}
+use mathlib.Core.Path.{_≡_, sym, _∙_, ap}
 use mathlib.Core.Logic.{_⊎_, inl, inr}
 use mathlib.Core.List.{List, map, List·Memᴰ, Memᴰ·map, Memᴰ·of-map, Memᴰ·cast}
 use borrow.Author.Tests.{eqb-true, eqb-false, eq-eqb, ltb-true, ltb-false}
@@ -13,7 +13,7 @@ use lib.Dec.{ltb, eqb}
 use lib.ListN.{length, getD}
 use Rattle.laws.specs.Lists.{keep}
 use Rattle.laws.proofs.Tests.{either, clash}
-use Rattle.laws.proofs.Lists.{keep-mem, mem-keep-in, mem-keep-passes, getD-any}
+use Rattle.laws.proofs.Lists.{keep-mem, mem-keep-passes, getD-any}
 use Rattle.cell.specs.Limits.{sectionRoom, portLimit}
 use Rattle.model.specs.Phase.{Waiting, phase, blocked, crosspoints}
 use Rattle.model.specs.CodeSlackness.{Orderly}

@@ -1,11 +1,11 @@
 -- Where no cell is urgent, there is no candidate, and nothing is held or proposed.
-use Prim.Native.Nat.{ℕ, zero, suc, _<_, _≤_}
+use Prim.Native.Nat.{ℕ, zero, suc, _<_}
 use native.Mathlib.Omega.{arith}
 use mathlib.Core.Bool.{Bool, true, false}
 use mathlib.Core.Path.{_≡_, refl, sym, _∙_, ap}
-use mathlib.Core.List.{List, [], _∷_, List·Memᴰ, List·Memᴰ·head, List·Memᴰ·not-nil}
+use mathlib.Core.List.{List, [], _∷_, List·Memᴰ, List·Memᴰ·head}
 use lib.Dec.{eqb}
-use lib.ListN.{length, getD, replicate}
+use lib.ListN.{getD, replicate}
 use Rattle.laws.specs.Lists.{keep, upTo}
 use Rattle.laws.proofs.Tests.{clash}
 use Rattle.laws.proofs.Lists.{keep-nil, some?-i}
@@ -14,7 +14,6 @@ use Rattle.cell.specs.Limits.{portLimit}
 use Rattle.matching.specs.Matching.{matched, proposals}
 use Rattle.matching.proofs.Matching.{matched-nil, proposals-nil}
 use Rattle.model.specs.Phase.{Waiting, Phase, phase}
-use Rattle.model.specs.CodeSlackness.{Orderly}
 use Rattle.model.proofs.PhaseFacts.{lists-all}
 use Rattle.model.proofs.PhaseMatching.{candidate-listed}
 use Rattle.layout.specs.Entry.{entryAt}

@@ -160,9 +160,6 @@ module _ (table : List ℕ) (good : IsTable table) (input : ℕ) (port : input <
         (w .below)
 
     module _ (some : 0 < left) where
-      pub passing-position : firstOf left < positions
-      passing-position = walk-position (w .walk) some
-
       -- the entry at hand
       pub passing-this : InTable table (sectionRoom * input + firstOf left) × (p (sectionRoom * input + firstOf left) ≡ true)
       passing-this = section-member table good input port p (firstOf left) (walk-member (w .walk) some .0)
@@ -181,6 +178,3 @@ module _ (table : List ℕ) (good : IsTable table) (input : ℕ) (port : input <
             walk = walk-next (w .walk) some (section-fits table good input port p);
             below = subst Next at b;
           }
-
-      pub passing-less : restOf left < left
-      passing-less = rest-less left some (w .walk .fits)

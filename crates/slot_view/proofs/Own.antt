@@ -1,7 +1,7 @@
 -- The places that a table itself has, and what is known of its waiting cells.
 --     placesIn-       the column of them
 --     waitingIn-      the waiting cells of a table are those of its state
-use Prim.Native.Nat.{ℕ, _+_, _/_, _<_, _≤_}
+use Prim.Native.Nat.{ℕ, _<_, _≤_}
 use native.Mathlib.Omega.{arith}
 use mathlib.Core.Bool.{true}
 use mathlib.Core.Path.{_≡_, sym, _∙_, ap, subst}
@@ -13,9 +13,9 @@ use Rattle.model.specs.Phase.{waiting}
 use Rattle.model.specs.CodeSlackness.{Orderly, OneCrosspoint}
 use Rattle.model.specs.Sound.{soundSections}
 use Rattle.model.proofs.SoundOrderly.{sound-orderly, sound-one-crosspoint}
-use Rattle.layout.specs.Entry.{entryAt, countIn}
-use Rattle.layout.specs.Code.{placeByteAt, portsIn}
-use Rattle.layout.specs.Table.{placeByte, placeOf, stateOf, IsTable}
+use Rattle.layout.specs.Entry.{entryAt}
+use Rattle.layout.specs.Code.{placeByteAt}
+use Rattle.layout.specs.Table.{placeOf, stateOf, IsTable}
 use Rattle.layout.proofs.Records.{entryAt-place}
 use Rattle.layout.proofs.Table.{placeByte-range, decode-sound, sound-sections}
 use Rattle.slot_view.specs.CodeView.{InTable, InPlace, placesIn, waitingIn}

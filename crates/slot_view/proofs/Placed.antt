@@ -20,7 +20,7 @@ use Rattle.layout.specs.Number.{bytesOf, numberAt, word}
 use Rattle.layout.specs.Table.{placeByte, placeOf, entryBytes, countsBytes, sectionsBytes, encode, stateOf, decode}
 use Rattle.layout.specs.Entry.{entryAt, clockIn, countIn}
 use Rattle.layout.specs.Code.{recordAt, placeByteAt, entriesBetween, sectionAt, portsIn}
-use Rattle.layout.proofs.Table.{placeOf-placeByte, decode-length, encode-counts, encode-decode, stateOf-encode}
+use Rattle.layout.proofs.Table.{decode-length, encode-counts, encode-decode}
 use Rattle.layout.proofs.Number.{fits32-below}
 use Rattle.layout.proofs.Table.{decode-sound, decode-state, entryBytes-place, sound-ports, sound-clock, sound-sections}
 use Rattle.layout.proofs.Records.{entryAt-place, stateOf-sections}

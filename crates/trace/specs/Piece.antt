@@ -8,12 +8,11 @@ use mathlib.Core.List.{List, [], _∷_}
 use lib.Dec.{leb}
 use lib.ListN.{length}
 use Rattle.cell.specs.declared.Arrival.{Arrival}
-use Rattle.cell.specs.declared.Refusal.{Refusal}
 use Rattle.trace.specs.declared.Answer.{Answer}
 use Rattle.trace.specs.declared.Answer.the-variants.{Slot, End, Bad, More}
 use Rattle.trace.specs.declared.Opening.{Opening}
 use Rattle.trace.specs.declared.Opening.the-variants.{Open, Refused, Short}
-use Rattle.trace.specs.Reader.{Cursor, Next, slotAhead, finished, faulty, next, Header, opened, refusedAt, header}
+use Rattle.trace.specs.Reader.{Next, slotAhead, finished, faulty, next, Header, opened, refusedAt, header}
 
 -- a block has at most 1,232 bytes, a header at most 34
 abbrev pub enough : ℕ

@@ -23,7 +23,7 @@ use Rattle.trace.specs.declared.Answer.{Answer}
 use Rattle.trace.specs.declared.Answer.the-variants.{End, Bad, More}
 use Rattle.trace.specs.Contents.{blockLimit}
 use Rattle.trace.specs.Reader.{Cursor, Read, got, badAt, number, exactly, begins, arrivals, block}
-use Rattle.trace.specs.Reader.{Next, finished, faulty, afterEnd, next, refusedAt, header}
+use Rattle.trace.specs.Reader.{Next, faulty, afterEnd, next, refusedAt, header}
 use Rattle.trace.specs.Piece.{Piece, known, more, decided, nextIn, headerIn, numbersOf, answerOf, openingOf}
 use Rattle.trace_reader.specs.Reading.{from, wholeArrivals, wholeOf, numbersAfter}
 use Rattle.trace.proofs.Blocks.{bind-got, bind-bad, exactly-same, exactly-other, exactly-bad, afterEnd-nil, afterEnd-cons}

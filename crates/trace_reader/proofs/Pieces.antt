@@ -3,9 +3,8 @@
 --                              but the rest, and at a later line the answer is the same, with later lines
 --     steady-number, ..        the readers of a line, of an arrival, of a block's arrivals and of a block
 --     next-slot-later, ..      what stands after the header or a block, at a later line
---     next-bytes, next-line    how many bytes and lines a block has
+--     next-line                how many lines a block has
 --     next-append              what stands there, with more text behind it
---     next-unfinished          enough text does not end there
 --     header-append            the header, with more text behind it
 --     cut-anywhere, cut-header the answer for a piece is the answer for the whole text
 use Prim.Native.Nat.{ℕ, zero, suc, _+_, _*_, _-_, _≤_, _<_}
@@ -38,7 +37,7 @@ use Rattle.trace.proofs.Line.{after-exact}
 use Rattle.trace.proofs.Blocks.{bind-got, bind-bad, bind-exact, number-some, number-none, number-exact}
 use Rattle.trace.proofs.Blocks.{exactly-same, exactly-other, exactly-bad, exactly-exact}
 use Rattle.trace.proofs.Blocks.{begins-some, begins-none, arrivals-stop, arrivals-exact, afterEnd-nil, afterEnd-cons}
-use Rattle.trace.proofs.Blocks.{next-block, next-no-block, next-last, next-no-last, next-exact}
+use Rattle.trace.proofs.Blocks.{next-block, next-no-block, next-last, next-no-last}
 use Rattle.trace.proofs.RoundTrip.{header-bad-ports, header-bad-size, header-bad-first, header-opened}
 use Rattle.trace_reader.proofs.Answers.{headerIn-more, headerIn-known, nextIn-more, nextIn-known}
 use Rattle.trace_reader.proofs.Arrivals.{exactly-line-next, arrival-line}
@@ -479,10 +478,6 @@ next-block-exact clock c {rs} {d} h = go (begins End c) refl (exactly End clock 
     go false b x _ (got ss e) y = cc (next-block clock c b y)
     go false b x _ (badAt l) y = cc (next-no-block clock c b y)
 
-pub next-bytes : (clock : ℕ) (c : Cursor) {rs : List Arrival} {d : Cursor} → next clock c ≡ slotAhead rs d
-    → length (c .text) ≤ length (d .text) + 1232
-next-bytes clock c h = steady-block clock .takes c (next-block-exact clock c h)
-
 arrivals-line : (most : ℕ) (c : Cursor) {rs : List Arrival} {d : Cursor} → arrivals most c ≡ got rs d
     → d .line ≡ c .line + 5 * length rs
 unfolding arrivals give oneMore
@@ -539,14 +534,6 @@ module _ (clock l : ℕ) (t : List ℕ) (h : enough ≤ length t) where
       ap (λ k. next clock (from k (t ++ u))) z
       ∙ next-onwards 0 u clock (from l t) (inl h)
       ∙ onwardNext-behind u (next clock (from l t))
-
-  -- so much text does not end there
-  pub next-unfinished : next clock (from l t) ≢ finished
-  unfolding keyText keyName ascii
-  next-unfinished e =
-      let (f, g) = rw e at (next-exact clock (from l t)) in
-      let m : length (line End clock) ≤ 15 = length-line-le End clock g in
-      omega (arith, ap length f)
 
 -- the header
 

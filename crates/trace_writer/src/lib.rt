@@ -16,7 +16,6 @@ ghost use mathlib.Core.List.{_++_};
 ghost use mathlib.Core.Option.{some};
 ghost use lib.ListN.{length, getD, drop};
 ghost use Rattle.laws.specs.Lists.{all?};
-ghost use Rattle.cell.specs.Refusal.{number};
 ghost use Rattle.trace.specs.declared.Key.the-variants.{Slot, In, Out, Flow, Rank, Tag};
 ghost use Rattle.trace.specs.Line.{keyText, decimal, line};
 ghost use Rattle.trace.specs.Lines.{departureText, refusalText};

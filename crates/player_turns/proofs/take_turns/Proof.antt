@@ -1,7 +1,7 @@
 use Rattle.player_turns.proofs.take_turns.Statement.{statement}
 use Rattle.player_turns.proofs.take_turns.Tie as tie
 use Prim.Native.Nat.{_-_}
-use mathlib.Core.Path.{_≡_, refl, sym, _∙_, ap}
+use mathlib.Core.Path.{refl, sym, _∙_, ap}
 use borrow.Author.Needs.{needs}
 use native.Mathlib.Omega.{arith}
 use lib.ListN.{length, length-drop}

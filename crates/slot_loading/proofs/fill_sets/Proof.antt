@@ -2,7 +2,6 @@
 use Prim.Native.Nat.{_-_, _≤_, _<_}
 use native.Mathlib.Omega.{arith}
 use mathlib.Core.Path.{_≡_, subst}
-use borrow.Author.Needs.{needs}
 use Rattle.layout.specs.Code.{portsIn}
 use Rattle.slot_view.proofs.Own.{table-readable}
 use Rattle.slot_loading.specs.Code.{SetsBelow}

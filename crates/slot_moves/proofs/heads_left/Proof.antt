@@ -1,5 +1,5 @@
 -- Nothing follows the head that leaves, or a cell does.
-use Prim.Native.Nat.{_+_, _*_, _/_, _%_, _<_, _≤_}
+use Prim.Native.Nat.{_+_, _*_, _/_, _%_, _≤_}
 use mathlib.Core.Path.{_≡_, sym, _∙_, ap, subst}
 use Rattle.layout_table.specs.CodeEntries.{flowWord}
 use Rattle.layout.specs.Entry.{entryAt}

@@ -4,7 +4,6 @@ use Rattle.layout_table.proofs.Fresh.{header-put}
 use borrow.Author.Needs.{needs}
 use Rattle.layout_table.proofs.header.write_fresh.Statement.{statement}
 use Rattle.layout_table.proofs.header.write_fresh.Tie as tie
-use Rattle.layout.proofs.word.write_u32.Reads as write-u32-reads
 
 clear-requires : tie.Need-clear-requires
 clear-requires c κs = search needs

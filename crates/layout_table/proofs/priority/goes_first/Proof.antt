@@ -1,5 +1,5 @@
 -- The keys decide, or the tie.
-use mathlib.Core.Path.{_≡_, sym, _∙_, ap₂}
+use mathlib.Core.Path.{sym, _∙_, ap₂}
 use lib.Dec.{ltb}
 use borrow.Author.Needs.{needs}
 use Rattle.cell.specs.Order.{winsTie}
