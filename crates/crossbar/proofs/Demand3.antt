@@ -25,7 +25,7 @@ use Rattle.model.specs.State.{Switch, fresh}
 use Rattle.model.proofs.Demand3.{Kept, Step, step, kept-fresh}
 use Rattle.model.proofs.Related.{related-same-waiting}
 use Rattle.model.proofs.SoundSlot.{after-ports}
-use Rattle.layout.specs.Answer.{departuresBytes, answerBytes, answerSize}
+use Rattle.layout.specs.Answer.{departuresBytes, answerBytes, answerSize, departuresSize}
 use Rattle.layout.specs.Arrivals.{recordsOf}
 use Rattle.layout.specs.Number.{bytesOf}
 use Rattle.layout.specs.Host.{resultOf, startCall, bufferAfter, tableAfter, answerAfter, filled}
@@ -72,13 +72,13 @@ call-lent c h = go (recordsOf (c .arrivals)) refl
     go (some records) e = ap lent e ∙ recordsOf-fits (c .arrivals) records (parts c h .0) e
 
 -- the answer's departures are those of the slot
-answer-departures : (answer : List ℕ) (c : Course) → take 448 (answerAfter answer (done c)) ≡ departuresBytes portLimit (c .departures)
+answer-departures : (answer : List ℕ) (c : Course) → take departuresSize (answerAfter answer (done c)) ≡ departuresBytes portLimit (c .departures)
 unfolding answerAfter answerBytes answerOf filled
 answer-departures answer c =
     let ds : List ℕ = departuresBytes portLimit (c .departures) in
     let ps : List ℕ = bytesOf 4 (c .one .proposals) ++ bytesOf 4 (c .two .proposals) in
-    ap (take 448) (append-assoc ds ps (drop (length (ds ++ ps)) answer))
-    ∙ take-at ds (ps ++ drop (length (ds ++ ps)) answer) 448 (length-departuresBytes 16 (c .departures))
+    ap (take departuresSize) (append-assoc ds ps (drop (length (ds ++ ps)) answer))
+    ∙ take-at ds (ps ++ drop (length (ds ++ ps)) answer) departuresSize (length-departuresBytes 16 (c .departures))
 
 -- the table after the call is that of the switch after it
 decode-after : (table : List ℕ) (s : Switch) (o : Outcome Course) → decode table ≡ some s → sound (switchAfter s o) ≡ true

@@ -14,7 +14,7 @@ use Rattle.model.specs.Checks.{noDepartures}
 use Rattle.model.specs.Crossbar.{Answer}
 use Rattle.layout.specs.Number.{bytesOf, numberAt, numberOf, word}
 use Rattle.layout.specs.Answer.{departureSize, answerSize, departureBytes, departuresBytes, answerBytes}
-use Rattle.layout.specs.Answer.{departureIn, departuresIn, answerIn}
+use Rattle.layout.specs.Answer.{departureIn, departuresIn, answerIn, departuresSize}
 use Rattle.layout.proofs.Number.{take-first, drop-first, length-bytesOf}
 use Rattle.layout.proofs.Number.{numberOf-word, word-here, word-past}
 
@@ -146,16 +146,16 @@ module _ (a : Answer) (bs : List ℕ) where
       ∙ departuresIn-all portLimit (a .departures) (portLimit - length (a .departures)) _ h (omega arith)
 
   -- the proposals of the first phase and of the second
-  pub answerBytes-first : fits32 (a .first) ≡ true → word (answerBytes a ++ bs) 448 ≡ a .first
+  pub answerBytes-first : fits32 (a .first) ≡ true → word (answerBytes a ++ bs) departuresSize ≡ a .first
   answerBytes-first h =
-      ap (λ l. word l 448) (answer-parts a bs)
-      ∙ word-past (departuresBytes portLimit (a .departures)) _ 448 0 (length-departuresBytes portLimit (a .departures))
+      ap (λ l. word l departuresSize) (answer-parts a bs)
+      ∙ word-past (departuresBytes portLimit (a .departures)) _ departuresSize 0 (length-departuresBytes portLimit (a .departures))
       ∙ word-here (a .first) _ h
 
-  pub answerBytes-second : fits32 (a .second) ≡ true → word (answerBytes a ++ bs) 452 ≡ a .second
+  pub answerBytes-second : fits32 (a .second) ≡ true → word (answerBytes a ++ bs) (departuresSize + 4) ≡ a .second
   answerBytes-second h =
-      ap (λ l. word l 452) (answer-parts a bs)
-      ∙ word-past (departuresBytes portLimit (a .departures)) _ 448 4 (length-departuresBytes portLimit (a .departures))
+      ap (λ l. word l (departuresSize + 4)) (answer-parts a bs)
+      ∙ word-past (departuresBytes portLimit (a .departures)) _ departuresSize 4 (length-departuresBytes portLimit (a .departures))
       ∙ word-past (bytesOf 4 (a .first)) (bytesOf 4 (a .second) ++ bs) 4 0 (length-bytesOf 4 (a .first))
       ∙ word-here (a .second) bs h
 

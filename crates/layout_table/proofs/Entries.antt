@@ -16,7 +16,7 @@ use Rattle.cell.proofs.Flow.{flow-i, flow-e}
 use Rattle.layout.specs.Number.{bytesOf, numberAt, word}
 use Rattle.layout.specs.Entry.{entryAt}
 use Rattle.layout.specs.Code.{recordStart, recordAt, placeByteAt, put}
-use Rattle.layout.specs.Table.{entrySize, tableSize, entryBytes}
+use Rattle.layout.specs.Table.{entrySize, tableSize, entryBytes, entryLimit}
 use Rattle.layout.proofs.Halves.{read-halves, put-halves, numberAt-halves, numberAt-byte}
 use Rattle.layout.proofs.Number.{bytes?, bytes?-take, bytes?-drop, bytesOf-numberOf, numberAt-below}
 use Rattle.layout.proofs.Records.{entryAt-output, entryAt-flow, placeByteAt-byte}
@@ -55,7 +55,7 @@ entry-words c p ho hf low high =
 
 -- a record copied by two numbers of 64 bits
 pub record-copied : (k n from to low high : ℕ) (old mid new : List ℕ) → bytes? old ≡ true → length old ≡ tableSize
-    → k < 1024 → n < 1024 → from ≡ recordStart k → to ≡ recordStart n
+    → k < entryLimit → n < entryLimit → from ≡ recordStart k → to ≡ recordStart n
     → low ≡ numberAt 8 from old → high ≡ numberAt 8 (from + 8) old
     → mid ≡ put to 8 (bytesOf 8 low) old → new ≡ put (to + 8) 8 (bytesOf 8 high) mid
     → new ≡ put (recordStart n) entrySize (recordAt old k) old

@@ -11,7 +11,7 @@ use Rattle.layout_table.specs.CodeCleared.{cleared}
 use Rattle.cell.specs.Limits.{portLimit}
 use Rattle.model.specs.State.{fresh, Entry}
 use Rattle.layout.specs.Number.{bytesOf}
-use Rattle.layout.specs.Table.{encode, countsBytes, sectionsBytes, sectionBytes, entriesBytes, tableSize}
+use Rattle.layout.specs.Table.{encode, countsBytes, sectionsBytes, sectionBytes, entriesBytes, tableSize, sectionSize}
 use Rattle.layout.specs.Host.{filled}
 use Rattle.layout.proofs.Number.{length-bytesOf}
 
@@ -56,15 +56,15 @@ counts-zeros zero n = refl
 counts-zeros (suc k) zero = ap (λ l. 0 ∷ l) (counts-zeros k zero)
 counts-zeros (suc k) (suc n) = ap (λ l. 0 ∷ l) (counts-zeros k n)
 
-section-zeros : sectionBytes [] ≡ zeros 1024
+section-zeros : sectionBytes [] ≡ zeros sectionSize
 unfolding sectionBytes entriesBytes zeros
 section-zeros = refl
 
-sections-zeros : (k n : ℕ) → sectionsBytes k (replicate {A = List Entry} n []) ≡ zeros (1024 * k)
+sections-zeros : (k n : ℕ) → sectionsBytes k (replicate {A = List Entry} n []) ≡ zeros (sectionSize * k)
 unfolding sectionsBytes zeros
 sections-zeros zero n = refl
-sections-zeros (suc k) zero = ap₂ _++_ section-zeros (sections-zeros k zero) ∙ zeros-add 1024 (1024 * k) ∙ ap zeros (let e : 1024 + 1024 * k ≡ 1024 * suc k = omega arith in e)
-sections-zeros (suc k) (suc n) = ap₂ _++_ section-zeros (sections-zeros k n) ∙ zeros-add 1024 (1024 * k) ∙ ap zeros (let e : 1024 + 1024 * k ≡ 1024 * suc k = omega arith in e)
+sections-zeros (suc k) zero = ap₂ _++_ section-zeros (sections-zeros k zero) ∙ zeros-add sectionSize (sectionSize * k) ∙ ap zeros (let e : sectionSize + sectionSize * k ≡ sectionSize * suc k = omega arith in e)
+sections-zeros (suc k) (suc n) = ap₂ _++_ section-zeros (sections-zeros k n) ∙ zeros-add sectionSize (sectionSize * k) ∙ ap zeros (let e : sectionSize + sectionSize * k ≡ sectionSize * suc k = omega arith in e)
 
 body-zeros : (n : ℕ)
     → bytesOf 4 0 ++ (countsBytes portLimit (replicate {A = List Entry} n []) ++ sectionsBytes portLimit (replicate n []))

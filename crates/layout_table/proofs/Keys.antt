@@ -14,14 +14,14 @@ use Rattle.cell.proofs.Keys.{over-key}
 use Rattle.laws.proofs.Tests.{and-false-l}
 use Rattle.layout.specs.Entry.{entryAt}
 use Rattle.layout.specs.Code.{recordStart}
-use Rattle.layout.specs.Table.{tableSize}
+use Rattle.layout.specs.Table.{tableSize, entryLimit}
 use Rattle.layout.proofs.Number.{bytes?, word-fits, fits32-below}
 use Rattle.layout.proofs.Records.{entryAt-slot}
 use mathlib.Core.Bool.{or-false}
 use Rattle.cell.specs.Limits.{fits32}
 
 -- a slot fits its four bytes
-pub slot-below : (table : List ℕ) → length table ≡ tableSize → bytes? table ≡ true → (k : ℕ) → k < 1024
+pub slot-below : (table : List ℕ) → length table ≡ tableSize → bytes? table ≡ true → (k : ℕ) → k < entryLimit
     → entryAt table k .cell .slot < 2 ^ 32
 slot-below table size bytes k h =
     fits32-below (entryAt table k .cell .slot)

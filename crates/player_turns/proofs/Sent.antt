@@ -23,7 +23,7 @@ use Rattle.trace.specs.declared.Key.the-variants.{In, Out, Flow, Rank, Tag}
 use Rattle.trace.specs.Lines.{departureText, departuresText}
 use Rattle.trace_writer.specs.Writing.{lastPlace, Put}
 use Rattle.trace_writer.proofs.Pour.{put-then}
-use Rattle.layout.specs.Answer.{departureSize, answerBytes, departureIn, departuresIn, cellIn}
+use Rattle.layout.specs.Answer.{departureSize, answerBytes, departureIn, departuresIn, cellIn, departuresSize}
 use Rattle.layout.specs.Host.{filled}
 use Rattle.layout.specs.Number.{word}
 use Rattle.layout.proofs.Answer.{departureFits, answerBytes-outputs}
@@ -101,14 +101,14 @@ pub departures-more : (n : ℕ) (bs : List ℕ)
 departures-more n bs = sym (ap (λ k. departuresText (departuresIn k bs)) (add-one n) ∙ departures-suc n bs)
 
 -- one departure more is put, behind those that are
-module _ (b answer : List ℕ) (at : ℕ) (bytes : bytes? answer ≡ true) (all : 448 ≤ length answer)
+module _ (b answer : List ℕ) (at : ℕ) (bytes : bytes? answer ≡ true) (all : departuresSize ≤ length answer)
     (room : at + 1216 ≤ length b) (end : length b < lastPlace) where
   pub put-more : {c d : List ℕ} {place next : ℕ} (n : ℕ) → n < 16
       → Put b at (departuresText (departuresIn n answer)) c place
-      → Put c place (departureText (departureIn (take (28 * n + 28 - 28 * n) (drop (28 * n) answer)))) d next
+      → Put c place (departureText (departureIn (take (departureSize * n + departureSize - departureSize * n) (drop (departureSize * n) answer)))) d next
       → Put b at (departuresText (departuresIn (n + 1) answer)) d next
   put-more {d} {next} n h p q =
-      let wide : 28 * n + 28 - 28 * n ≡ 28 = omega arith in
+      let wide : departureSize * n + departureSize - departureSize * n ≡ departureSize = omega arith in
       let more = departures-more n answer in
       let fits : departureSize * (n + 1) ≤ length answer = omega arith in
       let less : at + length (departuresText (departuresIn (n + 1) answer)) ≤ length b =

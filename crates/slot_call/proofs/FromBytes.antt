@@ -37,18 +37,18 @@ use Rattle.slot_call.specs.Records.{recordsSlot}
 -- the bytes
 
 module _ (bs : List ℕ) (k : ℕ) where
-  arrivalAt-word : (at : ℕ) → at + 4 ≤ 20
-      → word bs (20 * k + at) ≡ word (take arrivalSize (drop (arrivalSize * k) bs)) at
+  arrivalAt-word : (at : ℕ) → at + 4 ≤ arrivalSize
+      → word bs (arrivalSize * k + at) ≡ word (take arrivalSize (drop (arrivalSize * k) bs)) at
   unfolding word
-  arrivalAt-word at h = sym (numberAt-part 4 at 20 (20 * k) bs h)
+  arrivalAt-word at h = sym (numberAt-part 4 at arrivalSize (arrivalSize * k) bs h)
 
   -- the record whose fields are read
-  pub arrivalAt-fields : (a : Arrival) → a .input ≡ word bs (20 * k) → a .output ≡ word bs (20 * k + 4)
-      → a .flow ≡ word bs (20 * k + 8) → a .rank ≡ word bs (20 * k + 12) → a .tag ≡ word bs (20 * k + 16)
+  pub arrivalAt-fields : (a : Arrival) → a .input ≡ word bs (arrivalSize * k) → a .output ≡ word bs (arrivalSize * k + 4)
+      → a .flow ≡ word bs (arrivalSize * k + 8) → a .rank ≡ word bs (arrivalSize * k + 12) → a .tag ≡ word bs (arrivalSize * k + 16)
       → a ≡ arrivalAt bs k
   unfolding arrivalAt arrivalOf
   arrivalAt-fields a i o f r t =
-      let first : 20 * k ≡ 20 * k + 0 = omega arith in
+      let first : arrivalSize * k ≡ arrivalSize * k + 0 = omega arith in
       λ x. record {
         input = (i ∙ ap (word bs) first ∙ arrivalAt-word 0 (omega arith)) x;
         output = (o ∙ arrivalAt-word 4 (omega arith)) x;

@@ -14,7 +14,7 @@ use Rattle.laws.proofs.Lists.{all?-mono}
 use Rattle.cell.specs.Limits.{portLimit, flowLimit, sectionRoom, fits32}
 use Rattle.model.specs.Sound.{soundEntry}
 use Rattle.layout.specs.Number.{bytesOf, numberOf, numberAt, word, sameBytes}
-use Rattle.layout.specs.Table.{tableSize, entrySize, placeByte, placeOf, entryBytes, entryOf}
+use Rattle.layout.specs.Table.{tableSize, entrySize, placeByte, placeOf, entryBytes, entryOf, entryLimit}
 use Rattle.layout.specs.Entry.{entryAt}
 use Rattle.layout.specs.Code.{recordStart, recordAt, placeByteAt, entriesBetween}
 use Rattle.slot_check.specs.Code.{isEntry, isUnused, inRange}
@@ -48,7 +48,7 @@ entryBytes-i input r h size place zero =
 ------------------------------------------------------------------------
 -- a record
 
-module _ (bs : List ℕ) (h : bytes? bs ≡ true) (size : length bs ≡ tableSize) (k : ℕ) (within : k < 1024) where
+module _ (bs : List ℕ) (h : bytes? bs ≡ true) (size : length bs ≡ tableSize) (k : ℕ) (within : k < entryLimit) where
   recordAt-bytes : bytes? (recordAt bs k) ≡ true
   unfolding recordAt
   recordAt-bytes = bytes?-take entrySize (drop (recordStart k) bs) (bytes?-drop (recordStart k) bs h)
@@ -83,7 +83,7 @@ pub record Fields (ports clock : ℕ) (bs : List ℕ) (k : ℕ) : Type 0 where
   pub zero : _≡_ {A = ℕ} (getD bs (recordStart k + 3) 0) 0
   pub slot : entryAt bs k .cell .slot < clock
 
-module _ (ports clock : ℕ) (bs : List ℕ) (h : bytes? bs ≡ true) (size : length bs ≡ tableSize) (k : ℕ) (within : k < 1024)
+module _ (ports clock : ℕ) (bs : List ℕ) (h : bytes? bs ≡ true) (size : length bs ≡ tableSize) (k : ℕ) (within : k < entryLimit)
   where
     pub isEntry-i : Fields ports clock bs k → isEntry ports clock bs k ≡ true
     unfolding isEntry soundEntry
@@ -140,7 +140,7 @@ entries-inRange ports clock bs from to few h =
 ------------------------------------------------------------------------
 -- an unused record
 
-module _ (bs : List ℕ) (h : bytes? bs ≡ true) (size : length bs ≡ tableSize) (k : ℕ) (within : k < 1024) where
+module _ (bs : List ℕ) (h : bytes? bs ≡ true) (size : length bs ≡ tableSize) (k : ℕ) (within : k < entryLimit) where
   recordAt-halves : recordAt bs k
       ≡ bytesOf 8 (numberAt 8 (recordStart k) bs) ++ bytesOf 8 (numberAt 8 (recordStart k + 8) bs)
   recordAt-halves =

@@ -23,6 +23,7 @@ use Rattle.model.proofs.WaitingOrder.{beats-i, beats-output, beats-over, beats-
 use Rattle.layout.proofs.Records.{entryAt-input}
 use Rattle.layout.specs.Entry.{entryAt}
 use Rattle.layout.specs.Code.{portsIn}
+use Rattle.layout.specs.Table.{entryLimit}
 use Rattle.layout_table.specs.CodeEntries.{nowhere, betterOf}
 use Rattle.layout_table.proofs.Better.{better-none}
 use Rattle.slot_view.specs.CodeView.{crosspointAt}
@@ -179,7 +180,7 @@ module _ (table : List ℕ) (cross : List (List ℕ)) (output : ℕ) where
         small : own .holder < 16
         small = omega (arith, own .early)
 
-        full : crosspointAt cross (own .holder) output < 1024
+        full : crosspointAt cross (own .holder) output < entryLimit
         full = omega (arith, own .held, s)
 
         w : (e : Waiting) × List·Memᴰ e cells × (e .at ≡ crosspointAt cross (own .holder) output)

@@ -30,7 +30,7 @@ use Rattle.model.proofs.PhaseFacts.{lists-i, lists-all, lists-listed, head-list
 use Rattle.model.proofs.WaitingOrder.{ahead-strict, ahead-i, ahead-at, ahead-input}
 use Rattle.model.proofs.PhaseMatching.{urgent-all}
 use Rattle.layout.specs.Entry.{countIn}
-use Rattle.layout.specs.Table.{placeOf}
+use Rattle.layout.specs.Table.{placeOf, entryLimit}
 use Rattle.layout.specs.Code.{portsIn}
 use Rattle.layout_table.specs.CodeEntries.{nowhere}
 use Rattle.slot_view.specs.CodeView.{placesIn, waitingIn, waitingAt, InTable}
@@ -370,7 +370,7 @@ module _ (table : List ℕ) where
                   (first-before listed (f .at % sectionRoom)
                   (omega (arith, eqb-true (firstOf listed) (s .at % sectionRoom) t, ahead-at f s a, w .place, at .place)))
 
-      s-small : s .at < 1024
+      s-small : s .at < entryLimit
       s-small = inTable-below r (stands s-listed s-input .inside)
 
       s-place : s .at ≡ sectionRoom * input + s .at % sectionRoom

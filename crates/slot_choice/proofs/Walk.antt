@@ -22,6 +22,8 @@ use Rattle.model.proofs.WaitingOrder.{beats-i, beats-over, output-i, output-e}
 use Rattle.model.proofs.WaitingOrder.{crosspoint-i, crosspoint-input, crosspoint-output}
 use Rattle.layout.specs.Entry.{entryAt}
 use Rattle.layout.specs.Code.{portsIn}
+use Rattle.layout.specs.Table.{entryLimit}
+use Rattle.layout_table.specs.CodeEntries.{nowhere}
 use Rattle.slot_view.specs.CodeView.{placesIn, waitingIn, waitingAt, crosspointAt}
 use Rattle.slot_view.specs.CodeChoices.{bestOf}
 use Rattle.slot_view.specs.CodeScan.{Holds}
@@ -40,35 +42,35 @@ module _ (table : List ℕ) (cross : List (List ℕ)) {cells : List Waiting} (h 
   number = crosspointAt cross (e .cell .input) (e .cell .output)
 
   -- the cell at a crosspoint that is not empty
-  full : number < 1024 → Passing (sameCrosspoint e) cells
+  full : number < entryLimit → Passing (sameCrosspoint e) cells
   unfolding number
   full l =
       let w = h .real (e .cell .input) (e .cell .output) i o l in
       (w .0, w .1, crosspoint-i e (w .0) (sym (w .3)) (sym (w .4)))
 
-  empty-number : crosspointEmpty cells e ≡ leb 1024 (crosspointAt cross (e .cell .input) (e .cell .output))
+  empty-number : crosspointEmpty cells e ≡ leb nowhere (crosspointAt cross (e .cell .input) (e .cell .output))
   unfolding crosspointEmpty number
   empty-number =
-      same (none? (sameCrosspoint e) cells) (leb 1024 number)
-      (λ n. by-pass (leb 1024 number) (λ f.
-      let w = full (leb-false 1024 number f) in
+      same (none? (sameCrosspoint e) cells) (leb nowhere number)
+      (λ n. by-pass (leb nowhere number) (λ f.
+      let w = full (leb-false entryLimit number f) in
       none?-clash (sameCrosspoint e) n (w .1) (w .2)))
       (λ t. none?-i (sameCrosspoint e) cells (λ x m.
-      by-fail (sameCrosspoint e x) (λ s. go (leb-true 1024 number t) x m s)))
+      by-fail (sameCrosspoint e x) (λ s. go (leb-true entryLimit number t) x m s)))
     where
-      go : 1024 ≤ number → (x : Waiting) → List·Memᴰ x cells → sameCrosspoint e x ≡ true → ⊥
+      go : nowhere ≤ number → (x : Waiting) → List·Memᴰ x cells → sameCrosspoint e x ≡ true → ⊥
       go l x m s =
           let q : number ≡ x .at =
           ap₂ (crosspointAt cross) (crosspoint-input e x s) (crosspoint-output e x s) ∙ h .filled x m in
           omega (arith, h .inside x m .input)
 
-  module _ (l : crosspointAt cross (e .cell .input) (e .cell .output) < 1024) where
+  module _ (l : crosspointAt cross (e .cell .input) (e .cell .output) < entryLimit) where
     chief : Chief table cross h (e .cell .output)
     unfolding number
     chief = let w = full l in chief-of table cross h (e .cell .output) (w .1) (sym (crosspoint-output e (w .0) (w .2)))
 
     -- the output has a best cell
-    best-number : bestOf cells (e .cell .output) < 1024
+    best-number : bestOf cells (e .cell .output) < entryLimit
     best-number = omega (arith, chief .number, h .inside (chief .chief) (chief .member) .input)
 
     -- a head whose crosspoint is full is blocked and over all of its output if it is over the best
@@ -116,7 +118,7 @@ module _ {table : List ℕ} {cross : List (List ℕ)} {best least : List ℕ} {i
   abbrev e : Waiting
   e = waitingAt table (placesIn table) k
 
-  pub step-small : k < 1024
+  pub step-small : k < entryLimit
   step-small = inTable-below (w .readable) (h .inside)
 
   step-input : input < 16
@@ -147,24 +149,24 @@ module _ {table : List ℕ} {cross : List (List ℕ)} {best least : List ℕ} {i
     unfolding waitingAt
     crosspoint = ap₂ (crosspointAt cross) own (sym out)
 
-    is-empty : crosspointEmpty (crosspoints all) e ≡ leb 1024 (crosspointAt cross input o)
-    is-empty = empty-number table cross holds ports e small goes ∙ ap (leb 1024) crosspoint
+    is-empty : crosspointEmpty (crosspoints all) e ≡ leb nowhere (crosspointAt cross input o)
+    is-empty = empty-number table cross holds ports e small goes ∙ ap (leb nowhere) crosspoint
 
     -- its crosspoint is empty
-    pub step-ready : 1024 ≤ crosspointAt cross input o → Means all e true false
+    pub step-ready : nowhere ≤ crosspointAt cross input o → Means all e true false
     unfolding isReady
     step-ready l =
         record {
-          ready-is = and-i (isHead all e) (crosspointEmpty (crosspoints all) e) (h .head) (is-empty ∙ le-leb 1024 _ l);
+          ready-is = and-i (isHead all e) (crosspointEmpty (crosspoints all) e) (h .head) (is-empty ∙ le-leb nowhere _ l);
           pressing-is = λ f. absurd (true≢false f);
         }
 
-    module _ (l : crosspointAt cross input o < 1024) where
+    module _ (l : crosspointAt cross input o < entryLimit) where
       not-ready : isReady all e ≡ false
       unfolding isReady
-      not-ready = and-false-r (isHead all e) (crosspointEmpty (crosspoints all) e) (is-empty ∙ lt-leb 1024 _ l)
+      not-ready = and-false-r (isHead all e) (crosspointEmpty (crosspoints all) e) (is-empty ∙ lt-leb nowhere _ l)
 
-      is-full : crosspointAt cross (e .cell .input) (e .cell .output) < 1024
+      is-full : crosspointAt cross (e .cell .input) (e .cell .output) < entryLimit
       is-full = omega (arith, crosspoint)
 
       -- the best of its output
@@ -172,8 +174,8 @@ module _ {table : List ℕ} {cross : List (List ℕ)} {best least : List ℕ} {i
       unfolding waitingAt
       best-of-output = sym (ap (λ p. getD best p 0) out ∙ w .bests (entryAt table k .cell .output) step-output)
 
-      pub step-best : getD best o 0 < 1024
-      step-best = subst (λ b. b < 1024) best-of-output (best-number table cross holds ports e small goes is-full)
+      pub step-best : getD best o 0 < entryLimit
+      step-best = subst (λ b. b < entryLimit) best-of-output (best-number table cross holds ports e small goes is-full)
 
       pub step-key : getD least o 0 ≡ key (entryAt table (getD best o 0) .cell)
       step-key = w .keys o (omega (arith, step-output)) ∙ key-cell table (getD best o 0) step-best

@@ -19,7 +19,7 @@ use Rattle.model.specs.State.{Switch}
 use Rattle.model.specs.Phase.{phase, waiting}
 use Rattle.cell.specs.declared.Cell.{Cell}
 use Rattle.model.specs.Crossbar.{Course, arrive, run, leaving, departuresOf, answerOf}
-use Rattle.layout.specs.Answer.{departuresBytes, answerBytes, answerSize}
+use Rattle.layout.specs.Answer.{departuresBytes, answerBytes, answerSize, departuresSize}
 use Rattle.layout.specs.Host.{filled}
 use Rattle.layout.specs.Number.{bytesOf}
 use Rattle.layout.specs.Table.{IsTable, encode, stateOf}
@@ -119,19 +119,19 @@ module _ (s : Switch) where
 
     pub ran-answer : (answer mid new : List ℕ) → answerSize ≤ length answer
         → mid ≡ filled (departuresBytes 16 (departuresOf (portsIn table) (leaving (waiting (stateOf table .sections))))) answer
-        → new ≡ take 448 mid ++ ((bytesOf 4 one ++ bytesOf 4 two) ++ drop 456 mid)
+        → new ≡ take departuresSize mid ++ ((bytesOf 4 one ++ bytesOf 4 two) ++ drop answerSize mid)
         → new ≡ filled (answerBytes (answerOf course)) answer
     unfolding filled answerBytes answerOf bytesOf
     ran-answer answer mid new room sent written =
         let out = departuresOf (portsIn table) (leaving (waiting (stateOf table .sections))) in
         let ds : List ℕ = departuresBytes 16 out in
-        let size : length ds ≡ 448 = length-departuresBytes 16 out in
-        let front : mid ≡ ds ++ drop 448 answer = sent ∙ ap (λ n. ds ++ drop n answer) size in
-        let put : new ≡ (ds ++ (bytesOf 4 one ++ bytesOf 4 two)) ++ drop 456 answer =
-        put-next 0 448 8 ds (bytesOf 4 one ++ bytesOf 4 two) answer mid new size refl room front written in
+        let size : length ds ≡ departuresSize = length-departuresBytes 16 out in
+        let front : mid ≡ ds ++ drop departuresSize answer = sent ∙ ap (λ n. ds ++ drop n answer) size in
+        let put : new ≡ (ds ++ (bytesOf 4 one ++ bytesOf 4 two)) ++ drop answerSize answer =
+        put-next 0 departuresSize 8 ds (bytesOf 4 one ++ bytesOf 4 two) answer mid new size refl room front written in
         let whole : answerBytes (answerOf course) ≡ ds ++ (bytesOf 4 one ++ bytesOf 4 two) =
         ap₂ (λ x y. x ++ y) (ap (departuresBytes 16) (sym answers))
         (ap₂ (λ x y. bytesOf 4 x ++ bytesOf 4 y) (sym first-is) (sym second-is)) in
         put
-        ∙ ap (λ bs. bs ++ drop 456 answer) (sym whole)
+        ∙ ap (λ bs. bs ++ drop answerSize answer) (sym whole)
         ∙ ap (λ n. answerBytes (answerOf course) ++ drop n answer) (sym (length-answerBytes (answerOf course)))

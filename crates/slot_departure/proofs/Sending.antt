@@ -30,7 +30,7 @@ use Rattle.model.specs.Phase.{Waiting, waiting, beats, among}
 use Rattle.model.specs.Crossbar.{leaving, departuresOf}
 use Rattle.model.proofs.WaitingOrder.{beats-i, beats-output, beats-over, among-i, among-e}
 use Rattle.model.proofs.SlackDeparture.{leaving-in, leaving-buffered, leaving-first}
-use Rattle.layout.specs.Answer.{departureSize, departureBytes, departuresBytes}
+use Rattle.layout.specs.Answer.{departureSize, departureBytes, departuresBytes, departuresSize}
 use Rattle.layout.specs.Host.{filled}
 use Rattle.layout.specs.Entry.{entryAt}
 use Rattle.layout.specs.Table.{stateOf, IsTable}
@@ -201,52 +201,52 @@ departuresBytes-ext (suc n) ds es h =
 pub sent : List (Option Cell) → List ℕ → ℕ → List ℕ
 sent ds old o = take (departureSize * o) (departuresBytes 16 ds) ++ drop (departureSize * o) old
 
-module _ (ds : List (Option Cell)) (old : List ℕ) (room : 448 ≤ length old) where
-  whole : length (departuresBytes 16 ds) ≡ 448
+module _ (ds : List (Option Cell)) (old : List ℕ) (room : departuresSize ≤ length old) where
+  whole : length (departuresBytes 16 ds) ≡ departuresSize
   whole = length-departuresBytes 16 ds
 
   -- the bytes of an output's departure
-  own : (o : ℕ) → o < 16 → take (28 * o) (departuresBytes 16 ds) ++ departureBytes (getD ds o none)
-      ≡ take (28 * o + 28) (departuresBytes 16 ds)
+  own : (o : ℕ) → o < 16 → take (departureSize * o) (departuresBytes 16 ds) ++ departureBytes (getD ds o none)
+      ≡ take (departureSize * o + departureSize) (departuresBytes 16 ds)
   own o l =
       let m : ℕ = 15 - o in
       let sum : 16 ≡ o + suc m = omega arith in
       let at : o + 0 ≡ o = omega arith in
-      let here : take 28 (drop (28 * o) (departuresBytes 16 ds)) ≡ departureBytes (getD ds o none) =
-      ap (take 28)
-      (ap (λ n. drop (28 * o) (departuresBytes n ds)) sum
+      let here : take departureSize (drop (departureSize * o) (departuresBytes 16 ds)) ≡ departureBytes (getD ds o none) =
+      ap (take departureSize)
+      (ap (λ n. drop (departureSize * o) (departuresBytes n ds)) sum
       ∙ departuresBytes-drop o (suc m) ds
       ∙ departuresBytes-first m (drop o ds))
-      ∙ take-at (departureBytes (getD (drop o ds) 0 none)) (departuresBytes m (drop 1 (drop o ds))) 28
+      ∙ take-at (departureBytes (getD (drop o ds) 0 none)) (departuresBytes m (drop 1 (drop o ds))) departureSize
       (length-departureBytes (getD (drop o ds) 0 none))
       ∙ ap departureBytes (getD-drop o ds 0 none ∙ ap (λ n. getD ds n none) at) in
-      sym (take-add (28 * o) 28 (departuresBytes 16 ds) ∙ ap (λ bs. take (28 * o) (departuresBytes 16 ds) ++ bs) here)
+      sym (take-add (departureSize * o) departureSize (departuresBytes 16 ds) ∙ ap (λ bs. take (departureSize * o) (departuresBytes 16 ds) ++ bs) here)
 
   pub sent-none : old ≡ sent ds old 0
   unfolding sent
   sent-none = refl
 
   pub sent-more : (o : ℕ) (mid new : List ℕ) → o < 16 → mid ≡ sent ds old o
-      → new ≡ put (28 * o) 28 (departureBytes (getD ds o none)) mid → new ≡ sent ds old (o + 1)
+      → new ≡ put (departureSize * o) departureSize (departureBytes (getD ds o none)) mid → new ≡ sent ds old (o + 1)
   unfolding sent
   sent-more o mid new l first second =
-      let n : ℕ = 28 * o in
-      let more : n + 28 ≡ 28 * (o + 1) = omega arith in
+      let n : ℕ = departureSize * o in
+      let more : n + departureSize ≡ departureSize * (o + 1) = omega arith in
       let size : length (take n (departuresBytes 16 ds)) ≡ n =
       length-take-le n (departuresBytes 16 ds) (omega (arith, whole)) in
       let from : mid ≡ put 0 n (take n (departuresBytes 16 ds)) old =
       first ∙ ap (λ k. take n (departuresBytes 16 ds) ++ drop k old) (sym (zero-add n)) in
-      let to : new ≡ put (0 + n) 28 (departureBytes (getD ds o none)) mid =
-      second ∙ ap (λ k. put k 28 (departureBytes (getD ds o none)) mid) (sym (zero-add n)) in
-      put-next 0 n 28 (take n (departuresBytes 16 ds)) (departureBytes (getD ds o none)) old mid new size
+      let to : new ≡ put (0 + n) departureSize (departureBytes (getD ds o none)) mid =
+      second ∙ ap (λ k. put k departureSize (departureBytes (getD ds o none)) mid) (sym (zero-add n)) in
+      put-next 0 n departureSize (take n (departuresBytes 16 ds)) (departureBytes (getD ds o none)) old mid new size
       (length-departureBytes (getD ds o none)) (omega arith) from to
-      ∙ ap₂ (λ bs k. bs ++ drop k old) (own o l) (zero-add (n + 28))
+      ∙ ap₂ (λ bs k. bs ++ drop k old) (own o l) (zero-add (n + departureSize))
       ∙ ap (λ k. take k (departuresBytes 16 ds) ++ drop k old) more
 
   pub sent-all : sent ds old 16 ≡ filled (departuresBytes 16 ds) old
   unfolding sent filled
   sent-all =
-      ap₂ (λ bs k. bs ++ drop k old) (take-all 448 (departuresBytes 16 ds) (omega (arith, whole))) (sym whole)
+      ap₂ (λ bs k. bs ++ drop k old) (take-all departuresSize (departuresBytes 16 ds) (omega (arith, whole))) (sym whole)
 
 ------------------------------------------------------------------------
 -- all of them are the definition's

@@ -25,7 +25,7 @@ use Rattle.model.specs.Phase.{Waiting}
 use Rattle.model.proofs.Numbering
 use Rattle.layout.specs.Number.{bytesOf}
 use Rattle.layout.specs.Table.{headerSize, entrySize, sectionSize, tableSize, entryOf, entryBytes, entriesBytes}
-use Rattle.layout.specs.Table.{sectionBytes}
+use Rattle.layout.specs.Table.{sectionBytes, entryLimit}
 use Rattle.layout.specs.Entry.{entryAt, countIn}
 use Rattle.layout.specs.Code.{recordStart, recordAt, put}
 use Rattle.layout.proofs.Table.{length-entryBytes, length-entriesBytes, entriesBytes-append}
@@ -207,7 +207,7 @@ module _ (table numbers : List ℕ) {input from : ℕ} (r : Removable table numb
     pub closing-free : free ≤ k
     closing-free = omega (arith, c .next, c .low, length-staying table numbers first (k - first))
 
-    pub closing-number : k < 1024
+    pub closing-number : k < entryLimit
     closing-number = omega (arith, r .count, r .port)
 
     room : recordStart first + entrySize * length kept ≤ recordStart k

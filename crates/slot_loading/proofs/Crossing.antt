@@ -22,7 +22,7 @@ use Rattle.model.specs.CodeSlackness.{apart}
 use Rattle.model.proofs.PhaseLimits.{apart-e}
 use Rattle.model.proofs.WaitingOrder.{crosspoint-i}
 use Rattle.layout.specs.Entry.{entryAt}
-use Rattle.layout.specs.Table.{placeOf, IsTable}
+use Rattle.layout.specs.Table.{placeOf, IsTable, entryLimit}
 use Rattle.layout.specs.Code.{portsIn}
 use Rattle.layout_table.specs.CodeEntries.{nowhere}
 use Rattle.slot_view.specs.CodeView.{waitingAt, waitingIn, InTable, crosspointAt, placesIn}
@@ -101,7 +101,7 @@ module _ (table : List ℕ) (good : IsTable table) where
     input : ℕ
     input = k / sectionRoom
 
-    small : k < 1024
+    small : k < entryLimit
     small = inTable-below (table-readable table good) (h .entry)
 
     port : input < 16
@@ -178,14 +178,14 @@ module _ (table : List ℕ) (good : IsTable table) where
         Real i o n =
             Crossed table (placesIn table) n × (n / sectionRoom ≡ i) × (entryAt table n .cell .output ≡ o)
 
-        real : (i o : ℕ) → i < 16 → o < 16 → At i o → crosspointAt new i o < 1024 → Real i o (crosspointAt new i o)
+        real : (i o : ℕ) → i < 16 → o < 16 → At i o → crosspointAt new i o < entryLimit → Real i o (crosspointAt new i o)
         real i o li lo (here p q) l =
             subst (Real i o)
             (sym (ap₂ (crosspointAt new) p q ∙ put-same cross (c .square) input output k port column))
             (h, sym p, sym own ∙ sym q)
         real i o li lo (elsewhere d) l =
             let kept = put-other cross (c .square) input output k port i o d in
-            subst (Real i o) (sym kept) (c .real i o li lo (subst (λ n. n < 1024) kept l))
+            subst (Real i o) (sym kept) (c .real i o li lo (subst (λ n. n < entryLimit) kept l))
 
 ------------------------------------------------------------------------
 -- the loop over the crossed cells of an input

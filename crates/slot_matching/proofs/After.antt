@@ -18,6 +18,8 @@ use Rattle.laws.proofs.Lists.{none?-i}
 use Rattle.laws.proofs.Count.{count-split, count-ext, count-zero}
 use Rattle.cell.specs.Order.{over}
 use Rattle.matching.proofs.Refusing.{refusing-part}
+use Rattle.layout.specs.Table.{entryLimit}
+use Rattle.layout_table.specs.CodeEntries.{nowhere}
 use Rattle.slot_matching.specs.CodeFound.{numbersOf, cellAt, outputAt, overAt, ToOutputs}
 use Rattle.slot_matching.specs.CodeProposing.{without, Proposed, kept, wins, loses}
 use Rattle.slot_matching.proofs.Numbers.{isIn, mem-numbersOf, numbersOf-once, overAt-i, overAt-total, proposed-one}
@@ -77,7 +79,7 @@ module _ (table candidates : List ℕ) (to : ToOutputs table (numbersOf candidat
   abbrev Proposal : List ℕ → ℕ → Type 0
   Proposal = lefts.Proposal overs
 
-  module _ (left held : List ℕ) (n k made : ℕ) (a : Asking table candidates left held n k made) (h : k < 1024) where
+  module _ (left held : List ℕ) (n k made : ℕ) (a : Asking table candidates left held n k made) (h : k < entryLimit) where
     open Asks (a .asks h) using (proposal, free, early)
 
     abbrev o : ℕ
@@ -116,22 +118,22 @@ module _ (table candidates : List ℕ) (to : ToOutputs table (numbersOf candidat
     taken-k : getD held′ o 0 ≡ k
     taken-k = getD-set-same held o k 0 (rw (a .size) o-small)
 
-    taken-le : (p : ℕ) → p < 16 → getD held′ p 0 ≤ 1024
+    taken-le : (p : ℕ) → p < 16 → getD held′ p 0 ≤ entryLimit
     taken-le p b = go (held-at p)
       where
-        go : SetAt held o k p → getD held′ p 0 ≤ 1024
+        go : SetAt held o k p → getD held′ p 0 ≤ entryLimit
         go (inl w) = omega arith
         go (inr w) = omega (arith, a .held-le p b)
 
     taken-holds : (l : List ℕ) → Proposal l k
-        → ((p : ℕ) → p < 16 → p ≢ o → getD held p 0 < 1024 → Proposal l (getD held p 0))
-        → (p : ℕ) → p < 16 → getD held′ p 0 < 1024 → Holds table l n p (getD held′ p 0)
+        → ((p : ℕ) → p < 16 → p ≢ o → getD held p 0 < entryLimit → Proposal l (getD held p 0))
+        → (p : ℕ) → p < 16 → getD held′ p 0 < entryLimit → Holds table l n p (getD held′ p 0)
     taken-holds l here rest p b s = go (held-at p)
       where
         go : SetAt held o k p → Holds table l n p (getD held′ p 0)
         go (inl w) = rw (w .1) (record { proposal = here; here = sym (w .0); early = early })
         go (inr w) =
-            let t : getD held p 0 < 1024 = omega arith in
+            let t : getD held p 0 < entryLimit = omega arith in
             let v = a .holds p b t in
             rw (w .1) (record { proposal = rest p b (w .0) t; here = v .here; early = v .early })
 
@@ -159,7 +161,7 @@ module _ (table candidates : List ℕ) (to : ToOutputs table (numbersOf candidat
     ------------------------------------------------------------------------
     -- the three cases
 
-    after-kept : 1024 ≤ holder → Asking table candidates left held′ n 1024 (made + 1)
+    after-kept : nowhere ≤ holder → Asking table candidates left held′ n entryLimit (made + 1)
     after-kept f =
         record {
           sound = a .sound;
@@ -168,14 +170,14 @@ module _ (table candidates : List ℕ) (to : ToOutputs table (numbersOf candidat
           holds = taken-holds left proposal (λ p b e s. a .holds p b s .proposal);
           asks = λ s. absurd (omega arith);
           settled = λ c m b.
-              taken-settled c 1024 (λ q. omega (arith, proposal-small overs left m)) (a .settled c m b);
+              taken-settled c nowhere (λ q. omega (arith, proposal-small overs left m)) (a .settled c m b);
           counted =
               one-more left held′ (taken-asked left) (λ c m e.
               ap (λ b. not (isIn left c) || b)
               (taken-other c e (λ q. omega (arith, mem-numbersOf candidates m .0))));
         }
 
-    module _ (s : holder < 1024) where
+    module _ (s : holder < entryLimit) where
       held-by : Holds table left n o holder
       held-by = a .holds o o-small s
 
@@ -183,7 +185,7 @@ module _ (table candidates : List ℕ) (to : ToOutputs table (numbersOf candidat
       apart e = free (sym (proposed-one left overs proposal (held-by .proposal) e))
 
       -- what is proposed next is not held so far
-      next-unheld : (r : ℕ) → Next overs left r → next overs left r < 1024
+      next-unheld : (r : ℕ) → Next overs left r → next overs left r < entryLimit
           → getD held (out (next overs left r)) 0 ≢ next overs left r
       next-unheld r w b e =
           let i : out (next overs left r) < 16 =
@@ -216,7 +218,7 @@ module _ (table candidates : List ℕ) (to : ToOutputs table (numbersOf candidat
           new : ℕ
           new = next overs left holder
 
-          asks : new < 1024 → Asks table (without left holder) held′ n new
+          asks : new < entryLimit → Asks table (without left holder) held′ n new
           asks t =
               record {
                 proposal = v .proposal;

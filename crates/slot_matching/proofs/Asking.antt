@@ -15,6 +15,8 @@ use Rattle.laws.specs.Lists.{count}
 use Rattle.laws.proofs.Tests.{either, or-false, not-false-i}
 use Rattle.laws.proofs.Lists.{none?-i}
 use Rattle.laws.proofs.Count.{count-zero, count-le-length}
+use Rattle.layout.specs.Table.{entryLimit}
+use Rattle.layout_table.specs.CodeEntries.{nowhere}
 use Rattle.slot_matching.specs.CodeFound.{numbersOf, outputAt, overAt, ToOutputs}
 use Rattle.slot_matching.specs.CodeProposing.{nextIn}
 use Rattle.slot_matching.proofs.Numbers.{isIn, mem-numbersOf, numbersOf-few, next-proposed, proposed-next}
@@ -44,19 +46,19 @@ module _ (table : List ℕ) where
   pub record Asking (candidates left held : List ℕ) (n k made : ℕ) : Type 0 where
     pub sound : Left (overAt table) candidates left
     pub size : length held ≡ 16
-    pub held-le : (o : ℕ) → o < 16 → getD held o 0 ≤ 1024
-    pub holds : (o : ℕ) → o < 16 → getD held o 0 < 1024 → Holds left n o (getD held o 0)
-    pub asks : k < 1024 → Asks left held n k
+    pub held-le : (o : ℕ) → o < 16 → getD held o 0 ≤ entryLimit
+    pub holds : (o : ℕ) → o < 16 → getD held o 0 < entryLimit → Holds left n o (getD held o 0)
+    pub asks : k < entryLimit → Asks left held n k
     -- the next candidate of every other input that was asked is held
     pub settled : (c : ℕ) → Proposal (overAt table) left c → c / 64 < n → (getD held (out c) 0 ≡ c) ⊎ (c ≡ k)
     pub counted : made ≡ count (asked? left held) (numbersOf candidates)
 
   module _ (candidates : List ℕ) (to : ToOutputs table (numbersOf candidates)) where
-    pub asking-start : length candidates ≡ 16 → Asking candidates candidates (replicate 16 1024) 0 1024 0
+    pub asking-start : length candidates ≡ 16 → Asking candidates candidates (replicate 16 nowhere) 0 entryLimit 0
     asking-start h =
         record {
           sound = left-all (overAt table) candidates h;
-          size = length-replicate {A = ℕ} 16 1024;
+          size = length-replicate {A = ℕ} 16 nowhere;
           held-le = λ o b. omega (arith, unheld o b);
           holds = λ o b s. absurd (omega (arith, unheld o b));
           asks = λ s. absurd (omega arith);
@@ -64,17 +66,17 @@ module _ (table : List ℕ) where
           counted = sym (count-zero _ (numbersOf candidates) (none?-i _ (numbersOf candidates) unasked));
         }
       where
-        unheld : (o : ℕ) → o < 16 → _≡_ {A = ℕ} (getD (replicate 16 1024) o 0) 1024
-        unheld o b = getD-replicate 16 o 1024 0 b
+        unheld : (o : ℕ) → o < 16 → _≡_ {A = ℕ} (getD (replicate 16 nowhere) o 0) nowhere
+        unheld o b = getD-replicate 16 o nowhere 0 b
 
-        unasked : (k : ℕ) → List·Memᴰ k (numbersOf candidates) → asked? candidates (replicate 16 1024) k ≡ false
+        unasked : (k : ℕ) → List·Memᴰ k (numbersOf candidates) → asked? candidates (replicate 16 nowhere) k ≡ false
         unasked k m =
             let w = mem-numbersOf candidates m in
             or-false _ _ (not-false-i _ (w .1))
             (ne-eqb _ k (λ e. omega (arith, unheld (out k) (to .small k m), w .0)))
 
     module _ (left held : List ℕ) (n k made : ℕ) (a : Asking candidates left held n k made) where
-      pub asking-few : (made ≤ length (numbersOf candidates)) × (made ≤ 1024)
+      pub asking-few : (made ≤ length (numbersOf candidates)) × (made ≤ entryLimit)
       asking-few =
           let b : made ≤ length (numbersOf candidates) =
           rw (a .counted) (count-le-length (asked? left held) (numbersOf candidates)) in
@@ -83,10 +85,10 @@ module _ (table : List ℕ) where
       pub output-small : {c : ℕ} → Proposal (overAt table) left c → out c < 16
       output-small {c} m = to .small c (in-all (overAt table) (a .sound) m)
 
-      pub asked-output : k < 1024 → out k < 16
+      pub asked-output : k < entryLimit → out k < 16
       asked-output h = output-small (a .asks h .proposal)
 
-      pub asking-next : 1024 ≤ k → n < 16 → Asking candidates left held (n + 1) (nextIn (getD left n 0) n) made
+      pub asking-next : nowhere ≤ k → n < 16 → Asking candidates left held (n + 1) (nextIn (getD left n 0) n) made
       asking-next last h =
           record {
             sound = a .sound;
@@ -104,7 +106,7 @@ module _ (table : List ℕ) where
           next = nextIn (getD left n 0) n
 
           -- nobody holds a candidate of this input
-          asks : next < 1024 → Asks left held (n + 1) next
+          asks : next < entryLimit → Asks left held (n + 1) next
           asks s =
               let w = next-proposed left (overAt table) n h s in
               record {

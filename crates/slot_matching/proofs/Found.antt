@@ -17,6 +17,8 @@ use Rattle.matching.specs.Stable.{AtRest}
 use Rattle.matching.proofs.Proposed.{proposed-keeps, mem-proposed-none, none?-proposed}
 use Rattle.matching.proofs.Refusing.{refusing-proposed}
 use Rattle.matching.proofs.Matching.{matched-any-order}
+use Rattle.layout.specs.Table.{entryLimit}
+use Rattle.layout_table.specs.CodeEntries.{nowhere}
 use Rattle.slot_matching.specs.CodeFound.{numbersOf, aheadAt, outputAt, overAt, ToOutputs, Found}
 use Rattle.slot_matching.proofs.Numbers.{isIn, numbersOf-mem, mem-numbersOf}
 use Rattle.slot_matching.proofs.Numbers.{aheadAt-strict, overAt-output, overAt-strict}
@@ -25,7 +27,7 @@ use Rattle.slot_matching.proofs.Left as lefts
 use Rattle.slot_matching.proofs.Asking.{asked?, Asking, asking-few}
 
 module _ (table candidates : List ℕ) (to : ToOutputs table (numbersOf candidates)) (left held : List ℕ) (k made : ℕ)
-    (a : Asking table candidates left held 16 k made) (last : 1024 ≤ k) where
+    (a : Asking table candidates left held 16 k made) (last : nowhere ≤ k) where
   abbrev all : List ℕ
   all = numbersOf candidates
 
@@ -41,7 +43,7 @@ module _ (table candidates : List ℕ) (to : ToOutputs table (numbersOf candidat
   -- what is held is what is proposed
   proposal-held : {c : ℕ} → Proposal c → getD held (out c) 0 ≡ c
   proposal-held {c} m =
-      let b : c < 1024 = proposal-small overs left m in
+      let b : c < entryLimit = proposal-small overs left m in
       go (a .settled c m (omega arith))
     where
       go : (getD held (out c) 0 ≡ c) ⊎ (c ≡ k) → getD held (out c) 0 ≡ c
@@ -87,8 +89,8 @@ module _ (table candidates : List ℕ) (to : ToOutputs table (numbersOf candidat
           (numbersOf-mem left c (mem-numbersOf candidates m .0) i) t))))
       back t (inr f) = or-l (not (isIn left c)) _ (not-i (isIn left c) f)
 
-  held-any : (c : ℕ) → List·Memᴰ c all → getD held (out c) 1024 ≡ getD held (out c) 0
-  held-any c m = getD-any held (out c) 1024 0 (rw (a .size) (to .small c m))
+  held-any : (c : ℕ) → List·Memᴰ c all → getD held (out c) entryLimit ≡ getD held (out c) 0
+  held-any c m = getD-any held (out c) entryLimit 0 (rw (a .size) (to .small c m))
 
   pub found : Found table candidates held made
   unfolding proposals
@@ -118,7 +120,7 @@ module _ (table candidates : List ℕ) (to : ToOutputs table (numbersOf candidat
       part = refusing-proposed aheadAt overs (a .sound .refusing)
 
       isHeld : ℕ → Bool
-      isHeld c = eqb (getD held (out c) 1024) c
+      isHeld c = eqb (getD held (out c) entryLimit) c
 
       into : (c : ℕ) → Proposal c → List·Memᴰ c (keep isHeld all)
       into c m =
@@ -128,10 +130,10 @@ module _ (table candidates : List ℕ) (to : ToOutputs table (numbersOf candidat
       back : (c : ℕ) → List·Memᴰ c all × (isHeld c ≡ true) → Proposal c
       back c w = held-proposal (w .0) (sym (held-any c (w .0)) ∙ eqb-true _ c (w .1))
 
-      held-le : (o : ℕ) → (ltb o 16 ≡ true) ⊎ (ltb o 16 ≡ false) → getD held o 1024 ≤ 1024
+      held-le : (o : ℕ) → (ltb o 16 ≡ true) ⊎ (ltb o 16 ≡ false) → getD held o nowhere ≤ entryLimit
       held-le o (inl t) =
           let b : o < 16 = ltb-true o 16 t in
-          omega (arith, getD-any held o 1024 0 (rw (a .size) b), a .held-le o b)
+          omega (arith, getD-any held o entryLimit 0 (rw (a .size) b), a .held-le o b)
       held-le o (inr f) =
           let b : 16 ≤ o = ltb-false o 16 f in
-          omega (arith, List·getD-eq-default held 1024 {n = o} (rw (a .size) b))
+          omega (arith, List·getD-eq-default held entryLimit {n = o} (rw (a .size) b))

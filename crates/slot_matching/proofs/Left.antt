@@ -17,6 +17,7 @@ use Rattle.matching.specs.Matching.{proposed}
 use Rattle.matching.specs.Stable.{Refusing, stop}
 use Rattle.matching.proofs.Proposed.{proposed-keeps, mem-proposed-in, mem-proposed-none, proposed-part}
 use Rattle.matching.proofs.Refusing.{refusing-part, refusing-more}
+use Rattle.layout.specs.Table.{entryLimit}
 use Rattle.slot_matching.specs.CodeFound.{numbersOf, aheadAt}
 use Rattle.slot_matching.specs.CodeProposing.{nextIn, rest, without}
 use Rattle.slot_matching.proofs.Numbers.{isIn, mem-numbersOf}
@@ -31,7 +32,7 @@ module _ (over : ℕ → ℕ → Bool) where
   pub in-left : (left : List ℕ) {k : ℕ} → Proposal left k → List·Memᴰ k (numbersOf left)
   in-left left m = mem-proposed-in aheadAt over (numbersOf left) m
 
-  pub proposal-small : (left : List ℕ) {k : ℕ} → Proposal left k → k < 1024
+  pub proposal-small : (left : List ℕ) {k : ℕ} → Proposal left k → k < entryLimit
   proposal-small left m = mem-numbersOf left (in-left left m) .0
 
   pub record Left (candidates left : List ℕ) : Type 0 where
@@ -64,7 +65,7 @@ module _ (over : ℕ → ℕ → Bool) where
     pub left′ : Left candidates (without left r)
     pub stays : (c : ℕ) → Proposal left c → c ≢ r → Proposal (without left r) c
     pub was : (c : ℕ) → Proposal (without left r) c → (c ≡ next left r) ⊎ (Proposal left c × (c / 64 ≢ r / 64))
-    pub goes-on : next left r < 1024 → Next left r
+    pub goes-on : next left r < entryLimit → Next left r
     pub gone : isIn (without left r) r ≡ false
     pub kept : (c : ℕ) → c ≢ r → isIn (without left r) c ≡ isIn left c
 
@@ -76,7 +77,7 @@ module _ (over : ℕ → ℕ → Bool) where
     other : ℕ → Bool
     other c = not (eqb c r)
 
-    small : r < 1024
+    small : r < entryLimit
     small = proposal-small left mine
 
     others : numbersOf fewer ≡ keep other (numbersOf left)
@@ -158,7 +159,7 @@ module _ (over : ℕ → ℕ → Bool) where
             f : c / 64 ≢ r / 64
             f = eqb-false (c / 64) (r / 64) e
 
-        goes-on : next left r < 1024 → Next left r
+        goes-on : next left r < entryLimit → Next left r
         goes-on h =
             record {
               proposal = w .0;

@@ -32,6 +32,8 @@ use Rattle.cell.proofs.Order.{over-irrefl, over-trans, over-total}
 use Rattle.layout.proofs.Records.{entryAt-input}
 use Rattle.matching.specs.Matching.{proposed}
 use Rattle.matching.proofs.Proposed.{proposed-keeps, mem-proposed-in, mem-proposed-first}
+use Rattle.layout.specs.Table.{entryLimit}
+use Rattle.layout_table.specs.CodeEntries.{nowhere}
 use Rattle.slot_matching.specs.CodeFound.{numbersIn, numbersOf, aheadAt, cellAt, outputAt, overAt}
 use Rattle.slot_matching.specs.CodeProposing.{nextIn, rest, without}
 
@@ -75,25 +77,25 @@ module _ (s : List ℕ) where
       ∙ sym (keep-append (isIn s) (numbersFrom 0 (64 * n)) (numbersFrom (0 + 64 * n) 64))
       ∙ ap (keep (isIn s)) (sym (numbersFrom-add 0 (64 * n) 64) ∙ ap (numbersFrom 0) more)
 
-  pub numbersOf-keep : numbersOf s ≡ keep (isIn s) (upTo 1024)
+  pub numbersOf-keep : numbersOf s ≡ keep (isIn s) (upTo entryLimit)
   unfolding numbersOf own
   numbersOf-keep = ownTo-keep 16
 
-  pub numbersOf-mem : (k : ℕ) → k < 1024 → isIn s k ≡ true → List·Memᴰ k (numbersOf s)
+  pub numbersOf-mem : (k : ℕ) → k < entryLimit → isIn s k ≡ true → List·Memᴰ k (numbersOf s)
   unfolding upTo
-  numbersOf-mem k b h = rw numbersOf-keep (keep-mem (isIn s) (numbersFrom-mem 0 1024 (omega arith) b) h)
+  numbersOf-mem k b h = rw numbersOf-keep (keep-mem (isIn s) (numbersFrom-mem 0 entryLimit (omega arith) b) h)
 
-  pub mem-numbersOf : {k : ℕ} → List·Memᴰ k (numbersOf s) → (k < 1024) × (isIn s k ≡ true)
+  pub mem-numbersOf : {k : ℕ} → List·Memᴰ k (numbersOf s) → (k < entryLimit) × (isIn s k ≡ true)
   unfolding upTo
   mem-numbersOf m =
-      let w = mem-keep (isIn s) (numbersFrom 0 1024) (rw numbersOf-keep at m) in
-      (omega (arith, mem-numbersFrom 0 1024 (w .0)), w .1)
+      let w = mem-keep (isIn s) (numbersFrom 0 entryLimit) (rw numbersOf-keep at m) in
+      (omega (arith, mem-numbersFrom 0 entryLimit (w .0)), w .1)
 
-  pub numbersOf-few : length (numbersOf s) ≤ 1024
+  pub numbersOf-few : length (numbersOf s) ≤ entryLimit
   unfolding upTo
   numbersOf-few =
-      rw (numbersOf-keep, length-keep (isIn s) (numbersFrom 0 1024))
-      (omega (arith, count-le-length (isIn s) (numbersFrom 0 1024), length-numbersFrom 0 1024))
+      rw (numbersOf-keep, length-keep (isIn s) (numbersFrom 0 entryLimit))
+      (omega (arith, count-le-length (isIn s) (numbersFrom 0 entryLimit), length-numbersFrom 0 entryLimit))
 
   pub numbersOf-once : (k : ℕ) → List·Memᴰ k (numbersOf s) → count (λ l. eqb l k) (numbersOf s) ≡ 1
   unfolding upTo
@@ -103,7 +105,7 @@ module _ (s : List ℕ) where
       rising : pairwise ltb (numbersOf s) ≡ true
       rising =
           rw numbersOf-keep
-          (pairwise-keep ltb (isIn s) (numbersFrom 0 1024) (numbersFrom-rising 0 1024))
+          (pairwise-keep ltb (isIn s) (numbersFrom 0 entryLimit) (numbersFrom-rising 0 entryLimit))
 
       apart : pairwise (λ x y. not (eqb x k && eqb y k)) (numbersOf s) ≡ true
       apart =
@@ -119,7 +121,7 @@ module _ (s : List ℕ) where
 ------------------------------------------------------------------------
 -- one is taken away
 
-module _ (s : List ℕ) (k : ℕ) (size : length s ≡ 16) (small : k < 1024) where
+module _ (s : List ℕ) (k : ℕ) (size : length s ≡ 16) (small : k < entryLimit) where
   pub without-own : getD (without s k) (k / 64) 0 ≡ rest s k
   unfolding without
   without-own = getD-set-same s (k / 64) (rest s k) 0 (rw size (omega arith))
@@ -148,8 +150,8 @@ module _ (s : List ℕ) (k : ℕ) (size : length s ≡ 16) (small : k < 1024) wh
   numbersOf-without =
       numbersOf-keep (without s k)
       ∙ sym (ap (keep (λ l. not (eqb l k))) (numbersOf-keep s)
-      ∙ keep-keep (isIn s) (λ l. not (eqb l k)) (upTo 1024)
-      ∙ keep-ext _ (isIn (without s k)) (upTo 1024) (λ l m. sym (isIn-without l)))
+      ∙ keep-keep (isIn s) (λ l. not (eqb l k)) (upTo entryLimit)
+      ∙ keep-ext _ (isIn (without s k)) (upTo entryLimit) (λ l m. sym (isIn-without l)))
 
 pub length-without : (s : List ℕ) (k : ℕ) → length (without s k) ≡ length s
 unfolding without
@@ -220,13 +222,13 @@ module _ (table : List ℕ) where
 ------------------------------------------------------------------------
 -- the proposals are the first of each input
 
-pub next-none : (i : ℕ) → nextIn 0 i ≡ 1024
+pub next-none : (i : ℕ) → nextIn 0 i ≡ entryLimit
 unfolding nextIn numbersIn
-next-none i = ap (λ l. headOr 1024 (map (λ j. 64 * i + j) l)) members-none
+next-none i = ap (λ l. headOr nowhere (map (λ j. 64 * i + j) l)) members-none
 
 pub next-some : (s i : ℕ) → 0 < s → s < 2 ^ 64 → nextIn s i ≡ 64 * i + firstOf s
 unfolding nextIn numbersIn
-next-some s i some fits = ap (λ l. headOr 1024 (map (λ j. 64 * i + j) l)) (members-cons s some fits)
+next-some s i some fits = ap (λ l. headOr nowhere (map (λ j. 64 * i + j) l)) (members-cons s some fits)
 
 module _ (s : List ℕ) where
   own-rising : (i : ℕ) → pairwise ltb (own s i) ≡ true
@@ -253,13 +255,13 @@ module _ (s : List ℕ) where
       go (inr j) = inr (ltb-true x k (pairwise-head ltb (rw e at (own-rising i)) j))
 
   module _ (over : ℕ → ℕ → Bool) where
-    pub next-proposed : (i : ℕ) → i < 16 → nextIn (getD s i 0) i < 1024
+    pub next-proposed : (i : ℕ) → i < 16 → nextIn (getD s i 0) i < entryLimit
         → List·Memᴰ (nextIn (getD s i 0) i) (proposed aheadAt over (numbersOf s)) × (nextIn (getD s i 0) i / 64 ≡ i)
     unfolding nextIn own
     next-proposed i b = go (own s i) refl
       where
-        go : (l : List ℕ) → own s i ≡ l → headOr 1024 l < 1024
-            → List·Memᴰ (headOr 1024 l) (proposed aheadAt over (numbersOf s)) × (headOr 1024 l / 64 ≡ i)
+        go : (l : List ℕ) → own s i ≡ l → headOr nowhere l < entryLimit
+            → List·Memᴰ (headOr nowhere l) (proposed aheadAt over (numbersOf s)) × (headOr nowhere l / 64 ≡ i)
         go [] e h = absurd (omega arith)
         go (x ∷ l) e h = (rw (proposed-keeps aheadAt over (numbersOf s)) (keep-mem _ here none), w .0)
           where
@@ -287,7 +289,7 @@ module _ (s : List ℕ) where
         here : List·Memᴰ k (own s (k / 64))
         here = own-mem (mem-proposed-in aheadAt over (numbersOf s) m)
 
-        go : (l : List ℕ) → own s (k / 64) ≡ l → k ≡ headOr 1024 l
+        go : (l : List ℕ) → own s (k / 64) ≡ l → k ≡ headOr nowhere l
         go [] e = absurd (List·Memᴰ·not-nil (rw e at here))
         go (x ∷ l) e = first (first-le (k / 64) x l e here)
           where
@@ -297,7 +299,7 @@ module _ (s : List ℕ) where
             first : (k ≡ x) ⊎ (x < k) → k ≡ x
             first (inl q) = q
             first (inr q) =
-                let b : x < 1024 = omega (arith, mem-numbersOf s (mem-proposed-in aheadAt over (numbersOf s) m) .0) in
+                let b : x < entryLimit = omega (arith, mem-numbersOf s (mem-proposed-in aheadAt over (numbersOf s) m) .0) in
                 absurd (clash (aheadAt-i x k (w .0) q)
                 (mem-proposed-first aheadAt over (numbersOf s) m (numbersOf-mem s x b (w .1))))
 

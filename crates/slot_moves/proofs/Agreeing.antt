@@ -13,7 +13,7 @@ use Rattle.laws.proofs.Tests.{either, clash}
 use Rattle.cell.specs.Limits.{sectionRoom}
 use Rattle.model.specs.State.{isCrossed}
 use Rattle.layout.specs.Entry.{entryAt}
-use Rattle.layout.specs.Table.{placeOf, entryOf}
+use Rattle.layout.specs.Table.{placeOf, entryOf, entryLimit}
 use Rattle.layout_table.specs.CodeEntries.{nowhere}
 use Rattle.slot_view.specs.CodeView.{waitingAt, crosspointAt, InTable, Agrees, Square}
 use Rattle.slot_view.specs.CodeScan.{Readable}
@@ -146,7 +146,7 @@ module _ {table : List ℕ} (r : Readable table) (places : List ℕ) (cross : Li
 
   -- each number at a crosspoint stands there by right
   abbrev Real : Type 0
-  Real = (i o : ℕ) → i < 16 → o < 16 → crosspointAt cross i o < 1024 → Stands table places i o (crosspointAt cross i o)
+  Real = (i o : ℕ) → i < 16 → o < 16 → crosspointAt cross i o < entryLimit → Stands table places i o (crosspointAt cross i o)
 
   pub agrees-filled : Agrees table places cross → Filled
   unfolding waitingAt entryAt entryOf
@@ -199,8 +199,8 @@ module _ {table : List ℕ} (r : Readable table) where
   ------------------------------------------------------------------------
   -- cells that go from the lists to the buffers
 
-  pub agrees-straight : (f : ℕ → ℕ) (n : ℕ) (places : List ℕ) (cross : List (List ℕ)) → length places ≡ 1024
-      → Agrees table places cross → ((i : ℕ) → i < n → f i < 1024 → crossedAt places (f i) ≡ false)
+  pub agrees-straight : (f : ℕ → ℕ) (n : ℕ) (places : List ℕ) (cross : List (List ℕ)) → length places ≡ entryLimit
+      → Agrees table places cross → ((i : ℕ) → i < n → f i < entryLimit → crossedAt places (f i) ≡ false)
       → Agrees table (written f 3 n places) cross
   agrees-straight f n places cross size a out = agrees-i r (written f 3 n places) cross filled real
     where
@@ -228,7 +228,7 @@ module _ {table : List ℕ} (r : Readable table) where
   ------------------------------------------------------------------------
   -- a cell that is sent to its empty crosspoint
 
-  module _ (places : List ℕ) (cross : List (List ℕ)) (size : length places ≡ 1024) (square : Square cross)
+  module _ (places : List ℕ) (cross : List (List ℕ)) (size : length places ≡ entryLimit) (square : Square cross)
       (a : Agrees table places cross) {k : ℕ} (entry : InTable table k) where
     abbrev i : ℕ
     i = k / sectionRoom
@@ -242,7 +242,7 @@ module _ {table : List ℕ} (r : Readable table) where
     row : i < 16
     row = let b = r .ports in let c = entry .input in omega arith
 
-    pub agrees-send : crossedAt places k ≡ false → 1024 ≤ crosspointAt cross i o
+    pub agrees-send : crossedAt places k ≡ false → nowhere ≤ crosspointAt cross i o
         → Agrees table (set places k 2) (put cross i o k)
     agrees-send out empty = agrees-i r (set places k 2) (put cross i o k) filled real
       where
@@ -257,7 +257,7 @@ module _ {table : List ℕ} (r : Readable table) where
                 put-other cross square i o k (j / sectionRoom) (outputAt table j) row
                 (λ p q.
                 let same : crosspointAt cross i o ≡ j = (rw (p, q) at old) in
-                let small : j < 1024 = inTable-below r e in
+                let small : j < entryLimit = inTable-below r e in
                 omega arith)
                 ∙ old
 
@@ -331,39 +331,39 @@ module _ {table : List ℕ} (r : Readable table) where
   -- a cell for each input, sent to its empty crosspoint
 
   abbrev pub Sendable : List ℕ → List (List ℕ) → (ℕ → ℕ) → ℕ → Type 0
-  Sendable places cross f n = (i : ℕ) → i < n → f i < 1024
+  Sendable places cross f n = (i : ℕ) → i < n → f i < entryLimit
       → InTable table (f i)
       × (f i / sectionRoom ≡ i)
       × (crossedAt places (f i) ≡ false)
-      × (1024 ≤ crosspointAt cross i (outputAt table (f i)))
+      × (nowhere ≤ crosspointAt cross i (outputAt table (f i)))
 
   -- a cell for each output, at a crosspoint of it
   abbrev pub Pullable : List ℕ → (ℕ → ℕ) → ℕ → Type 0
-  Pullable places f n = (o : ℕ) → o < n → f o < 1024
+  Pullable places f n = (o : ℕ) → o < n → f o < entryLimit
       → InTable table (f o) × (crossedAt places (f o) ≡ true) × (outputAt table (f o) ≡ o)
 
-  module _ (f : ℕ → ℕ) (cross : List (List ℕ)) (square : Square cross) (places : List ℕ) (size : length places ≡ 1024)
+  module _ (f : ℕ → ℕ) (cross : List (List ℕ)) (square : Square cross) (places : List ℕ) (size : length places ≡ entryLimit)
       (a : Agrees table places cross) where
-    length-now : (v n : ℕ) → length (written f v n places) ≡ 1024
+    length-now : (v n : ℕ) → length (written f v n places) ≡ entryLimit
     length-now v n = length-written f v n places ∙ size
 
-    module _ {n : ℕ} (s : Sendable places cross f (suc n)) (small : f n < 1024) where
+    module _ {n : ℕ} (s : Sendable places cross f (suc n)) (small : f n < entryLimit) where
       -- those sent before are of other inputs
       sent-other : (j : ℕ) → j < n → f j / sectionRoom ≢ f n / sectionRoom
-      sent-other j p e = far (either (ltb (f j) 1024))
+      sent-other j p e = far (either (ltb (f j) entryLimit))
         where
-          far : (ltb (f j) 1024 ≡ true) ⊎ (ltb (f j) 1024 ≡ false) → ⊥
+          far : (ltb (f j) entryLimit ≡ true) ⊎ (ltb (f j) entryLimit ≡ false) → ⊥
           far (inl b) =
               let c = s j (omega arith) (ltb-true _ _ b) .1 in
               let d = s n (omega arith) small .1 in
               omega arith
           far (inr b) =
-              let c : 1024 ≤ f j = ltb-false _ _ b in
+              let c : nowhere ≤ f j = ltb-false _ _ b in
               let d = s n (omega arith) small .1 in
               omega arith
 
       -- so the crosspoint of the next is still empty
-      pub sent-empty : 1024 ≤ crosspointAt (sending table f n cross) (f n / sectionRoom) (outputAt table (f n))
+      pub sent-empty : nowhere ≤ crosspointAt (sending table f n cross) (f n / sectionRoom) (outputAt table (f n))
       sent-empty =
           let w = s n (omega arith) small in
           rw (sending-row table f cross square n (f n / sectionRoom) (outputAt table (f n)) sent-other, w .1) (w .3)
@@ -372,9 +372,9 @@ module _ {table : List ℕ} (r : Readable table) where
         → Agrees table (written f 2 n places) (sending table f n cross)
     unfolding written sending
     agrees-sending zero l s = a
-    agrees-sending (suc n) l s = go (either (ltb (f n) 1024)) (agrees-sending n (omega arith) (λ i p. s i (omega arith)))
+    agrees-sending (suc n) l s = go (either (ltb (f n) entryLimit)) (agrees-sending n (omega arith) (λ i p. s i (omega arith)))
       where
-        go : (ltb (f n) 1024 ≡ true) ⊎ (ltb (f n) 1024 ≡ false)
+        go : (ltb (f n) entryLimit ≡ true) ⊎ (ltb (f n) entryLimit ≡ false)
             → Agrees table (written f 2 n places) (sending table f n cross)
             → Agrees table (set (written f 2 n places) (f n) 2)
             (put (sending table f n cross) (f n / sectionRoom) (outputAt table (f n)) (f n))
@@ -383,19 +383,19 @@ module _ {table : List ℕ} (r : Readable table) where
             (square-sending table f cross square n) rec
             (w .0) (crossed-miss f 2 n places (f n) miss ∙ w .2) (sent-empty s small)
           where
-            small : f n < 1024
+            small : f n < entryLimit
             small = ltb-true _ _ t
 
             w : InTable table (f n)
                 × (f n / sectionRoom ≡ n)
                 × (crossedAt places (f n) ≡ false)
-                × (1024 ≤ crosspointAt cross n (outputAt table (f n)))
+                × (nowhere ≤ crosspointAt cross n (outputAt table (f n)))
             w = s n (omega arith) small
 
             miss : hit f n (f n) ≡ false
             miss = hit-miss f n (f n) (λ j p e. sent-other s small j p (ap (λ x. x / sectionRoom) e))
         go (inr t) rec =
-            let past : 1024 ≤ f n = ltb-false _ _ t in
+            let past : nowhere ≤ f n = ltb-false _ _ t in
             let end : length (written f 2 n places) ≤ f n = (let b = length-now 2 n in omega arith) in
             let beyond : 16 ≤ f n / sectionRoom = omega arith in
             rw (
@@ -408,9 +408,9 @@ module _ {table : List ℕ} (r : Readable table) where
         → Agrees table (written f 3 n places) (pulling f n cross)
     unfolding written pulling
     agrees-pulling zero l s = a
-    agrees-pulling (suc n) l s = go (either (ltb (f n) 1024)) (agrees-pulling n (omega arith) (λ i p. s i (omega arith)))
+    agrees-pulling (suc n) l s = go (either (ltb (f n) entryLimit)) (agrees-pulling n (omega arith) (λ i p. s i (omega arith)))
       where
-        go : (ltb (f n) 1024 ≡ true) ⊎ (ltb (f n) 1024 ≡ false)
+        go : (ltb (f n) entryLimit ≡ true) ⊎ (ltb (f n) entryLimit ≡ false)
             → Agrees table (written f 3 n places) (pulling f n cross)
             → Agrees table (set (written f 3 n places) (f n) 3) (put (pulling f n cross) (f n / sectionRoom) n nowhere)
         go (inl t) rec =
@@ -425,12 +425,12 @@ module _ {table : List ℕ} (r : Readable table) where
             miss : hit f n (f n) ≡ false
             miss =
                 hit-miss f n (f n) (λ j p e.
-                let b : f j < 1024 = (let c = ltb-true _ _ t in rw e c) in
+                let b : f j < entryLimit = (let c = ltb-true _ _ t in rw e c) in
                 let c : outputAt table (f j) ≡ j = s j (omega arith) b .2 in
                 let d : j ≡ n = sym c ∙ ap (outputAt table) e ∙ w .2 in
                 omega arith)
         go (inr t) rec =
-            let past : 1024 ≤ f n = ltb-false _ _ t in
+            let past : nowhere ≤ f n = ltb-false _ _ t in
             let end : length (written f 3 n places) ≤ f n = (let b = length-now 3 n in omega arith) in
             let beyond : 16 ≤ f n / sectionRoom = omega arith in
             rw (

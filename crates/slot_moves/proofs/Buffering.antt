@@ -18,7 +18,7 @@ use Rattle.model.specs.Phase.{Waiting, beats}
 use Rattle.model.specs.CodeSlackness.{Orderly}
 use Rattle.model.proofs.WaitingOrder.{beats-total, beats-over}
 use Rattle.layout.specs.Entry.{entryAt}
-use Rattle.layout.specs.Table.{placeOf}
+use Rattle.layout.specs.Table.{placeOf, entryLimit}
 use Rattle.layout_table.specs.CodeEntries.{nowhere}
 use Rattle.slot_view.specs.CodeChoices.{BestAmong}
 use Rattle.slot_view.specs.CodeScan.{Readable}
@@ -65,7 +65,7 @@ module _ {table : List ℕ} (r : Readable table) (start : List ℕ) (orderly : O
   ------------------------------------------------------------------------
   -- a cell that goes to its buffer
 
-  module _ (places : List ℕ) (size : length places ≡ 1024) {k : ℕ} (entry : InTable table k)
+  module _ (places : List ℕ) (size : length places ≡ entryLimit) {k : ℕ} (entry : InTable table k)
       (out : bufferedAt places k ≡ false) where
     abbrev places′ : List ℕ
     places′ = set places k 3
@@ -118,7 +118,7 @@ module _ {table : List ℕ} (r : Readable table) (start : List ℕ) (orderly : O
   ------------------------------------------------------------------------
   -- cells that go to the buffers, one after the other
 
-  module _ (f : ℕ → ℕ) (places : List ℕ) (size : length places ≡ 1024) (best : List ℕ) (b : BestBuffered table places best) where
+  module _ (f : ℕ → ℕ) (places : List ℕ) (size : length places ≡ entryLimit) (best : List ℕ) (b : BestBuffered table places best) where
     pub buffered-entering : (n : ℕ) → ((a : ℕ) → a < n → f a < nowhere → InTable table (f a))
         → ((a : ℕ) → a < n → f a < nowhere → bufferedAt places (f a) ≡ false)
         → ((a c : ℕ) → a < c → c < n → f c < nowhere → f a ≢ f c)

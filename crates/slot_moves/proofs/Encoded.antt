@@ -25,7 +25,7 @@ use Rattle.model.proofs.Shapes.{length-number, waiting-injective}
 use Rattle.model.proofs.SoundLaws.{SoundTable, sound-e, sound-i}
 use Rattle.model.proofs.SoundPhase.{phase-sound}
 use Rattle.layout.specs.Entry.{countIn}
-use Rattle.layout.specs.Table.{tableSize, encode, stateOf, IsTable}
+use Rattle.layout.specs.Table.{tableSize, encode, stateOf, IsTable, entryLimit}
 use Rattle.layout.proofs.Table.{decode-sound, decode-encode, stateOf-encode, encode-decode}
 use Rattle.layout.specs.Code.{portsIn}
 use Rattle.layout_table.specs.CodeEntries.{nowhere}
@@ -83,7 +83,7 @@ module _ (table : List ℕ) (good : IsTable table) where
         sections = sym (own-sections table good) z;
       }))
 
-  module _ (f : ℕ → ℕ) (v : ℕ) (low : 1 ≤ v) (high : v ≤ 3) (places : List ℕ) (size : length places ≡ 1024) (now : List ℕ)
+  module _ (f : ℕ → ℕ) (v : ℕ) (low : 1 ≤ v) (high : v ≤ 3) (places : List ℕ) (size : length places ≡ entryLimit) (now : List ℕ)
       (whole : length now ≡ tableSize) (is : now ≡ encode (statePlaced table places)) where
     pub encode-placing : (n : ℕ) → ((a : ℕ) → a < n → f a < nowhere → InTable table (f a))
         → placing f v n now ≡ encode (statePlaced table (written f v n places))

@@ -19,6 +19,7 @@ use Rattle.model.specs.Phase.{crosspoints}
 use Rattle.layout.specs.Entry.{entryAt}
 use Rattle.layout.proofs.Records.{entryAt-input}
 use Rattle.layout.specs.Code.{portsIn}
+use Rattle.layout.specs.Table.{entryLimit}
 use Rattle.layout_table.specs.CodeEntries.{nowhere, betterOf}
 use Rattle.layout_table.proofs.Better.{better-none}
 use Rattle.slot_view.specs.CodeView.{inTable, crosspointAt, InTable, Agrees, Square}
@@ -82,7 +83,7 @@ module _ {table : List ℕ} (r : Readable table) where
   -- a cell that is sent to its empty crosspoint
 
   module _ (places : List ℕ) (cross : List (List ℕ)) (square : Square cross) (a : Agrees table places cross) {k : ℕ}
-      (entry : InTable table k) (empty : 1024 ≤ crosspointAt cross (k / sectionRoom) (outputAt table k)) where
+      (entry : InTable table k) (empty : nowhere ≤ crosspointAt cross (k / sectionRoom) (outputAt table k)) where
     abbrev i : ℕ
     i = k / sectionRoom
 
@@ -179,15 +180,15 @@ module _ {table : List ℕ} (r : Readable table) where
   ------------------------------------------------------------------------
   -- input after input
 
-  module _ (f : ℕ → ℕ) (cross : List (List ℕ)) (square : Square cross) (places : List ℕ) (size : length places ≡ 1024)
+  module _ (f : ℕ → ℕ) (cross : List (List ℕ)) (square : Square cross) (places : List ℕ) (size : length places ≡ entryLimit)
       (a : Agrees table places cross) (best : List ℕ) (full : length best ≡ 16) (b : BestOfEach table cross best) where
     pub best-entering : (n : ℕ) → n ≤ 16 → Sendable r places cross f n
         → BestOfEach table (sending table f n cross) (entering table f n best)
     unfolding sending entering
     best-entering zero l s = b
-    best-entering (suc n) l s = go (either (ltb (f n) 1024)) (best-entering n (omega arith) (λ i p. s i (omega arith)))
+    best-entering (suc n) l s = go (either (ltb (f n) entryLimit)) (best-entering n (omega arith) (λ i p. s i (omega arith)))
       where
-        go : (ltb (f n) 1024 ≡ true) ⊎ (ltb (f n) 1024 ≡ false)
+        go : (ltb (f n) entryLimit ≡ true) ⊎ (ltb (f n) entryLimit ≡ false)
             → BestOfEach table (sending table f n cross) (entering table f n best)
             → BestOfEach table (put (sending table f n cross) (f n / sectionRoom) (outputAt table (f n)) (f n))
             (entered table (entering table f n best) (f n))
@@ -198,7 +199,7 @@ module _ {table : List ℕ} (r : Readable table) where
             (sent-empty r f cross square places size a s (ltb-true _ _ t))
             (entering table f n best) (length-entering table f n best ∙ full) rec
         go (inr t) rec =
-            let past : 1024 ≤ f n = ltb-false _ _ t in
+            let past : nowhere ≤ f n = ltb-false _ _ t in
             rw (
               entered-none table (entering table f n best) (f n) past,
               put-nowhere (sending table f n cross) (square-sending table f cross square n) (f n / sectionRoom) (outputAt table (f n)) (f n) (omega arith),

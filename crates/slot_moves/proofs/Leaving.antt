@@ -32,7 +32,7 @@ use Rattle.model.specs.Phase.{Waiting, ahead, lists, heads}
 use Rattle.model.proofs.WaitingOrder.{ahead-i, ahead-at}
 use Rattle.model.proofs.PhaseFacts.{firsts, lists-i, lists-all, lists-listed}
 use Rattle.layout.specs.Entry.{entryAt, countIn}
-use Rattle.layout.specs.Table.{placeOf}
+use Rattle.layout.specs.Table.{placeOf, entryLimit}
 use Rattle.layout.proofs.Records.{entryAt-input}
 use Rattle.layout_table.specs.CodeEntries.{flowWord, nowhere}
 use Rattle.layout_table.proofs.Entries.{flow-word}
@@ -206,7 +206,7 @@ module _ {table : List ℕ} (r : Readable table) (places : List ℕ) where
 ------------------------------------------------------------------------
 -- a head leaves
 
-module _ {table : List ℕ} (r : Readable table) (places : List ℕ) (size : length places ≡ 1024)
+module _ {table : List ℕ} (r : Readable table) (places : List ℕ) (size : length places ≡ entryLimit)
     (together : Contiguous table places) {k : ℕ} (entry : InTable table k) (head : HeadAt table places k) (v : ℕ)
     (out : isListed (placeOf v) ≡ false) where
   abbrev places′ : List ℕ
@@ -591,7 +591,7 @@ pub record Leavers (table places : List ℕ) (f : ℕ → ℕ) (n : ℕ) : Type 
   pub other : (a b : ℕ) → a < b → b < n → f b < nowhere → f a ≢ f b
 
 module _ {table : List ℕ} (r : Readable table) (f : ℕ → ℕ) (v : ℕ) (out : isListed (placeOf v) ≡ false) (places : List ℕ)
-    (size : length places ≡ 1024) where
+    (size : length places ≡ entryLimit) where
   pub written-fewer : (n a : ℕ) → InTable table a → listedAt (written f v n places) a ≡ true → listedAt places a ≡ true
   written-fewer n a t h = go (either (hit f n a))
     where

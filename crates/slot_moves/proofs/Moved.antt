@@ -26,7 +26,7 @@ use Rattle.model.proofs.PhaseFacts.{scheduled-empty}
 use Rattle.model.proofs.PhaseFacts.{sent-i, sent-scheduled, sent-free, pulled-free}
 use Rattle.model.proofs.PhaseMatching.{straight-all, straight-urgent, sent-all, pulled-all}
 use Rattle.model.proofs.PhasePlaces.{straight-listed, sent-listed, listed-not-crossed, listed-not-buffered, crossed-not-buffered}
-use Rattle.layout.specs.Table.{placeOf, encode, stateOf, IsTable}
+use Rattle.layout.specs.Table.{placeOf, encode, stateOf, IsTable, entryLimit}
 use Rattle.layout.specs.Code.{portsIn}
 use Rattle.layout_table.specs.CodeEntries.{nowhere}
 use Rattle.slot_view.specs.CodeView.{waitingAt, inTable, crosspointAt, InTable, Agrees, Square, placesIn}
@@ -125,7 +125,7 @@ module _ {table : List ℕ} (good : IsTable table) {listed heads : List ℕ} {cr
   ports : portsIn table ≤ portLimit
   ports = r .ports
 
-  size : length places ≡ 1024
+  size : length places ≡ entryLimit
   size = length-placesIn table
 
   -- a straight cell of a port
@@ -186,7 +186,7 @@ module _ {table : List ℕ} (good : IsTable table) {listed heads : List ℕ} {cr
     straight-places : places₁ ≡ written F 3 portLimit places
     straight-places = ap placesIn (s .to-buffers) ∙ placesIn-placing F 3 portLimit table (r .size)
 
-    straight-length : length places₁ ≡ 1024
+    straight-length : length places₁ ≡ entryLimit
     straight-length = length-placesIn table₁
 
     input-mark : (i : ℕ) → i < portLimit → getD inputs i false ≡ hit (λ x. F x / sectionRoom) portLimit i
@@ -325,12 +325,12 @@ module _ {table : List ℕ} (good : IsTable table) {listed heads : List ℕ} {cr
         out : crossedAt places (e .at) ≡ false
         out = straight-out (sent-all all (w .1)) (sent-listed all (w .1))
 
-        empty : 1024 ≤ crosspointAt cross i (outputAt table (e .at))
-        empty = go (either (ltb (crosspointAt cross i (outputAt table (e .at))) 1024))
+        empty : nowhere ≤ crosspointAt cross i (outputAt table (e .at))
+        empty = go (either (ltb (crosspointAt cross i (outputAt table (e .at))) entryLimit))
           where
-            go : (ltb (crosspointAt cross i (outputAt table (e .at))) 1024 ≡ true)
-                ⊎ (ltb (crosspointAt cross i (outputAt table (e .at))) 1024 ≡ false)
-                → 1024 ≤ crosspointAt cross i (outputAt table (e .at))
+            go : (ltb (crosspointAt cross i (outputAt table (e .at))) entryLimit ≡ true)
+                ⊎ (ltb (crosspointAt cross i (outputAt table (e .at))) entryLimit ≡ false)
+                → nowhere ≤ crosspointAt cross i (outputAt table (e .at))
             go (inl t) =
                 absurd (clash (crosspoint-i e x row column)
                 (scheduled-empty all (sent-scheduled all (w .1)) (crosspoints-i all (inTable-i table places r c (v .0)) there)))
@@ -429,7 +429,7 @@ module _ {table : List ℕ} (good : IsTable table) {listed heads : List ℕ} {cr
       sent-entered : crossed₂ ≡ entering table G portLimit held-best
       sent-entered = t .bests ∙ entering-kept kept₁ G portLimit held-best
 
-      sent-length : length places₂ ≡ 1024
+      sent-length : length places₂ ≡ entryLimit
       sent-length = length-placesIn table₂
 
       sent-square : Square cross₂

@@ -10,6 +10,7 @@ use mathlib.Core.List.{List}
 use lib.ListN.{length, getD}
 use Rattle.laws.proofs.Tests.{either}
 use Rattle.layout.specs.Code.{portsIn}
+use Rattle.layout.specs.Table.{entryLimit}
 use Rattle.slot_view.specs.CodeView.{InTable, Agrees, Square}
 use Rattle.slot_view.specs.CodeScan.{Readable}
 use Rattle.slot_view.specs.CodeChoices.{empty, best}
@@ -20,7 +21,7 @@ use Rattle.slot_moves.proofs.Agreeing.{outputAt, crossedAt, agrees-real
 use Rattle.slot_moves.proofs.Entering.{BestOfEach}
 
 module _ {table : List ℕ} (r : Readable table) (straight : List Bool) (places : List ℕ) (cross : List (List ℕ))
-    (size : length places ≡ 1024) (square : Square cross) (a : Agrees table places cross) (bests : List ℕ)
+    (size : length places ≡ entryLimit) (square : Square cross) (a : Agrees table places cross) (bests : List ℕ)
     (b : BestOfEach table cross bests) where
   abbrev f : ℕ → ℕ
   f = takeOf straight bests

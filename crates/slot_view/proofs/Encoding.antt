@@ -17,7 +17,7 @@ use Rattle.layout.specs.Number.{bytesOf}
 use Rattle.layout.specs.Entry.{entryAt, clockIn, countIn}
 use Rattle.layout.specs.Code.{recordStart, portsIn}
 use Rattle.layout.specs.Table.{layoutNumber, headerSize, entrySize, sectionSize, placeByte, placeOf, entryBytes}
-use Rattle.layout.specs.Table.{entriesBytes, sectionBytes, sectionsBytes, countsBytes, encode}
+use Rattle.layout.specs.Table.{entriesBytes, sectionBytes, sectionsBytes, countsBytes, encode, entryLimit}
 use Rattle.layout.proofs.Table.{length-entryBytes, length-entriesBytes, length-sectionBytes, length-countsBytes}
 use Rattle.layout_table.proofs.Places.{place-i}
 use Rattle.slot_view.specs.CodeView.{InTable}
@@ -226,7 +226,7 @@ module _ (table places : List ℕ) (k v : ℕ) (low : 1 ≤ v) (high : v ≤ 3) 
         (sectionSize * (row - 0) + (entrySize * (k - sectionRoom * row) + 2)) (recordStart k + 2) v length-front (omega arith))
 
 -- the place of an entry changes in the column and in the bytes
-pub encode-placed : {table : List ℕ} (r : Readable table) (places : List ℕ) → length places ≡ 1024 → (k v : ℕ)
+pub encode-placed : {table : List ℕ} (r : Readable table) (places : List ℕ) → length places ≡ entryLimit → (k v : ℕ)
     → InTable table k → 1 ≤ v → v ≤ 3
     → encode (statePlaced table (set places k v)) ≡ set (encode (statePlaced table places)) (recordStart k + 2) v
 encode-placed {table} r places size k v t low high =

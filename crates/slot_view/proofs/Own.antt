@@ -15,7 +15,7 @@ use Rattle.model.specs.Sound.{soundSections}
 use Rattle.model.proofs.SoundOrderly.{sound-orderly, sound-one-crosspoint}
 use Rattle.layout.specs.Entry.{entryAt}
 use Rattle.layout.specs.Code.{placeByteAt}
-use Rattle.layout.specs.Table.{placeOf, stateOf, IsTable}
+use Rattle.layout.specs.Table.{placeOf, stateOf, IsTable, entryLimit}
 use Rattle.layout.proofs.Records.{entryAt-place}
 use Rattle.layout.proofs.Table.{placeByte-range, decode-sound, sound-sections}
 use Rattle.slot_view.specs.CodeView.{InTable, InPlace, placesIn, waitingIn}
@@ -24,14 +24,14 @@ use Rattle.slot_view.specs.CodeSections.{sectionsPlaced}
 use Rattle.slot_view.proofs.Placed.{length-numbers, decode-readable, decode-place, sectionsPlaced-same, inTable-same}
 use Rattle.slot_view.proofs.Window.{inTable-below}
 
-pub length-placesIn : (table : List ℕ) → length (placesIn table) ≡ 1024
+pub length-placesIn : (table : List ℕ) → length (placesIn table) ≡ entryLimit
 unfolding placesIn
-length-placesIn table = length-numbers (placeByteAt table) 0 1024
+length-placesIn table = length-numbers (placeByteAt table) 0 entryLimit
 
-pub placesIn-at : (table : List ℕ) (k : ℕ) → k < 1024 → getD (placesIn table) k 0 ≡ placeByteAt table k
+pub placesIn-at : (table : List ℕ) (k : ℕ) → k < entryLimit → getD (placesIn table) k 0 ≡ placeByteAt table k
 unfolding placesIn
 placesIn-at table k h =
-    numbersFrom-at (placeByteAt table) 0 1024 k 0 h ∙ ap (placeByteAt table) (omega arith)
+    numbersFrom-at (placeByteAt table) 0 entryLimit k 0 h ∙ ap (placeByteAt table) (omega arith)
 
 module _ (table : List ℕ) (good : IsTable table) where
   abbrev s : Switch

@@ -21,7 +21,7 @@ use Rattle.model.specs.State.{isListed}
 use Rattle.layout.specs.Number.{numberOf, numberAt, word}
 use Rattle.layout.specs.Entry.{entryAt, clockIn, countIn}
 use Rattle.layout.specs.Code.{recordStart, portsIn}
-use Rattle.layout.specs.Table.{tableSize, placeOf}
+use Rattle.layout.specs.Table.{tableSize, placeOf, entryLimit}
 use Rattle.layout.proofs.Records.{entryAt-input, entryAt-output, entryAt-flow, entryAt-rank, entryAt-tag, entryAt-slot}
 use Rattle.layout.proofs.Records.{placeByteAt-byte}
 use Rattle.layout_table.specs.CodeEntries.{nowhere}
@@ -131,10 +131,10 @@ module _ (table : List ℕ) (k v : ℕ) where
     where
       at : k < nowhere → (i : ℕ) → i < length (placesIn new) → getD (placesIn new) i 0 ≡ getD (set (placesIn table) k v) i 0
       at small i l =
-          let b : i < 1024 = omega (arith, length-placesIn new) in
+          let b : i < entryLimit = omega (arith, length-placesIn new) in
           placesIn-at new i b ∙ placeByteAt-byte new i ∙ one b (either (eqb i k))
         where
-          one : i < 1024 → (eqb i k ≡ true) ⊎ (eqb i k ≡ false)
+          one : i < entryLimit → (eqb i k ≡ true) ⊎ (eqb i k ≡ false)
               → getD new (recordStart i + 2) 0 ≡ getD (set (placesIn table) k v) i 0
           one b (inl t) =
               let q : i ≡ k = eqb-true i k t in

@@ -26,7 +26,7 @@ use Rattle.model.proofs.WaitingOrder.{ahead-i}
 use Rattle.model.proofs.PhaseFacts.{crosspoints-i, crosspoints-all, crosspoints-crossed}
 use Rattle.layout.proofs.Records.{entryAt-input}
 use Rattle.layout.specs.Entry.{entryAt, countIn}
-use Rattle.layout.specs.Table.{placeOf}
+use Rattle.layout.specs.Table.{placeOf, entryLimit}
 use Rattle.layout.specs.Code.{portsIn}
 use Rattle.slot_view.specs.CodeView.{waitingAt, window, inTable, InTable, crosspointAt, Agrees}
 use Rattle.slot_view.specs.CodeChoices.{ofInput}
@@ -109,7 +109,7 @@ module _ {A : Type 0} (w : ℕ → List A) where
 -- the cell with a number
 
 -- a number in the table is below 1,024
-pub inTable-below : {table : List ℕ} (r : Readable table) {k : ℕ} → InTable table k → k < 1024
+pub inTable-below : {table : List ℕ} (r : Readable table) {k : ℕ} → InTable table k → k < entryLimit
 inTable-below r t = omega (arith, t .input, r .ports)
 
 module _ (table places : List ℕ) where

@@ -3,6 +3,7 @@ use native.Mathlib.Omega.{arith}
 use borrow.Author.Needs.{needs}
 use lib.Dec.{lit≤}
 use lib.ListN.{take}
+use Rattle.layout.specs.Answer.{answerSize}
 use Rattle.trace.specs.Flat.{arrivalsFrom}
 use Rattle.trace.specs.Lines.{refusalText}
 use Rattle.trace_writer.proofs.Flat.{fit32-i, arrivalsFrom-fits}
@@ -56,7 +57,7 @@ returns c =
     let a = start .args in
     let wrote = wrote-refusal (told .refusal .given .0 .0) (line .line-of .result) (omega (arith, line)) (start .pre .1 .1 .1)
     (omega (arith, start .good)) (put .put-refusal .ensures) in
-    slot-stopped (a .table .now) (start .pre .0) 456 (lit≤ tt) (take (a .count) (made .records-of .result))
+    slot-stopped (a .table .now) (start .pre .0) answerSize (lit≤ tt) (take (a .count) (made .records-of .result))
     (arrivalsFrom (a .count) (a .numbers .now)) (made .records-of .ensures) (a .clock) (a .line) (a .out .now)
     (slot .sound-slot .result) (slot .sound-slot .ensures .0) (slot .sound-slot .last .0) (slot .sound-slot .ensures .1 .0)
     (told .refusal .given .1) (put .put-refusal .last .0) (put .put-refusal .result) (line .line-of .result)
@@ -77,7 +78,7 @@ returns-2 c =
     let start = made .before .before .before .before in
     let a = start .args in
     let fits = fit32-i (a .numbers .now) (made .before .before .before .shared-slice-known .given) in
-    slot-ran (a .table .now) (start .pre .0) 456 (lit≤ tt) (take (a .count) (made .records-of .result))
+    slot-ran (a .table .now) (start .pre .0) answerSize (lit≤ tt) (take (a .count) (made .records-of .result))
     (arrivalsFrom (a .count) (a .numbers .now)) (made .records-of .ensures) (a .clock) (a .line) (a .out .now)
     (slot .sound-slot .result) (slot .sound-slot .ensures .0) (slot .sound-slot .last .0) (slot .sound-slot .ensures .1 .0)
     (arrivalsFrom-fits (a .count) (a .numbers .now) fits) (told .enum-told .given .1) _ (slot .sound-slot .last .1 .1 .1 .0)

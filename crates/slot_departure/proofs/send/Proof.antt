@@ -6,7 +6,7 @@ use mathlib.Core.List.{map}
 use mathlib.Core.Option.{none}
 use borrow.Author.Needs.{needs}
 use lib.ListN.{length}
-use Rattle.layout.specs.Answer.{departureBytes}
+use Rattle.layout.specs.Answer.{departureBytes, departureSize}
 use Rattle.layout.specs.Code.{put}
 use Rattle.slot_departure.specs.Code.{departureAt}
 use Rattle.slot_departure.proofs.Sending.{getD-map, sent, sent-none, sent-more, sent-all}
@@ -60,7 +60,7 @@ loop-again c =
       sent-more (map (departureAt table) numbers) (start .args .answer .now) (start .pre .2) (loop .output) (loop .answer)
           (one .last .1 .1 .0) (c .before .before .before .before .before .loop-test .taken) (loop .inv .2)
           (one .ensures
-          ∙ ap (λ d. put (28 * loop .output) 28 (departureBytes d) (loop .answer))
+          ∙ ap (λ d. put (departureSize * loop .output) departureSize (departureBytes d) (loop .answer))
           (sym (getD-map (departureAt table) numbers (loop .output) 0 none within))),
     )
 

@@ -3,6 +3,7 @@ use Prim.Native.Nat.{_<_}
 use native.Mathlib.Omega.{arith}
 use mathlib.Core.Path.{sym}
 use borrow.Author.Needs.{needs}
+use Rattle.layout.specs.Table.{entryLimit}
 use Rattle.slot_view.specs.CodeView.{placesIn}
 use Rattle.slot_view.specs.CodeViewed.{Buffered}
 use Rattle.slot_view.specs.CodeScan.{Readable}
@@ -15,7 +16,7 @@ use Rattle.slot_loading.proofs.choose_cell.Tie as tie
 readable : (t : tie.Start) → Readable (t .args .table .now)
 readable t = table-readable (t .args .table .now) (t .pre .0)
 
-small : (t : tie.Start) → t .args .k < 1024
+small : (t : tie.Start) → t .args .k < entryLimit
 small t = inTable-below (readable t) (t .pre .1 .0 .entry)
 
 column : (c : tie.After-output-of) → c .output-of .result < 16

@@ -2,6 +2,7 @@
 use Prim.Native.Nat.{_<_}
 use native.Mathlib.Omega.{arith}
 use borrow.Author.Needs.{needs}
+use Rattle.layout.specs.Table.{entryLimit}
 use Rattle.slot_view.specs.CodeScan.{Readable}
 use Rattle.slot_view.proofs.Own.{table-readable}
 use Rattle.slot_view.proofs.Window.{inTable-below}
@@ -12,7 +13,7 @@ use Rattle.slot_loading.proofs.cross_cell.Tie as tie
 readable : (t : tie.Start) → Readable (t .args .table .now)
 readable t = table-readable (t .args .table .now) (t .pre .0)
 
-small : (t : tie.Start) → t .args .k < 1024
+small : (t : tie.Start) → t .args .k < entryLimit
 small t = inTable-below (readable t) (t .pre .1 .0 .entry)
 
 column : (c : tie.After-output-of) → c .output-of .result < 16

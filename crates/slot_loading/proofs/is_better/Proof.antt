@@ -3,6 +3,7 @@ use Prim.Native.Nat.{_<_}
 use mathlib.Core.Bool.{cond}
 use mathlib.Core.Path.{sym, _∙_, ap, ap₂}
 use lib.Dec.{ltb}
+use Rattle.layout.specs.Table.{entryLimit}
 use Rattle.slot_view.proofs.Own.{table-readable}
 use Rattle.slot_view.proofs.Window.{inTable-below}
 use Rattle.slot_loading.proofs.Crossing.{keyAt-cell}
@@ -20,7 +21,7 @@ returns c =
     ∙ ap (λ b. cond b (a .k) (a .held)) (sym (ap₂ ltb (pre .1 .1 .0) (pre .1 .1 .1)))
 
 -- the other is a cell
-held-below : (c : tie.Else1) → c .before .before .args .held < 1024
+held-below : (c : tie.Else1) → c .before .before .args .held < entryLimit
 held-below c =
     let start = c .before .before in
     let a = start .args in

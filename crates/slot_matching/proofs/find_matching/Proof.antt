@@ -6,6 +6,8 @@ use native.Mathlib.Omega.{arith}
 use mathlib.Core.Path.{_≡_}
 use mathlib.Core.List.{List}
 use borrow.Author.Needs.{needs}
+use Rattle.layout.specs.Table.{entryLimit}
+use Rattle.layout_table.specs.CodeEntries.{nowhere}
 use Rattle.slot_matching.specs.CodeFound.{numbersOf, ToOutputs}
 use Rattle.slot_matching.proofs.Asking.{Asking, asking-start, asking-next, asking-few, asked-output}
 use Rattle.slot_matching.proofs.After.{asking-after}
@@ -20,12 +22,12 @@ Inv-loop2 table left₀ held₀ proposals₀ input asked₀ left held proposals 
     → Asking table candidates left held (input + 1) asked proposals
 
 abbrev μ-loop2 : tie.MeasureT-loop2
-μ-loop2 table left₀ held₀ proposals₀ input asked₀ left held proposals asked = 1024 - proposals
+μ-loop2 table left₀ held₀ proposals₀ input asked₀ left held proposals asked = entryLimit - proposals
 
 -- nobody is to propose
 abbrev Inv-loop : tie.InvT-loop
 Inv-loop table candidates held₀ proposals₀ input₀ left held proposals input =
-    ((k : ℕ) × Asking table candidates left held input k proposals × (1024 ≤ k)) × (input ≤ 16)
+    ((k : ℕ) × Asking table candidates left held input k proposals × (nowhere ≤ k)) × (input ≤ 16)
 
 abbrev μ-loop : tie.MeasureT-loop
 μ-loop table candidates held₀ proposals₀ input₀ left held proposals input = 16 - input
@@ -52,7 +54,7 @@ asking c =
 
 loop-holds : tie.Need-loop-holds Inv-loop2 μ-loop2 Inv-loop μ-loop
 loop-holds c =
-    ((1024, asking-start _ _ (c .before .pre .1) (c .before .good .1 .0 .1 .0 .1), omega arith), omega arith)
+    ((entryLimit, asking-start _ _ (c .before .pre .1) (c .before .good .1 .0 .1 .0 .1), omega arith), omega arith)
 
 mul-next-in : tie.Need-mul-next-in Inv-loop2 μ-loop2 Inv-loop μ-loop
 mul-next-in c = search needs

@@ -2,14 +2,15 @@
 -- Assumes nothing.
 use borrow.Author.Needs.{needs}
 use Prim.Native.Nat.{_≤_, _-_}
+use Rattle.layout.specs.Table.{tableSize}
 use Rattle.show_apart.proofs.wrong.untouched.Statement.{statement}
 use Rattle.show_apart.proofs.wrong.untouched.Tie as tie
 
 abbrev Inv-loop : tie.InvT-loop
-Inv-loop buffer k₀ k = k ≤ 16416
+Inv-loop buffer k₀ k = k ≤ tableSize
 
 abbrev μ-loop : tie.MeasureT-loop
-μ-loop buffer k₀ k = 16416 - k
+μ-loop buffer k₀ k = tableSize - k
 
 loop-holds : tie.Need-loop-holds Inv-loop μ-loop
 loop-holds c = search needs
