@@ -1,4 +1,4 @@
--- Laws of the tally as bytes: a tally and its 32 bytes are each other's.
+-- The tally as bytes: it is read back from its 32 bytes.
 use Prim.Native.Nat.{ℕ, _+_, _≤_}
 use mathlib.Core.Bool.{true}
 use mathlib.Core.Path.{_≡_}

@@ -1,4 +1,5 @@
--- The records of a table by number: the record k = 64 · input + position stands at byte 32 + 16 · k.
+-- The records of a table by number (the record k = 64 · input + position stands at byte 32 + 16 · k), bytes put into a
+-- byte string, and what the code asks of a table's bytes.
 use Prim.Native.Nat.{ℕ, _+_, _*_, _<_}
 use mathlib.Core.List.{List, map, _++_}
 use lib.ListN.{take, drop, length}

@@ -1,5 +1,4 @@
-// The header of a table and the fields of its records. In the header the ports stand at byte 4, the clock at 8, and the
-// count of an input at 16 + input. The record k = 64 * input + position stands at byte 32 + 16 * k.
+// The fields of a table's records. The record k = 64 * input + position stands at byte 32 + 16 * k.
 // A caller shows that the bytes have a table's length and that there is such a record; the bytes may be any.
 use cell::Cell;
 use layout::CELLS;

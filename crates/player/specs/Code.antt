@@ -1,4 +1,4 @@
--- The exit status, as the code finds it.
+-- The exit status of a trace that was played, as the code finds it.
 use Prim.Native.Nat.{ℕ}
 use mathlib.Core.Logic.{_⊎_}
 use mathlib.Core.Path.{_≡_}

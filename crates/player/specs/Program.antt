@@ -2,7 +2,6 @@
 --     requestOf    by the number of arguments and the first of them
 --     Answered     the status of the program
 --     Told         of a text that is to be written: it was, or writing failed
---     Finished, statusOf    of a trace that was played
 use Prim.Native.Nat.{ℕ, zero, suc, _≤_}
 use mathlib.Core.Bool.{cond}
 use mathlib.Core.List.{List}

@@ -1,4 +1,7 @@
 -- The turns of the player, step by step.
+--     Turned                            what one turn leaves
+--     Closed                            what the last turn answers
+--     slotText, playedOf, SlotPlayed    what a block's slot writes and answers
 use Prim.Native.Nat.{ℕ}
 use mathlib.Core.List.{List, _++_}
 use mathlib.Core.Path.{_≡_}

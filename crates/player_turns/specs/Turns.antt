@@ -3,9 +3,7 @@
 --     lineAt           the number of the next line, as it is kept between turns
 --     Stands           what a turn asks of these
 --     tableThen, tableAfterTurns    the table after a turn, and after turns
---     Wrote, Turned, Took           what a turn leaves, and what turns leave
---     Closed                        what the last turn answers
---     slotText, playedOf, Played    what a block's slot writes and answers
+--     Wrote, Left, Took             what a turn leaves, and what turns leave
 use Prim.Native.Nat.{ℕ, zero, suc, _+_, _*_, _-_, _≤_, _<_}
 use mathlib.Core.List.{List, [], _∷_}
 use mathlib.Core.Bool.{Bool}

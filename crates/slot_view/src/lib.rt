@@ -1,4 +1,4 @@
-// What the steps of a slot share: the choice of a phase.
+// What the steps of a slot share: the choice of a phase, and in specs/ the view of a table.
 use layout::PORTS;
 
 // Above the key of every cell.

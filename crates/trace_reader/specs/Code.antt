@@ -1,4 +1,4 @@
--- The steps of the reader, as the code takes them.
+-- What the private functions of the reader answer, by what the definitions read of a part.
 use Prim.Native.Nat.{ℕ, _+_, _*_, _-_}
 use mathlib.Core.Bool.{Bool, true, false}
 use mathlib.Core.List.{List}

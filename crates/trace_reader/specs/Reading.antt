@@ -2,7 +2,6 @@
 --     lineOf t o      a line at the start of t
 --     verdictOf o     a whole text
 --     numbersAfter    the numbers lent to the block reader
---     wordAt, beginsWith, readBody, readMarked, cameOf, ahead, endedOf    the same of parts, for the private functions
 use Prim.Native.Nat.{ℕ, zero, suc, _-_}
 use mathlib.Core.Bool.{true, false}
 use mathlib.Core.List.{List, [], _∷_}

@@ -1,4 +1,7 @@
 -- The steps of the writer, as the code takes them.
+--     Tried            what a function that puts line after line does
+--     Room, Written    what a function that writes a text without a test asks for and does
+--     flatHasText      whether lists are the contents of some text
 use Prim.Native.Nat.{ℕ, _+_, _≤_}
 use mathlib.Core.Bool.{Bool, _&&_}
 use mathlib.Core.List.{List}

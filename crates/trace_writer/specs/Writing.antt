@@ -1,9 +1,7 @@
--- Putting a text into a buffer, from a place on, and the writer's test of what it is lent.
+-- Putting a text into a buffer, from a place on.
 --     placeAfter at size     the place after so many bytes
 --     withText buffer at t   the buffer with the text there, if it fits
---     Ends, Put, Tried       what a function that measures the text or puts it does
---     Room, Written          what one that writes it without a test asks for and does
---     flatHasText            whether lists are the contents of some text
+--     Ends, Put              what a function that measures the text or puts it does
 use Prim.Native.Nat.{ℕ, _+_, min}
 use mathlib.Core.Bool.{true, false}
 use mathlib.Core.List.{List, _++_}
