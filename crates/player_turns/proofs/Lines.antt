@@ -20,12 +20,10 @@ use Rattle.cell.specs.Refusal.{number}
 use Rattle.trace.specs.declared.Key.{Key}
 use Rattle.trace.specs.declared.Key.the-variants.{Refused, Line}
 use Rattle.trace.specs.Line.{line}
-use Rattle.trace.proofs.Lengths.{length-decimal-below, length-line, length-line-le}
+use Rattle.trace.proofs.Lengths.{length-keyText-le, length-decimal-below, length-line, length-line-le}
 use Rattle.trace.proofs.Tests.{fits32-i}
 use Rattle.trace.specs.Lines.{refusalText}
-use Rattle.trace_writer.specs.CodeKeys.{keyLength}
 use Rattle.trace_writer.specs.Writing.{lastPlace, Ends, Put}
-use Rattle.trace_writer.proofs.Keys.{length-keyText}
 use Rattle.trace_writer.proofs.Pour.{put-short, put-poured, poured-put, poured-whole, put-then}
 use Rattle.layout.specs.Host.{filled}
 use Rattle.player_text.specs.Player.{lineOf}
@@ -33,8 +31,8 @@ use Rattle.player_turns.specs.Turns.{turnRoom, Wrote}
 
 -- how long they are
 
-pub line-le : (k : Key) (n : ℕ) → fits32 n ≡ true → length (line k n) ≤ keyLength k + 11
-line-le k n h = omega (arith, length-line-le k n h, length-keyText k)
+pub line-le : (k : Key) (n : ℕ) → fits32 n ≡ true → length (line k n) ≤ 19
+line-le k n h = omega (arith, length-line-le k n h, length-keyText-le k)
 
 number-le : (r : Refusal) → number r ≤ 10
 number-le BadSize = lit≤ tt
@@ -48,7 +46,7 @@ number-le Full = lit≤ tt
 number-le BadLine = lit≤ tt
 number-le ShortBuffer = lit≤ tt
 
-pub refusal-le : (r : Refusal) (l : ℕ) → l < 2 ^ 64 → length (refusalText r l) ≤ 45
+pub refusal-le : (r : Refusal) (l : ℕ) → l < 2 ^ 64 → length (refusalText r l) ≤ 48
 unfolding refusalText
 refusal-le r l h =
     let n : fits32 (number r) ≡ true = fits32-i (number r) (omega (arith, number-le r)) in
@@ -57,7 +55,7 @@ refusal-le r l h =
       length-append (line Refused (number r)) (line Line l),
       line-le Refused (number r) n,
       length-line Line l,
-      length-keyText Line,
+      length-keyText-le Line,
       length-decimal-below 19 l (omega arith),
     )
 

@@ -20,7 +20,10 @@ use Rattle.laws.specs.Lists.{all?}
 use Rattle.model.specs.Checks.{noDepartures}
 use Rattle.model.specs.Crossbar.{Course, answerOf}
 use Rattle.trace.specs.declared.Key.the-variants.{In, Out, Flow, Rank, Tag}
+use Rattle.trace.specs.Ascii.{ascii}
+use Rattle.trace.specs.Line.{keyName, keyText}
 use Rattle.trace.specs.Lines.{departureText, departuresText}
+use Rattle.trace.proofs.Lengths.{length-line-le}
 use Rattle.trace_writer.specs.Writing.{lastPlace, Put}
 use Rattle.trace_writer.proofs.Pour.{put-then}
 use Rattle.layout.specs.Answer.{departureSize, answerBytes, departureIn, departuresIn, cellIn, departuresSize}
@@ -28,7 +31,6 @@ use Rattle.layout.specs.Host.{filled}
 use Rattle.layout.specs.Number.{word}
 use Rattle.layout.proofs.Answer.{departureFits, answerBytes-outputs}
 use Rattle.layout.proofs.Number.{bytes?, bytes?-take, bytes?-drop, word-fits}
-use Rattle.player_turns.proofs.Lines.{line-le}
 
 -- one departure
 
@@ -41,13 +43,13 @@ unfolding departureIn
 sent-some bs h = rw (ne-eqb (word bs 0) 0 h, departureIn)
 
 cell-le : (bs : List ℕ) → bytes? bs ≡ true → length bs ≡ departureSize → length (departureText (some (cellIn bs))) ≤ 76
-unfolding departureText
+unfolding departureText keyText keyName ascii
 cell-le bs h size =
-    let i = line-le In (word bs 4) (word-fits bs 4 h (rw size (lit≤ tt))) in
-    let o = line-le Out (word bs 8) (word-fits bs 8 h (rw size (lit≤ tt))) in
-    let f = line-le Flow (word bs 12) (word-fits bs 12 h (rw size (lit≤ tt))) in
-    let r = line-le Rank (word bs 16) (word-fits bs 16 h (rw size (lit≤ tt))) in
-    let t = line-le Tag (word bs 20) (word-fits bs 20 h (rw size (lit≤ tt))) in
+    let i = length-line-le In (word bs 4) (word-fits bs 4 h (rw size (lit≤ tt))) in
+    let o = length-line-le Out (word bs 8) (word-fits bs 8 h (rw size (lit≤ tt))) in
+    let f = length-line-le Flow (word bs 12) (word-fits bs 12 h (rw size (lit≤ tt))) in
+    let r = length-line-le Rank (word bs 16) (word-fits bs 16 h (rw size (lit≤ tt))) in
+    let t = length-line-le Tag (word bs 20) (word-fits bs 20 h (rw size (lit≤ tt))) in
     simp length-append (omega arith)
 
 pub departure-le : (bs : List ℕ) → bytes? bs ≡ true → length bs ≡ departureSize

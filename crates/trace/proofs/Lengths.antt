@@ -1,4 +1,5 @@
--- How long the digits of a number and a line are:
+-- How long a key, the digits of a number and a line are:
+--     length-keyText-le                         a key and its `=`, at most
 --     decimal-tens                              the last digit stands behind those of the tenth part
 --     length-decimal-small, length-decimal-tens how many digits there are
 --     length-decimal-below                      at most so many
@@ -9,13 +10,29 @@ use mathlib.Core.Bool.{Bool, true, false}
 use mathlib.Core.List.{[], _∷_, _++_}
 use mathlib.Core.Path.{_≡_, refl, ap, _∙_}
 use borrow.Author.Tests.{ltb-true, ltb-false}
-use lib.Dec.{ltb}
+use lib.Dec.{ltb, lit≤}
 use lib.ListN.{length, length-append}
 use Rattle.cell.specs.Limits.{fits32}
+use Rattle.trace.specs.Ascii.{ascii}
 use Rattle.trace.specs.declared.Key.{Key}
-use Rattle.trace.specs.Line.{keyText, decimal, line}
+use Rattle.trace.specs.declared.Key.the-variants.{Ports, First, Slot, In, Out, Flow, Rank, Tag, End, Refused, Line}
+use Rattle.trace.specs.Line.{keyName, keyText, decimal, line}
 use Rattle.trace.proofs.Line.{isDigit-i, decimal-small, decimal-large}
 use Rattle.trace.proofs.Tests.{fits32-e}
+
+pub length-keyText-le : (k : Key) → length (keyText k) ≤ 8
+unfolding keyText keyName ascii
+length-keyText-le Ports = lit≤ tt
+length-keyText-le First = lit≤ tt
+length-keyText-le Slot = lit≤ tt
+length-keyText-le In = lit≤ tt
+length-keyText-le Out = lit≤ tt
+length-keyText-le Flow = lit≤ tt
+length-keyText-le Rank = lit≤ tt
+length-keyText-le Tag = lit≤ tt
+length-keyText-le End = lit≤ tt
+length-keyText-le Refused = lit≤ tt
+length-keyText-le Line = lit≤ tt
 
 pub decimal-tens : (n : ℕ) → 10 ≤ n → decimal n ≡ decimal (n / 10) ++ ((48 + n % 10) ∷ [])
 decimal-tens n h =

@@ -1,9 +1,8 @@
 -- The reader of a line:
---     lineOf-none, -some                   its answer, by what was read
---     readMarked-missing, -before, -short  a line, by its mark
---     lineOf-key                           a line, by its key
---     rest                                 the slice from a place
---     number-bad, -got, taken              a line as a cursor has it
+--     lineOf-none, -some                 its answer, by what was read
+--     readLine-missing, -before, -short  a line, by its key
+--     rest                               the slice from a place
+--     number-bad, -got, taken            a line as a cursor has it
 use Prim.Native.Nat.{ℕ, _+_, _-_, _≤_}
 use native.Mathlib.Omega.{arith}
 use mathlib.Core.Bool.{Bool, true, false}
@@ -16,13 +15,13 @@ use Rattle.trace.specs.declared.Key.{Key}
 use Rattle.trace_reader.specs.declared.Line.{Line}
 use Rattle.trace_reader.specs.declared.Line.the-variants.{Number, Bad}
 use Rattle.trace.specs.Line.{keyText, line, readLine}
-use Rattle.trace.specs.Reader.{got, badAt, number}
+use Rattle.trace.specs.Reader.{got, badAt, number, begins}
 use Rattle.trace_reader.specs.Reading.{from, lineOf}
 use Rattle.trace.proofs.Line.{readLine-exact}
 use Rattle.trace.proofs.Blocks.{number-some, number-none}
 use Rattle.trace_reader.proofs.Marks.{beginsWith-false, beginsWith-true}
 use Rattle.trace_reader.proofs.Numbers.{readBody-nil}
-use Rattle.trace_reader.specs.Code.{beginsWith, readBody, readMarked}
+use Rattle.trace_reader.specs.Code.{beginsWith, readBody}
 
 -- the rest of a text, by how much was read
 pub drop-rest : (x rest t : List ℕ) → t ≡ x ++ rest
@@ -60,29 +59,23 @@ module _ (t : List ℕ) where
       let (r, l) = drop-rest (line k (s .0)) (s .1) t (readLine-exact k t (s .0) (s .1) e .0) in
       rw (← x, ← y) (ap (λ u. some (s .0, u)) r, l)
 
--- a line is its mark and what stands behind it
-module _ (p t : List ℕ) where
-  pub readMarked-missing : beginsWith p t ≡ false → readMarked p t ≡ none
-  unfolding readMarked bind
-  readMarked-missing h = rw (beginsWith-false p t h)
+-- a line is its key and what stands behind it
+module _ (k : Key) (t : List ℕ) where
+  pub readLine-missing : begins k (from 0 t) ≡ false → readLine k t ≡ none
+  unfolding begins beginsWith readLine bind
+  readLine-missing h = rw (beginsWith-false (keyText k) t h)
 
-  pub readMarked-before : beginsWith p t ≡ true → readMarked p t ≡ readBody (drop (length p) t)
-  unfolding readMarked bind
-  readMarked-before h = rw (beginsWith-true p t h)
+  pub readLine-before : begins k (from 0 t) ≡ true → readLine k t ≡ readBody (drop (length (keyText k)) t)
+  unfolding begins beginsWith readLine readBody bind
+  readLine-before h = rw (beginsWith-true (keyText k) t h)
 
-  -- a text that ends with its mark, or before it
-  pub readMarked-short : length t ≤ length p → readMarked p t ≡ none
-  readMarked-short h = go (beginsWith p t) refl
+  -- a text that ends with its key, or before it
+  pub readLine-short : length t ≤ length (keyText k) → readLine k t ≡ none
+  readLine-short h = go (begins k (from 0 t)) refl
     where
-      go : (b : Bool) → beginsWith p t ≡ b → readMarked p t ≡ none
-      go true e = readMarked-before e ∙ rw (drop-of-length-le t h) readBody-nil
-      go false e = readMarked-missing e
-
--- the mark of a line is its key and `=`
-pub lineOf-key : (t : List ℕ) {k j : Key} {r : Line} → k ≡ j → r ≡ lineOf t (readMarked (keyText j) t)
-    → r ≡ lineOf t (readLine k t)
-unfolding readMarked readBody readLine
-lineOf-key t e h = h ∙ ap (λ x. lineOf t (readLine x t)) (sym e)
+      go : (b : Bool) → begins k (from 0 t) ≡ b → readLine k t ≡ none
+      go true e = readLine-before e ∙ rw (drop-of-length-le t h) readBody-nil
+      go false e = readLine-missing e
 
 -- the slice from a place is the rest of the text
 abbrev pub rest : List ℕ → ℕ → List ℕ
@@ -97,18 +90,15 @@ pub length-rest : (t : List ℕ) (i : ℕ) → length (rest t i) ≡ length t - 
 length-rest t i = ap length (rest-drop t i) ∙ length-drop i t
 
 -- A line as a cursor has it, by what the reader of the line answered.
-module _ (k : Key) (l : ℕ) (t : List ℕ) {r : Line} (e : r ≡ lineOf t (readMarked (keyText k) t)) where
-  same : r ≡ lineOf t (readLine k t)
-  same = lineOf-key t refl e
-
+module _ (k : Key) (l : ℕ) (t : List ℕ) {r : Line} (e : r ≡ lineOf t (readLine k t)) where
   pub number-bad : r ≡ Bad → number k (from l t) ≡ badAt l
-  number-bad h = number-none k (from l t) (lineOf-bad t (readLine k t) (sym same ∙ h))
+  number-bad h = number-none k (from l t) (lineOf-bad t (readLine k t) (sym e ∙ h))
 
   pub number-got : {n i : ℕ} → r ≡ Number n i → number k (from l t) ≡ got n (from (l + 1) (drop i t))
-  number-got h = number-some k (from l t) (lineOf-number t k (readLine k t) refl (sym same ∙ h) .0)
+  number-got h = number-some k (from l t) (lineOf-number t k (readLine k t) refl (sym e ∙ h) .0)
 
   pub number-within : {n i : ℕ} → r ≡ Number n i → i ≤ length t
-  number-within h = lineOf-number t k (readLine k t) refl (sym same ∙ h) .1
+  number-within h = lineOf-number t k (readLine k t) refl (sym e ∙ h) .1
 
 -- A line was read: where, and what is left.
 pub record Taken (k : Key) (l : ℕ) (t : List ℕ) (n i : ℕ) : Type 0 where
@@ -116,7 +106,7 @@ pub record Taken (k : Key) (l : ℕ) (t : List ℕ) (n i : ℕ) : Type 0 where
   pub within : i ≤ length t
   pub left : i + length (rest t i) ≡ length t
 
-pub taken : (k : Key) (l : ℕ) (t : List ℕ) {r : Line} {n i : ℕ} → r ≡ lineOf t (readMarked (keyText k) t) → r ≡ Number n i
+pub taken : (k : Key) (l : ℕ) (t : List ℕ) {r : Line} {n i : ℕ} → r ≡ lineOf t (readLine k t) → r ≡ Number n i
     → Taken k l t n i
 taken k l t {r} {n} {i} e h =
     let w : i ≤ length t = number-within k l t e h in

@@ -2,7 +2,6 @@
 --     after-short, -other, -other-word       nothing follows a prefix that the text does not have
 --     after-next, -next-word, -end           what follows a prefix, by the first i bytes of both
 --     beginsWith-none, -some, -false, -true  whether a text begins with a prefix
---     begins-with                            whether it begins with a key
 use Prim.Native.Nat.{ℕ, suc, _+_, _≤_, _<_}
 use native.Mathlib.Omega.{arith}
 use mathlib.Core.Bool.{Bool, true, false}
@@ -102,8 +101,3 @@ module _ (p t : List ℕ) where
       go (some u) e =
           let f : t ≡ p ++ u = after-exact p t u e in
           e ∙ ap some (sym (rw f (drop-at p u (length p) refl)))
-
--- a key and `=`
-pub begins-with : (k : Key) (l : ℕ) (t : List ℕ) {b : Bool} → beginsWith (keyText k) t ≡ b → begins k (from l t) ≡ b
-unfolding begins beginsWith
-begins-with k l t h = h

@@ -26,10 +26,6 @@ beginsWith p t = elim (after p t) [ none ↦ false | some u ↦ true ]
 unfoldable pub readBody : List ℕ → Option (ℕ × List ℕ)
 readBody t = bind (upToLineFeed t) (λ s. Option·map (λ n. (n, s .1)) (readNumber (s .0)))
 
--- a line that begins with p
-unfoldable pub readMarked : List ℕ → List ℕ → Option (ℕ × List ℕ)
-readMarked p t = bind (after p t) readBody
-
 unfoldable pub cameOf : List ℕ → Read Arrival → Came
 cameOf t (got a d) = Whole a (length t - length (d .text))
 cameOf t (badAt l) = BadCame l

@@ -11,6 +11,7 @@ use trace::FIELDS;
 use trace::Key;
 use trace::NUMBERS;
 use trace::Opening;
+use trace::key_text;
 ghost use mathlib.Core.Bool.{true, false};
 ghost use mathlib.Core.List.{[], _∷_};
 ghost use mathlib.Core.Path.{_≡_};
@@ -24,7 +25,7 @@ ghost use Rattle.trace.specs.Reader.{arrival, arrivals, begins, next, read};
 ghost use Rattle.trace.specs.Piece.{known, decided, nextIn, headerIn, numbersOf, answerOf, openingOf};
 ghost use Rattle.trace_reader.specs.Reading.{from, lineOf};
 ghost use Rattle.trace_reader.specs.Reading.{wholeArrivals, wholeOf, numbersAfter, verdictOf};
-ghost use Rattle.trace_reader.specs.Code.{wordAt, beginsWith, readBody, readMarked, cameOf, ahead, endedOf};
+ghost use Rattle.trace_reader.specs.Code.{wordAt, beginsWith, readBody, cameOf, ahead, endedOf};
 
 // The arrivals of a block, as an index.
 const ARRIVALS: usize = BLOCK_LIMIT as usize;
@@ -72,13 +73,13 @@ pub fn read_header(text: &[u8], last: bool) -> Opening
     if !decided(text, last) {
         return Opening::Short;
     }
-    let Line::Number(ports, used) = read_marked(text, b"ports=") else {
+    let Line::Number(ports, used) = read_line(text, Key::Ports) else {
         return Opening::Refused(Refusal::BadLine, 1);
     };
     if !Switch::ports_in_range(ports) {
         return Opening::Refused(Refusal::BadSize, 1);
     }
-    let Line::Number(first, more) = read_marked(&text[used..], b"first=") else {
+    let Line::Number(first, more) = read_line(&text[used..], Key::First) else {
         return Opening::Refused(Refusal::BadLine, 2);
     };
     Opening::Open(ports, first, used + more)
@@ -94,7 +95,7 @@ pub fn read_block(text: &[u8], clock: u32, last: bool, numbers: &mut [u32; NUMBE
     if !decided(text, last) {
         return Answer::More;
     }
-    if begins(text, b"end=") {
+    if begins(text, Key::End) {
         return read_end(text, clock);
     }
     read_slot(text, clock, numbers)
@@ -104,19 +105,15 @@ pub fn read_block(text: &[u8], clock: u32, last: bool, numbers: &mut [u32; NUMBE
 pub fn read_line(text: &[u8], key: Key) -> Line
     ensures { λ r. ⌜ r ≡ lineOf (now (text .entry)) (readLine key (now (text .entry))) ⌝ }
 {
-    match key {
-        Key::Ports => read_marked(text, b"ports="),
-        Key::First => read_marked(text, b"first="),
-        Key::Slot => read_marked(text, b"slot="),
-        Key::In => read_marked(text, b"in="),
-        Key::Out => read_marked(text, b"out="),
-        Key::Flow => read_marked(text, b"flow="),
-        Key::Rank => read_marked(text, b"rank="),
-        Key::Tag => read_marked(text, b"tag="),
-        Key::End => read_marked(text, b"end="),
-        Key::Refused => read_marked(text, b"refused="),
-        Key::Line => read_marked(text, b"line="),
+    let mark = key_text(key);
+    // a line has more behind its key; with this test first the compiler drops those of starts_with and read_number
+    if text.len() <= mark.1 {
+        return Line::Bad;
     }
+    if !begins(text, key) {
+        return Line::Bad;
+    }
+    read_number(text, mark.1)
 }
 
 // { block } end, from line 3 on; no line has the number after 4,294,967,295
@@ -169,7 +166,7 @@ fn read_end(text: &[u8], clock: u32) -> Answer
     requires { ⌜ begins End (from 0 (now text)) ≡ true ⌝ }
     ensures { λ r. ⌜ r ≡ answerOf (now (text .entry)) (known (next clock (from 0 (now (text .entry))))) ⌝ }
 {
-    let Line::Number(number, used) = read_marked(text, b"end=") else {
+    let Line::Number(number, used) = read_line(text, Key::End) else {
         return Answer::Bad(0);
     };
     if number != clock {
@@ -188,7 +185,7 @@ fn read_slot(text: &[u8], clock: u32, numbers: &mut [u32; NUMBERS]) -> Answer
     ensures { λ _. ⌜ now (numbers .exit) ≡ numbersAfter (wholeOf clock (from 0 (now (text .entry))))
         (known (next clock (from 0 (now (text .entry))))) (now (numbers .entry)) ⌝ }
 {
-    let Line::Number(number, used) = read_marked(text, b"slot=") else {
+    let Line::Number(number, used) = read_line(text, Key::Slot) else {
         return Answer::Bad(0);
     };
     if number != clock {
@@ -211,7 +208,7 @@ fn read_arrivals(text: &[u8], start: usize, numbers: &mut [u32; NUMBERS]) -> Ans
     while k < ARRIVALS {
         let rest = &text[at..];
         let line = (FIELDS * k + 1) as u32;
-        if !begins(rest, b"in=") {
+        if !begins(rest, Key::In) {
             return Answer::Slot(k as u32, at, line);
         }
         match read_arrival(rest, line) {
@@ -233,23 +230,23 @@ fn read_arrival(text: &[u8], line: u32) -> Came
     requires { ⌜ line < blockLines ⌝ }
     ensures { λ r. ⌜ r ≡ cameOf (now (text .entry)) (arrival (from line (now (text .entry)))) ⌝ }
 {
-    let Line::Number(input, a) = read_marked(text, b"in=") else {
+    let Line::Number(input, a) = read_line(text, Key::In) else {
         return Came::Bad(line);
     };
     let after_in = &text[a..];
-    let Line::Number(output, b) = read_marked(after_in, b"out=") else {
+    let Line::Number(output, b) = read_line(after_in, Key::Out) else {
         return Came::Bad(line + 1);
     };
     let after_out = &after_in[b..];
-    let Line::Number(flow, c) = read_marked(after_out, b"flow=") else {
+    let Line::Number(flow, c) = read_line(after_out, Key::Flow) else {
         return Came::Bad(line + 2);
     };
     let after_flow = &after_out[c..];
-    let Line::Number(rank, d) = read_marked(after_flow, b"rank=") else {
+    let Line::Number(rank, d) = read_line(after_flow, Key::Rank) else {
         return Came::Bad(line + 3);
     };
     let after_rank = &after_flow[d..];
-    let Line::Number(tag, e) = read_marked(after_rank, b"tag=") else {
+    let Line::Number(tag, e) = read_line(after_rank, Key::Tag) else {
         return Came::Bad(line + 4);
     };
     let arrival = Arrival {
@@ -275,22 +272,18 @@ fn store(numbers: &mut [u32; NUMBERS], k: usize, a: Arrival)
     numbers[at + 4] = a.tag;
 }
 
-// A line whose key and `=` are these bytes.
-fn read_marked(text: &[u8], mark: &[u8]) -> Line
-    ensures { λ r. ⌜ r ≡ lineOf (now (text .entry)) (readMarked (now (mark .entry)) (now (text .entry))) ⌝ }
+// Whether the text begins with this key and `=`.
+fn begins(text: &[u8], key: Key) -> bool
+    ensures { λ r. ⌜ r ≡ begins key (from 0 (now (text .entry))) ⌝ }
 {
-    // a line has more behind its key; with this test first the compiler drops those of begins and read_number
-    if text.len() <= mark.len() {
-        return Line::Bad;
-    }
-    if !begins(text, mark) {
-        return Line::Bad;
-    }
-    read_number(text, mark.len())
+    let mark = key_text(key);
+    let bytes = mark.0;
+    let size = mark.1;
+    starts_with(text, &bytes[..size])
 }
 
 // Whether the text begins with these very bytes.
-fn begins(text: &[u8], mark: &[u8]) -> bool
+fn starts_with(text: &[u8], mark: &[u8]) -> bool
     ensures { λ r. ⌜ r ≡ beginsWith (now (mark .entry)) (now (text .entry)) ⌝ }
 {
     if text.len() < mark.len() {

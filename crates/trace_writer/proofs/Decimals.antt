@@ -1,19 +1,11 @@
--- How many bytes a line and the digits of a number have:
---     length-line-parts           a line
+-- How many digits a number has:
 --     length-decimal-two, -more   two digits, and two more
 use Prim.Native.Nat.{ℕ, _+_, _/_, _≤_, _<_}
 use native.Mathlib.Omega.{arith}
 use mathlib.Core.Path.{_≡_, ap}
-use lib.ListN.{length, length-append}
-use Rattle.trace.specs.declared.Key.{Key}
-use Rattle.trace.specs.Line.{decimal, line}
-use Rattle.trace_writer.specs.CodeKeys.{keyLength}
+use lib.ListN.{length}
+use Rattle.trace.specs.Line.{decimal}
 use Rattle.trace.proofs.Lengths.{length-decimal-small, length-decimal-tens}
-use Rattle.trace_writer.proofs.Keys.{length-keyText}
-
-pub length-line-parts : (k : Key) (n : ℕ) → length (line k n) ≡ keyLength k + length (decimal n) + 1
-unfolding line
-length-line-parts k n = simp length-append (omega (arith, length-keyText k))
 
 pub length-decimal-two : (n : ℕ) → 10 ≤ n → n < 100 → length (decimal n) ≡ 2
 length-decimal-two n h l = omega (arith, length-decimal-tens n h, length-decimal-small (n / 10) (omega arith))

@@ -9,8 +9,10 @@ use cell::Cell;
 use cell::Refusal;
 use cell::Switch;
 use trace::BLOCK_LIMIT;
+use trace::FIELDS;
 use trace::Key;
 use trace::Output;
+use trace::key_text;
 ghost use mathlib.Core.Path.{_≡_};
 ghost use mathlib.Core.List.{_++_};
 ghost use mathlib.Core.Option.{some};
@@ -22,12 +24,8 @@ ghost use Rattle.trace.specs.Lines.{departureText, refusalText};
 ghost use Rattle.trace.specs.Contents.{arrivalsText, slotsText, text};
 ghost use Rattle.trace.specs.Flat.{arrivalAt, arrivalsFrom, slotsFrom, fitTogether, contentsOf};
 ghost use Rattle.trace.specs.Flat.{writeFlat, outputOf, bufferAfter};
-ghost use Rattle.trace_writer.specs.CodeKeys.{KeyIs};
 ghost use Rattle.trace_writer.specs.Writing.{placeAfter, Ends, Put};
 ghost use Rattle.trace_writer.specs.Code.{Tried, Room, Written, few, flatHasText};
-
-// A key and `=`, filled up with blanks, and how many bytes they have.
-struct KeyText([u8; 8], usize);
 
 // The clock's end, as a count of slots.
 const CLOCK_END: usize = Switch::CLOCK_END as usize;
@@ -115,7 +113,7 @@ fn fit_together(counts: &[u32], numbers: &[u32]) -> bool
     let mut left = numbers.len();
     let mut i = 0;
     while i < counts.len() {
-        let five = 5 * counts[i] as usize;
+        let five = FIELDS * counts[i] as usize;
         if left < five {
             return false;
         }
@@ -167,7 +165,7 @@ fn pour_slots(out: &mut [u8], at: usize, first: u32, counts: &[u32], numbers: &[
             count,
             numbers_from(numbers, from),
         );
-        from = place_after(from, 5 * count as usize);
+        from = place_after(from, FIELDS * count as usize);
         i += 1;
     }
     pour_line(out, place, Key::End, first as usize + i)
@@ -194,7 +192,7 @@ fn pour_arrivals(out: &mut [u8], at: usize, count: u32, numbers: &[u32]) -> usiz
     let mut left = count;
     while 0 < left {
         place = pour_arrival(out, place, arrival_at(numbers_from(numbers, from)));
-        from += 5;
+        from += FIELDS;
         left -= 1;
     }
     place
@@ -370,25 +368,6 @@ fn line_end(at: usize, key: Key, n: usize) -> usize
     ensures { λ r. ⌜ Ends at (line key n) r ⌝ }
 {
     place_after(at, line_length(key, n))
-}
-
-// What a key is in a text.
-fn key_text(key: Key) -> KeyText
-    ensures { λ r. ⌜ KeyIs key (r .0) (r .1) ⌝ }
-{
-    match key {
-        Key::Ports => KeyText(*b"ports=  ", 6),
-        Key::First => KeyText(*b"first=  ", 6),
-        Key::Slot => KeyText(*b"slot=   ", 5),
-        Key::In => KeyText(*b"in=     ", 3),
-        Key::Out => KeyText(*b"out=    ", 4),
-        Key::Flow => KeyText(*b"flow=   ", 5),
-        Key::Rank => KeyText(*b"rank=   ", 5),
-        Key::Tag => KeyText(*b"tag=    ", 4),
-        Key::End => KeyText(*b"end=    ", 4),
-        Key::Refused => KeyText(*b"refused=", 8),
-        Key::Line => KeyText(*b"line=   ", 5),
-    }
 }
 
 // How many decimal digits a number has.

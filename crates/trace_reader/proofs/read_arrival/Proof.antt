@@ -4,8 +4,6 @@ use native.Mathlib.Omega.{arith}
 use mathlib.Core.List.{List}
 use mathlib.Core.Path.{sym, ap, _∙_}
 use denote.Ref.{now}
-use Rattle.trace.specs.Ascii.{ascii}
-use Rattle.trace.specs.Line.{keyName, keyText}
 use Rattle.trace.specs.declared.Key.the-variants.{In, Out, Flow, Rank, Tag}
 use Rattle.trace_reader.specs.declared.Came.the-variants.{Bad}
 use Rattle.trace_reader.proofs.Lines.{rest, Taken, taken, number-bad}
@@ -18,19 +16,19 @@ use Rattle.trace_reader.proofs.read_arrival.Tie as tie
 -- the places behind the lines, each from the next one
 
 abbrev back₁ : tie.After-known-told → tie.Start
-back₁ c = c .before .before .before .before .before .before
+back₁ c = c .before .before .before .before .before
 
 abbrev back₂ : tie.After-known-told2 → tie.After-known-told
-back₂ c = c .before .before .before .before .before .before
+back₂ c = c .before .before .before .before .before
 
 abbrev back₃ : tie.After-known-told3 → tie.After-known-told2
-back₃ c = c .before .before .before .before .before .before
+back₃ c = c .before .before .before .before .before
 
 abbrev back₄ : tie.After-known-told4 → tie.After-known-told3
-back₄ c = c .before .before .before .before .before .before
+back₄ c = c .before .before .before .before .before
 
 abbrev back₅ : tie.After-known-told5 → tie.After-known-told4
-back₅ c = c .before .before .before .before .before .before
+back₅ c = c .before .before .before .before .before
 
 -- the line that is next there, and the text that is left
 
@@ -62,28 +60,23 @@ left₄ c = rest (left₃ (back₄ c)) (c .before .rank .given .0 .1 .0)
 
 taken₁ : (c : tie.After-known-told)
     → Taken In (back₁ c .args .line) (now (back₁ c .args .text)) (c .before .input .given .0 .0) (c .before .input .given .0 .1 .0)
-unfolding keyText keyName ascii
-taken₁ c = taken In _ _ (c .before .before .before .read-marked .ensures) (c .before .input .given .1)
+taken₁ c = taken In _ _ (c .before .before .before .read-line .ensures) (c .before .input .given .1)
 
 taken₂ : (c : tie.After-known-told2)
     → Taken Out (line₁ (back₂ c)) (left₁ (back₂ c)) (c .before .output .given .0 .0) (c .before .output .given .0 .1 .0)
-unfolding keyText keyName ascii
-taken₂ c = taken Out _ _ (c .before .before .before .read-marked2 .ensures) (c .before .output .given .1)
+taken₂ c = taken Out _ _ (c .before .before .before .read-line2 .ensures) (c .before .output .given .1)
 
 taken₃ : (c : tie.After-known-told3)
     → Taken Flow (line₂ (back₃ c)) (left₂ (back₃ c)) (c .before .flow .given .0 .0) (c .before .flow .given .0 .1 .0)
-unfolding keyText keyName ascii
-taken₃ c = taken Flow _ _ (c .before .before .before .read-marked3 .ensures) (c .before .flow .given .1)
+taken₃ c = taken Flow _ _ (c .before .before .before .read-line3 .ensures) (c .before .flow .given .1)
 
 taken₄ : (c : tie.After-known-told4)
     → Taken Rank (line₃ (back₄ c)) (left₃ (back₄ c)) (c .before .rank .given .0 .0) (c .before .rank .given .0 .1 .0)
-unfolding keyText keyName ascii
-taken₄ c = taken Rank _ _ (c .before .before .before .read-marked4 .ensures) (c .before .rank .given .1)
+taken₄ c = taken Rank _ _ (c .before .before .before .read-line4 .ensures) (c .before .rank .given .1)
 
 taken₅ : (c : tie.After-known-told5)
     → Taken Tag (line₄ (back₅ c)) (left₄ (back₅ c)) (c .before .tag .given .0 .0) (c .before .tag .given .0 .1 .0)
-unfolding keyText keyName ascii
-taken₅ c = taken Tag _ _ (c .before .before .before .read-marked5 .ensures) (c .before .tag .given .1)
+taken₅ c = taken Tag _ _ (c .before .before .before .read-line5 .ensures) (c .before .tag .given .1)
 
 -- the five lines are within the text
 abbrev total : tie.After-known-told5 → ℕ
@@ -106,11 +99,8 @@ total-fits c =
     let p₁ = back₂ p₂ in
     omega (arith, back₁ p₁ .good, taken₁ p₁, taken₂ p₂, taken₃ p₃, taken₄ p₄, taken₅ c)
 
-slice-aggregate-read-marked : tie.Need-slice-aggregate-read-marked
-slice-aggregate-read-marked c = search needs
-
-read-marked-requires : tie.Need-read-marked-requires
-read-marked-requires c κs = search needs
+read-line-requires : tie.Need-read-line-requires
+read-line-requires c κs = search needs
 
 enum-known-input : tie.Need-enum-known-input
 enum-known-input c = search needs
@@ -119,9 +109,8 @@ enum-told : tie.Need-enum-told
 enum-told c = search needs
 
 returns : tie.Need-returns
-unfolding keyText keyName ascii
 returns c =
-    sym (cameOf-bad _ (arrival-bad-in _ (number-bad In _ _ (c .before .before .read-marked .ensures) (c .enum-told .given .1))))
+    sym (cameOf-bad _ (arrival-bad-in _ (number-bad In _ _ (c .before .before .read-line .ensures) (c .enum-told .given .1))))
 
 sub-after-in : tie.Need-sub-after-in
 sub-after-in c = taken₁ c .within
@@ -132,11 +121,8 @@ part-after-in-start c = taken₁ c .within
 part-after-in-end : tie.Need-part-after-in-end
 part-after-in-end c = search needs
 
-slice-aggregate-read-marked-2 : tie.Need-slice-aggregate-read-marked-2
-slice-aggregate-read-marked-2 c = search needs
-
-read-marked-requires-2 : tie.Need-read-marked-requires-2
-read-marked-requires-2 c κs = search needs
+read-line-requires-2 : tie.Need-read-line-requires-2
+read-line-requires-2 c κs = search needs
 
 enum-known-output : tie.Need-enum-known-output
 enum-known-output c = search needs
@@ -144,14 +130,13 @@ enum-known-output c = search needs
 enum-told-2 : tie.Need-enum-told-2
 enum-told-2 c = search needs
 
-add-t32 : tie.Need-add-t32
-add-t32 c = search needs
+add-t24 : tie.Need-add-t24
+add-t24 c = search needs
 
 returns-2 : tie.Need-returns-2
-unfolding keyText keyName ascii
 returns-2 c =
-    let p₁ = c .before .before .before .before .before in
-    let b = number-bad Out _ (left₁ p₁) (c .before .before .read-marked2 .ensures) (c .enum-told2 .given .1) in
+    let p₁ = c .before .before .before .before in
+    let b = number-bad Out _ (left₁ p₁) (c .before .before .read-line2 .ensures) (c .enum-told2 .given .1) in
     sym (cameOf-bad _ (arrival-bad-out _ (taken₁ p₁ .read) b))
 
 sub-after-out : tie.Need-sub-after-out
@@ -163,11 +148,8 @@ part-after-out-start c = taken₂ c .within
 part-after-out-end : tie.Need-part-after-out-end
 part-after-out-end c = search needs
 
-slice-aggregate-read-marked-3 : tie.Need-slice-aggregate-read-marked-3
-slice-aggregate-read-marked-3 c = search needs
-
-read-marked-requires-3 : tie.Need-read-marked-requires-3
-read-marked-requires-3 c κs = search needs
+read-line-requires-3 : tie.Need-read-line-requires-3
+read-line-requires-3 c κs = search needs
 
 enum-known-flow : tie.Need-enum-known-flow
 enum-known-flow c = search needs
@@ -175,15 +157,14 @@ enum-known-flow c = search needs
 enum-told-3 : tie.Need-enum-told-3
 enum-told-3 c = search needs
 
-add-t38 : tie.Need-add-t38
-add-t38 c = search needs
+add-t28 : tie.Need-add-t28
+add-t28 c = search needs
 
 returns-3 : tie.Need-returns-3
-unfolding keyText keyName ascii
 returns-3 c =
-    let p₂ = c .before .before .before .before .before in
+    let p₂ = c .before .before .before .before in
     let p₁ = back₂ p₂ in
-    let b = number-bad Flow _ (left₂ p₂) (c .before .before .read-marked3 .ensures) (c .enum-told3 .given .1) in
+    let b = number-bad Flow _ (left₂ p₂) (c .before .before .read-line3 .ensures) (c .enum-told3 .given .1) in
     ap Bad (omega arith)
     ∙ sym (cameOf-bad _ (arrival-bad-flow _ (taken₁ p₁ .read) (taken₂ p₂ .read) b))
 
@@ -196,11 +177,8 @@ part-after-flow-start c = taken₃ c .within
 part-after-flow-end : tie.Need-part-after-flow-end
 part-after-flow-end c = search needs
 
-slice-aggregate-read-marked-4 : tie.Need-slice-aggregate-read-marked-4
-slice-aggregate-read-marked-4 c = search needs
-
-read-marked-requires-4 : tie.Need-read-marked-requires-4
-read-marked-requires-4 c κs = search needs
+read-line-requires-4 : tie.Need-read-line-requires-4
+read-line-requires-4 c κs = search needs
 
 enum-known-rank : tie.Need-enum-known-rank
 enum-known-rank c = search needs
@@ -208,16 +186,15 @@ enum-known-rank c = search needs
 enum-told-4 : tie.Need-enum-told-4
 enum-told-4 c = search needs
 
-add-t44 : tie.Need-add-t44
-add-t44 c = search needs
+add-t32 : tie.Need-add-t32
+add-t32 c = search needs
 
 returns-4 : tie.Need-returns-4
-unfolding keyText keyName ascii
 returns-4 c =
-    let p₃ = c .before .before .before .before .before in
+    let p₃ = c .before .before .before .before in
     let p₂ = back₃ p₃ in
     let p₁ = back₂ p₂ in
-    let b = number-bad Rank _ (left₃ p₃) (c .before .before .read-marked4 .ensures) (c .enum-told4 .given .1) in
+    let b = number-bad Rank _ (left₃ p₃) (c .before .before .read-line4 .ensures) (c .enum-told4 .given .1) in
     ap Bad (omega arith)
     ∙ sym (cameOf-bad _ (arrival-bad-rank _ (taken₁ p₁ .read) (taken₂ p₂ .read) (taken₃ p₃ .read) b))
 
@@ -230,11 +207,8 @@ part-after-rank-start c = taken₄ c .within
 part-after-rank-end : tie.Need-part-after-rank-end
 part-after-rank-end c = search needs
 
-slice-aggregate-read-marked-5 : tie.Need-slice-aggregate-read-marked-5
-slice-aggregate-read-marked-5 c = search needs
-
-read-marked-requires-5 : tie.Need-read-marked-requires-5
-read-marked-requires-5 c κs = search needs
+read-line-requires-5 : tie.Need-read-line-requires-5
+read-line-requires-5 c κs = search needs
 
 enum-known-tag : tie.Need-enum-known-tag
 enum-known-tag c = search needs
@@ -242,31 +216,30 @@ enum-known-tag c = search needs
 enum-told-5 : tie.Need-enum-told-5
 enum-told-5 c = search needs
 
-add-t50 : tie.Need-add-t50
-add-t50 c = omega (arith, back₁ (back₂ (back₃ (back₄ (c .before .before .before .before .before)))) .pre)
+add-t36 : tie.Need-add-t36
+add-t36 c = omega (arith, back₁ (back₂ (back₃ (back₄ (c .before .before .before .before)))) .pre)
 
 returns-5 : tie.Need-returns-5
-unfolding keyText keyName ascii
 returns-5 c =
-    let p₄ = c .before .before .before .before .before in
+    let p₄ = c .before .before .before .before in
     let p₃ = back₄ p₄ in
     let p₂ = back₃ p₃ in
     let p₁ = back₂ p₂ in
-    let b = number-bad Tag _ (left₄ p₄) (c .before .before .read-marked5 .ensures) (c .enum-told5 .given .1) in
+    let b = number-bad Tag _ (left₄ p₄) (c .before .before .read-line5 .ensures) (c .enum-told5 .given .1) in
     ap Bad (omega arith)
     ∙ sym (cameOf-bad _ (arrival-bad-tag _ (taken₁ p₁ .read) (taken₂ p₂ .read) (taken₃ p₃ .read) (taken₄ p₄ .read) b))
 
-add-t27 : tie.Need-add-t27
-add-t27 c = omega (arith, total-fits c)
+add-t21 : tie.Need-add-t21
+add-t21 c = omega (arith, total-fits c)
 
-add-t51 : tie.Need-add-t51
-add-t51 c = omega (arith, total-fits c)
+add-t37 : tie.Need-add-t37
+add-t37 c = omega (arith, total-fits c)
 
-add-t52 : tie.Need-add-t52
-add-t52 c = omega (arith, total-fits c)
+add-t38 : tie.Need-add-t38
+add-t38 c = omega (arith, total-fits c)
 
-add-t53 : tie.Need-add-t53
-add-t53 c = omega (arith, total-fits c)
+add-t39 : tie.Need-add-t39
+add-t39 c = omega (arith, total-fits c)
 
 returns-6 : tie.Need-returns-6
 returns-6 c =
@@ -283,49 +256,44 @@ pub read-arrival-spec : {M : Type 1} → statement M
 read-arrival-spec =
     tie.close
     (tie.spec
-    slice-aggregate-read-marked
-    read-marked-requires
+    read-line-requires
     enum-known-input
     enum-told
     returns
     sub-after-in
     part-after-in-start
     part-after-in-end
-    slice-aggregate-read-marked-2
-    read-marked-requires-2
+    read-line-requires-2
     enum-known-output
     enum-told-2
-    add-t32
+    add-t24
     returns-2
     sub-after-out
     part-after-out-start
     part-after-out-end
-    slice-aggregate-read-marked-3
-    read-marked-requires-3
+    read-line-requires-3
     enum-known-flow
     enum-told-3
-    add-t38
+    add-t28
     returns-3
     sub-after-flow
     part-after-flow-start
     part-after-flow-end
-    slice-aggregate-read-marked-4
-    read-marked-requires-4
+    read-line-requires-4
     enum-known-rank
     enum-told-4
-    add-t44
+    add-t32
     returns-4
     sub-after-rank
     part-after-rank-start
     part-after-rank-end
-    slice-aggregate-read-marked-5
-    read-marked-requires-5
+    read-line-requires-5
     enum-known-tag
     enum-told-5
-    add-t50
+    add-t36
     returns-5
-    add-t27
-    add-t51
-    add-t52
-    add-t53
+    add-t21
+    add-t37
+    add-t38
+    add-t39
     returns-6)

@@ -5,19 +5,15 @@ use borrow.Author.Needs.{needs}
 use borrow.Author.Tests.{not-true, not-false}
 use native.Mathlib.Omega.{arith}
 use mathlib.Core.Path.{sym, _∙_}
-use Rattle.trace.specs.Ascii.{ascii}
-use Rattle.trace.specs.Line.{keyName, keyText}
-use Rattle.trace.specs.declared.Key.the-variants.{In}
-use Rattle.trace_reader.proofs.Marks.{begins-with}
 use Rattle.trace_reader.proofs.Records.{Walked, walked-start, walked-more, walked-stop, walked-full, walked-bad}
 use Rattle.trace_reader.proofs.read_arrivals.Statement.{statement}
 use Rattle.trace_reader.proofs.read_arrivals.Tie as tie
 
 abbrev Inv-loop : tie.InvT-loop
-Inv-loop text start numbers₀ at₀ k₀ mark numbers at k = Walked text start numbers₀ numbers at k
+Inv-loop text start numbers₀ at₀ k₀ numbers at k = Walked text start numbers₀ numbers at k
 
 abbrev μ-loop : tie.MeasureT-loop
-μ-loop text start numbers₀ at₀ k₀ mark numbers at k = 16 - k
+μ-loop text start numbers₀ at₀ k₀ numbers at k = 16 - k
 
 loop-holds : tie.Need-loop-holds Inv-loop μ-loop
 loop-holds c = walked-start _ _ _ (c .before .pre)
@@ -40,19 +36,16 @@ add-line c = omega arith
 cast-line : tie.Need-cast-line Inv-loop μ-loop
 cast-line c = omega arith
 
-slice-aggregate-begins : tie.Need-slice-aggregate-begins Inv-loop μ-loop
-slice-aggregate-begins c = search needs
-
 begins-requires : tie.Need-begins-requires Inv-loop μ-loop
 begins-requires c κs = search needs
 
-cast-t20 : tie.Need-cast-t20 Inv-loop μ-loop
-cast-t20 c = omega arith
+cast-t18 : tie.Need-cast-t18 Inv-loop μ-loop
+cast-t18 c = omega arith
 
 returns : tie.Need-returns Inv-loop μ-loop
-unfolding keyText keyName ascii
 returns c =
-    walked-stop (c .before .before .before .before .before .loop .inv) (begins-with In 0 _ (sym (c .before .begins .ensures) ∙ not-true _ (c .if1 .taken)))
+    let begins = c .before in
+    walked-stop (begins .before .before .before .loop .inv) (sym (begins .begins .ensures) ∙ not-true _ (c .if1 .taken))
 
 read-arrival-requires : tie.Need-read-arrival-requires Inv-loop μ-loop
 read-arrival-requires c κs = search needs
@@ -61,10 +54,12 @@ enum-known-fault : tie.Need-enum-known-fault Inv-loop μ-loop
 enum-known-fault c = search needs
 
 returns-2 : tie.Need-returns-2 Inv-loop μ-loop
-unfolding keyText keyName ascii
 returns-2 c =
-    let b = begins-with In 0 _ (sym (c .before .before .before .before .before .begins .ensures) ∙ not-false _ (c .before .before .before .before .if1 .left)) in
-    walked-bad (c .before .before .before .before .before .before .before .before .before .loop .inv) (c .before .before .before .before .before .before .before .before .loop-test .taken) b (c .before .before .before .read-arrival .ensures) (c .before .fault .given .1)
+    let came = c .before .before .before in
+    let begins = came .before .before in
+    let turn = begins .before .before in
+    let b = sym (begins .begins .ensures) ∙ not-false _ (came .before .if1 .left) in
+    walked-bad (turn .before .loop .inv) (turn .loop-test .taken) b (came .read-arrival .ensures) (c .before .fault .given .1)
 
 enum-known-a : tie.Need-enum-known-a Inv-loop μ-loop
 enum-known-a c = search needs
@@ -73,14 +68,19 @@ store-requires : tie.Need-store-requires Inv-loop μ-loop
 store-requires c κs = search needs
 
 loop-again : tie.Need-loop-again Inv-loop μ-loop
-unfolding keyText keyName ascii
 loop-again c =
-    let b = begins-with In 0 _ (sym (c .before .before .before .before .before .before .before .begins .ensures) ∙ not-false _ (c .before .before .before .before .before .before .if1 .left)) in
-    walked-more (c .before .before .before .before .before .before .before .before .before .before .before .loop .inv) (c .before .before .before .before .before .before .before .before .before .before .loop-test .taken) b (c .before .before .before .before .before .read-arrival .ensures) (c .before .before .before .a .given .1) (c .store .ensures)
+    let a = c .before .before .before in
+    let came = a .before .before in
+    let begins = came .before .before in
+    let turn = begins .before .before in
+    let b = sym (begins .begins .ensures) ∙ not-false _ (came .before .if1 .left) in
+    walked-more (turn .before .loop .inv) (turn .loop-test .taken) b (came .read-arrival .ensures) (a .a .given .1)
+    (c .store .ensures)
 
 add-at : tie.Need-add-at Inv-loop μ-loop
 add-at c =
-    omega (arith, loop-again c .within, c .before .before .before .before .before .before .before .before .before .before .before .before .before .good)
+    let begins = c .before .before .before .before .before .before .before in
+    omega (arith, loop-again c .within, begins .before .before .before .before .before .good)
 
 add-k : tie.Need-add-k Inv-loop μ-loop
 add-k c = omega arith
@@ -104,9 +104,8 @@ read-arrivals-spec =
     mul-line
     add-line
     cast-line
-    slice-aggregate-begins
     begins-requires
-    cast-t20
+    cast-t18
     returns
     read-arrival-requires
     enum-known-fault

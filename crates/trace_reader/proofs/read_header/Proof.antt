@@ -1,17 +1,45 @@
 -- `trace_reader::read_header` meets its contract: each `return` is a case of the header. Assumes nothing.
 use native.Mathlib.Omega.{arith}
-use mathlib.Core.Path.{sym, _∙_}
+use mathlib.Core.Bool.{true}
+use mathlib.Core.List.{List}
+use mathlib.Core.Path.{_≡_, sym, _∙_}
+use borrow.Author.Needs.{needs}
 use borrow.Author.Tests.{not-true, not-false}
 use denote.Ref.{now}
-use Rattle.trace.specs.Ascii.{ascii}
-use Rattle.trace.specs.Line.{keyName, keyText}
+use Prim.Native.Nat.{ℕ}
 use Rattle.trace.specs.declared.Key.the-variants.{Ports, First}
-use Rattle.trace_reader.proofs.Lines.{rest, number-bad, taken}
+use Rattle.trace.specs.Piece.{decided}
+use Rattle.trace_reader.proofs.Lines.{rest, Taken, taken, number-bad}
 use Rattle.trace_reader.proofs.Answers.{opening-short, opening-bad-ports, opening-bad-size}
 use Rattle.trace_reader.proofs.Answers.{opening-bad-first, opening-open}
-use borrow.Author.Needs.{needs}
 use Rattle.trace_reader.proofs.read_header.Statement.{statement}
 use Rattle.trace_reader.proofs.read_header.Tie as tie
+
+-- behind the line of `ports`
+
+abbrev start₁ : tie.After-known-told → tie.Start
+start₁ c = c .before .before .before .before .before .before .before
+
+taken₁ : (c : tie.After-known-told)
+    → Taken Ports 1 (now (start₁ c .args .text)) (c .before .ports .given .0 .0) (c .before .ports .given .0 .1 .0)
+taken₁ c = taken Ports 1 _ (c .before .before .before .read-line .ensures) (c .before .ports .given .1)
+
+decided₁ : (c : tie.After-known-told) → decided (start₁ c .args .last) (now (start₁ c .args .text)) ≡ true
+decided₁ c =
+    let line = c .before .before .before in
+    sym (line .before .before .decided .ensures) ∙ not-false _ (line .before .if1 .left)
+
+-- behind the line of `first`
+
+abbrev back₂ : tie.After-known-told2 → tie.After-known-told
+back₂ c = c .before .before .before .before .before .before .before
+
+abbrev left₁ : tie.After-known-told → List ℕ
+left₁ c = rest (now (start₁ c .args .text)) (c .before .ports .given .0 .1 .0)
+
+taken₂ : (c : tie.After-known-told2)
+    → Taken First 2 (left₁ (back₂ c)) (c .before .first .given .0 .0) (c .before .first .given .0 .1 .0)
+taken₂ c = taken First 2 _ (c .before .before .before .read-line2 .ensures) (c .before .first .given .1)
 
 decided-requires : tie.Need-decided-requires
 decided-requires c κs = search needs
@@ -19,11 +47,8 @@ decided-requires c κs = search needs
 returns : tie.Need-returns
 returns c = sym (opening-short _ _ (sym (c .before .decided .ensures) ∙ not-true _ (c .if1 .taken)))
 
-slice-aggregate-read-marked : tie.Need-slice-aggregate-read-marked
-slice-aggregate-read-marked c = search needs
-
-read-marked-requires : tie.Need-read-marked-requires
-read-marked-requires c κs = search needs
+read-line-requires : tie.Need-read-line-requires
+read-line-requires c κs = search needs
 
 enum-known-ports : tie.Need-enum-known-ports
 enum-known-ports c = search needs
@@ -32,37 +57,31 @@ enum-told : tie.Need-enum-told
 enum-told c = search needs
 
 returns-2 : tie.Need-returns-2
-unfolding keyText keyName ascii
 returns-2 c =
-    let d = sym (c .before .before .before .before .before .decided .ensures) ∙ not-false _ (c .before .before .before .before .if1 .left) in
-    sym (opening-bad-ports _ _ d (number-bad Ports 1 _ (c .before .before .read-marked .ensures) (c .enum-told .given .1)))
+    let line = c .before .before in
+    let d = sym (line .before .before .decided .ensures) ∙ not-false _ (line .before .if1 .left) in
+    sym (opening-bad-ports _ _ d (number-bad Ports 1 _ (line .read-line .ensures) (c .enum-told .given .1)))
 
 ports-in-range-requires : tie.Need-ports-in-range-requires
 ports-in-range-requires c κs = search needs
 
 returns-3 : tie.Need-returns-3
-unfolding keyText keyName ascii
 returns-3 c =
-    let d = sym (c .before .before .before .before .before .before .before .before .decided .ensures) ∙ not-false _ (c .before .before .before .before .before .before .before .if1 .left) in
-    let p = taken Ports 1 _ (c .before .before .before .before .before .read-marked .ensures) (c .before .before .before .ports .given .1) in
-    sym (opening-bad-size _ _ d (p .read) (sym (c .before .ports-in-range .ensures) ∙ not-true _ (c .if2 .taken)))
+    let ports = c .before .before in
+    let r = sym (c .before .ports-in-range .ensures) ∙ not-true _ (c .if2 .taken) in
+    sym (opening-bad-size _ _ (decided₁ ports) (taken₁ ports .read) r)
 
-sub-read-marked : tie.Need-sub-read-marked
-unfolding keyText keyName ascii
-sub-read-marked c =
-    taken Ports 1 _ (c .before .before .before .before .before .read-marked .ensures) (c .before .before .before .ports .given .1) .within
+sub-read-line : tie.Need-sub-read-line
+sub-read-line c = taken₁ (c .before .before) .within
 
-part-read-marked-start : tie.Need-part-read-marked-start
-part-read-marked-start c = sub-read-marked c
+part-read-line-start : tie.Need-part-read-line-start
+part-read-line-start c = sub-read-line c
 
-part-read-marked-end : tie.Need-part-read-marked-end
-part-read-marked-end c = search needs
+part-read-line-end : tie.Need-part-read-line-end
+part-read-line-end c = search needs
 
-slice-aggregate-read-marked-2 : tie.Need-slice-aggregate-read-marked-2
-slice-aggregate-read-marked-2 c = search needs
-
-read-marked-requires-2 : tie.Need-read-marked-requires-2
-read-marked-requires-2 c κs = search needs
+read-line-requires-2 : tie.Need-read-line-requires-2
+read-line-requires-2 c κs = search needs
 
 enum-known-first : tie.Need-enum-known-first
 enum-known-first c = search needs
@@ -71,35 +90,25 @@ enum-told-2 : tie.Need-enum-told-2
 enum-told-2 c = search needs
 
 returns-4 : tie.Need-returns-4
-unfolding keyText keyName ascii
 returns-4 c =
-    let t = now (c .before .before .before .before .before .before .before .before .before .before .before .before .before .before .before .args .text) in
-    let i = c .before .before .before .before .before .before .before .before .ports .given .0 .1 .0 in
-    let d = sym (c .before .before .before .before .before .before .before .before .before .before .before .before .before .decided .ensures) ∙ not-false _ (c .before .before .before .before .before .before .before .before .before .before .before .before .if1 .left) in
-    let p = taken Ports 1 t (c .before .before .before .before .before .before .before .before .before .before .read-marked .ensures) (c .before .before .before .before .before .before .before .before .ports .given .1) in
-    let r = sym (c .before .before .before .before .before .before .ports-in-range .ensures) ∙ not-false _ (c .before .before .before .before .before .if2 .left) in
-    let f = number-bad First 2 (rest t i) (c .before .before .read-marked2 .ensures) (c .enum-told2 .given .1) in
-    sym (opening-bad-first _ t d (p .read) r f)
+    let line = c .before .before in
+    let range = line .before .before .before in
+    let ports = range .before in
+    let r = sym (range .ports-in-range .ensures) ∙ not-false _ (line .before .before .if2 .left) in
+    let f = number-bad First 2 (left₁ ports) (line .read-line2 .ensures) (c .enum-told2 .given .1) in
+    sym (opening-bad-first _ _ (decided₁ ports) (taken₁ ports .read) r f)
 
-add-t18 : tie.Need-add-t18
-unfolding keyText keyName ascii
-add-t18 c =
-    let t = now (c .before .before .before .before .before .before .before .before .before .before .before .before .before .before .before .before .args .text) in
-    let i = c .before .before .before .before .before .before .before .before .before .ports .given .0 .1 .0 in
-    let p = taken Ports 1 t (c .before .before .before .before .before .before .before .before .before .before .before .read-marked .ensures) (c .before .before .before .before .before .before .before .before .before .ports .given .1) in
-    let q = taken First 2 (rest t i) (c .before .before .before .read-marked2 .ensures) (c .before .first .given .1) in
-    omega (arith, c .before .before .before .before .before .before .before .before .before .before .before .before .before .before .before .before .good, p, q)
+add-t15 : tie.Need-add-t15
+add-t15 c = omega (arith, start₁ (back₂ c) .good, taken₁ (back₂ c), taken₂ c)
 
 returns-5 : tie.Need-returns-5
-unfolding keyText keyName ascii
 returns-5 c =
-    let t = now (c .before .before .before .before .before .before .before .before .before .before .before .before .before .before .before .before .args .text) in
-    let i = c .before .before .before .before .before .before .before .before .before .ports .given .0 .1 .0 in
-    let d = sym (c .before .before .before .before .before .before .before .before .before .before .before .before .before .before .decided .ensures) ∙ not-false _ (c .before .before .before .before .before .before .before .before .before .before .before .before .before .if1 .left) in
-    let p = taken Ports 1 t (c .before .before .before .before .before .before .before .before .before .before .before .read-marked .ensures) (c .before .before .before .before .before .before .before .before .before .ports .given .1) in
-    let r = sym (c .before .before .before .before .before .before .before .ports-in-range .ensures) ∙ not-false _ (c .before .before .before .before .before .before .if2 .left) in
-    let q = taken First 2 (rest t i) (c .before .before .before .read-marked2 .ensures) (c .before .first .given .1) in
-    sym (opening-open _ t d (p .read) r (q .read) (omega (arith, p, q)))
+    let line = c .before .before .before in
+    let range = line .before .before .before in
+    let ports = range .before in
+    let r = sym (range .ports-in-range .ensures) ∙ not-false _ (line .before .before .if2 .left) in
+    let q = taken₂ c in
+    sym (opening-open _ _ (decided₁ ports) (taken₁ ports .read) r (q .read) (omega (arith, taken₁ ports, q)))
 
 pub read-header-spec : {M : Type 1} → statement M
 read-header-spec =
@@ -107,20 +116,18 @@ read-header-spec =
     (tie.spec
     decided-requires
     returns
-    slice-aggregate-read-marked
-    read-marked-requires
+    read-line-requires
     enum-known-ports
     enum-told
     returns-2
     ports-in-range-requires
     returns-3
-    sub-read-marked
-    part-read-marked-start
-    part-read-marked-end
-    slice-aggregate-read-marked-2
-    read-marked-requires-2
+    sub-read-line
+    part-read-line-start
+    part-read-line-end
+    read-line-requires-2
     enum-known-first
     enum-told-2
     returns-4
-    add-t18
+    add-t15
     returns-5)

@@ -1,6 +1,4 @@
 -- `trace_reader::read_slot` meets its contract: each `return` is a case of what stands at the line of `slot`. Assumes nothing.
-use Rattle.trace.specs.Ascii.{ascii}
-use Rattle.trace.specs.Line.{keyName, keyText}
 use Rattle.trace.specs.declared.Key.the-variants.{Slot}
 use Rattle.trace_reader.proofs.Lines.{number-bad, number-got, number-within}
 use Rattle.trace_reader.proofs.Answers.{slot-bad, slot-other, slot-same}
@@ -8,11 +6,8 @@ use borrow.Author.Needs.{needs}
 use Rattle.trace_reader.proofs.read_slot.Statement.{statement}
 use Rattle.trace_reader.proofs.read_slot.Tie as tie
 
-slice-aggregate-read-marked : tie.Need-slice-aggregate-read-marked
-slice-aggregate-read-marked c = search needs
-
-read-marked-requires : tie.Need-read-marked-requires
-read-marked-requires c κs = search needs
+read-line-requires : tie.Need-read-line-requires
+read-line-requires c κs = search needs
 
 enum-known-number : tie.Need-enum-known-number
 enum-known-number c = search needs
@@ -21,37 +16,35 @@ enum-told : tie.Need-enum-told
 enum-told c = search needs
 
 returns : tie.Need-returns
-unfolding keyText keyName ascii
 returns c =
-    slot-bad _ _ (c .before .before .before .before .before .pre) (number-bad Slot 0 _ (c .before .before .read-marked .ensures) (c .enum-told .given .1)) _
+    let line = c .before .before in
+    slot-bad _ _ (line .before .before .pre) (number-bad Slot 0 _ (line .read-line .ensures) (c .enum-told .given .1)) _
 
 returns-2 : tie.Need-returns-2
-unfolding keyText keyName ascii
 returns-2 c =
-    let i = c .before .before .number .given .0 .1 .0 in
-    let p = number-got Slot 0 _ (c .before .before .before .before .read-marked .ensures) (c .before .before .number .given .1) in
-    slot-other _ _ (c .before .before .before .before .before .before .before .pre) i p (c .if1 .taken) _
+    let number = c .before .before in
+    let line = number .before .before in
+    let p = number-got Slot 0 _ (line .read-line .ensures) (number .number .given .1) in
+    slot-other _ _ (line .before .before .pre) (number .number .given .0 .1 .0) p (c .if1 .taken) _
 
 read-arrivals-requires : tie.Need-read-arrivals-requires
-unfolding keyText keyName ascii
 read-arrivals-requires c κs =
-    number-within Slot 0 _ (c .before .before .before .before .before .read-marked .ensures) (c .before .before .before .number .given .1)
+    let number = c .before .before .before in
+    number-within Slot 0 _ (number .before .before .read-line .ensures) (number .number .given .1)
 
 returns-3 : tie.Need-returns-3
-unfolding keyText keyName ascii
 returns-3 c =
     let number = c .before .before .before .before in
     let line = number .before .before in
-    let p = number-got Slot 0 _ (line .read-marked .ensures) (number .number .given .1) in
-    slot-same _ _ (line .before .before .before .pre) (number .number .given .0 .1 .0) p (c .before .before .if1 .left) _
+    let p = number-got Slot 0 _ (line .read-line .ensures) (number .number .given .1) in
+    slot-same _ _ (line .before .before .pre) (number .number .given .0 .1 .0) p (c .before .before .if1 .left) _
     (c .read-arrivals .ensures .0) (c .read-arrivals .ensures .1)
 
 pub read-slot-spec : {M : Type 1} → statement M
 read-slot-spec =
     tie.close
     (tie.spec
-    slice-aggregate-read-marked
-    read-marked-requires
+    read-line-requires
     enum-known-number
     enum-told
     returns

@@ -2,9 +2,7 @@
 -- Assumes nothing.
 use borrow.Author.Needs.{needs}
 use native.Mathlib.Omega.{arith}
-use Rattle.trace.proofs.Lengths.{length-decimal-below}
-use Rattle.trace_writer.proofs.Decimals.{length-line-parts}
-use Rattle.trace_writer.proofs.Keys.{keyLength-le}
+use Rattle.trace.proofs.Lengths.{length-keyText-le, length-decimal-below, length-line}
 use Rattle.trace_writer.proofs.line_length.Statement.{statement}
 use Rattle.trace_writer.proofs.line_length.Tie as tie
 
@@ -17,15 +15,17 @@ digits-requires c κs = search needs
 add-result : tie.Need-add-result
 add-result c =
     let s = c .before .before .before .args in
-    omega (arith, keyLength-le (s .key), length-decimal-below 19 (s .n) (omega arith))
+    omega (arith, length-keyText-le (s .key), length-decimal-below 19 (s .n) (omega arith))
 
 add-result-2 : tie.Need-add-result-2
 add-result-2 c =
     let s = c .before .before .before .args in
-    omega (arith, keyLength-le (s .key), length-decimal-below 19 (s .n) (omega arith))
+    omega (arith, length-keyText-le (s .key), length-decimal-below 19 (s .n) (omega arith))
 
 returns : tie.Need-returns
-returns c = omega (arith, length-line-parts (c .before .before .before .args .key) (c .before .before .before .args .n))
+returns c =
+    let s = c .before .before .before .args in
+    omega (arith, length-line (s .key) (s .n))
 
 pub line-length-spec : {M : Type 1} → statement M
 line-length-spec =
