@@ -33,12 +33,11 @@ use Rattle.trace.specs.declared.Key.{Key}
 use Rattle.trace.specs.declared.Key.the-variants.{Ports, First, Slot, End, Refused, Line}
 use Rattle.trace.specs.Line.{line}
 use Rattle.trace.specs.Piece.{known, enough, decided, nextIn, headerIn}
-use Rattle.trace.specs.Reader.{Cursor, Next, slotAhead, finished, faulty, next, Header, opened, refusedAt, header}
+use Rattle.trace.specs.Reader.{from, Cursor, Next, slotAhead, finished, faulty, next, Header, opened, refusedAt, header}
 use Rattle.trace.proofs.Line.{length-line}
 use Rattle.trace.proofs.Blocks.{next-exact}
 use Rattle.trace.proofs.RoundTrip.{header-exact}
 use Rattle.trace.specs.Lines.{departuresText, refusalText}
-use Rattle.trace_reader.specs.Reading.{from}
 use Rattle.trace_reader.proofs.Answers.{headerIn-more, headerIn-known, nextIn-more, nextIn-known}
 use Rattle.trace_reader.proofs.Pieces.{onwardNext, next-onwards, behindHeader, header-append}
 use Rattle.trace_reader.proofs.Whole.{nil-text, next-nil, next-shorter}

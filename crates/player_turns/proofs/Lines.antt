@@ -23,8 +23,8 @@ use Rattle.trace.specs.Line.{line}
 use Rattle.trace.proofs.Lengths.{length-keyText-le, length-decimal-below, length-line, length-line-le}
 use Rattle.trace.proofs.Tests.{fits32-i}
 use Rattle.trace.specs.Lines.{refusalText}
-use Rattle.trace_writer.specs.Writing.{lastPlace, Ends, Put}
-use Rattle.trace_writer.proofs.Pour.{put-short, put-poured, poured-put, poured-whole, put-then}
+use Rattle.trace_line_writer.specs.Writing.{lastPlace, Ends, Put}
+use Rattle.trace_line_writer.proofs.Pour.{put-short, put-poured, poured-put, poured-whole, put-then}
 use Rattle.layout.specs.Host.{filled}
 use Rattle.player_text.specs.Player.{lineOf}
 use Rattle.player_turns.specs.Turns.{turnRoom, Wrote}

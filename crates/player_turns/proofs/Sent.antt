@@ -24,8 +24,8 @@ use Rattle.trace.specs.Ascii.{ascii}
 use Rattle.trace.specs.Line.{keyName, keyText}
 use Rattle.trace.specs.Lines.{departureText, departuresText}
 use Rattle.trace.proofs.Lengths.{length-line-le}
-use Rattle.trace_writer.specs.Writing.{lastPlace, Put}
-use Rattle.trace_writer.proofs.Pour.{put-then}
+use Rattle.trace_line_writer.specs.Writing.{lastPlace, Put}
+use Rattle.trace_line_writer.proofs.Pour.{put-then}
 use Rattle.layout.specs.Answer.{departureSize, answerBytes, departureIn, departuresIn, cellIn, departuresSize}
 use Rattle.layout.specs.Host.{filled}
 use Rattle.layout.specs.Number.{word}

@@ -29,13 +29,13 @@ use Rattle.trace.specs.declared.Opening.the-variants.{Open, Refused, Short}
 use Rattle.trace.specs.Flat.{arrivalAt, arrivalsFrom}
 use Rattle.trace.specs.Line.{line}
 use Rattle.trace.specs.Piece.{known, more, decided, nextIn, headerIn, numbersOf, answerOf, openingOf}
-use Rattle.trace.specs.Reader.{number, next}
+use Rattle.trace.specs.Reader.{from, number, next}
 use Rattle.trace.specs.Reader.{slotAhead, header}
 use Rattle.trace.proofs.Blocks.{blockFits-e, next-exact}
 use Rattle.trace.proofs.Flat.{length-numbersOf}
 use Rattle.trace.proofs.RoundTrip.{header-exact}
 use Rattle.trace.specs.Lines.{departuresText, refusalText}
-use Rattle.trace_reader.specs.Reading.{from, numbersAfter, stored}
+use Rattle.trace_reader.specs.Reading.{numbersAfter, stored}
 use Rattle.trace_reader.proofs.Answered.{opening-open-e, opening-refused-e, opening-short-e}
 use Rattle.trace_reader.proofs.Answered.{Ahead, answer-slot-e, answer-end-e, answer-bad-e, answer-more-e}
 use Rattle.trace_reader.proofs.Answers.{headerIn-more, headerIn-known, nextIn-more, nextIn-known, opening-short, block-more}

@@ -23,7 +23,7 @@ ghost use Rattle.trace.specs.Line.{line};
 ghost use Rattle.trace.specs.Piece.{nextIn, headerIn};
 ghost use Rattle.trace.specs.Contents.{blockLimit, blockNumbers, blockLines};
 ghost use Rattle.trace.specs.Lines.{departureText, departuresText};
-ghost use Rattle.trace_writer.specs.Writing.{Put};
+ghost use Rattle.trace_line_writer.specs.Writing.{Put};
 ghost use Rattle.layout.specs.Answer.{departureIn, departuresIn, departuresSize, departureSize};
 ghost use Rattle.layout.specs.Entry.{clockIn};
 ghost use Rattle.layout.specs.Table.{IsTable, stateOf, tableSize};
@@ -137,7 +137,7 @@ fn header_turn(text: &[u8], last: bool, table: &mut [u8], out: &mut [u8]) -> Tur
             }
         }
         Opening::Refused(refusal, fault) => {
-            let written = trace_writer::put_refusal(out, 0, refusal, fault as usize);
+            let written = trace_line_writer::put_refusal(out, 0, refusal, fault as usize);
             over(Stage::TurnedBack, written)
         }
         Opening::Short => Turn {
@@ -175,10 +175,15 @@ fn next_turn(line: usize, text: &[u8], last: bool, table: &mut [u8], out: &mut [
         }
         Answer::End => over(
             Stage::Ended,
-            trace_writer::put_line(out, 0, Key::End, clock),
+            trace_line_writer::put_line(out, 0, Key::End, clock),
         ),
         Answer::Bad(k) => {
-            let written = trace_writer::put_refusal(out, 0, Refusal::BadLine, line + k as usize);
+            let written = trace_line_writer::put_refusal(
+                out,
+                0,
+                Refusal::BadLine,
+                line + k as usize,
+            );
             over(Stage::TurnedBack, written)
         }
         Answer::More => Turn {
@@ -223,7 +228,7 @@ fn play_slot(
     let mut answer = [0u8; layout::ANSWER_BYTES];
     match slot_call::sound_slot(table, records, many, &mut answer) {
         Fault::At(refusal, place) => {
-            Played::Stopped(trace_writer::put_refusal(out, 0, refusal, line_of(line, place)))
+            Played::Stopped(trace_line_writer::put_refusal(out, 0, refusal, line_of(line, place)))
         }
         Fault::Clear => Played::Ran(put_slot(out, clock, &answer)),
     }
@@ -266,8 +271,8 @@ fn put_header(out: &mut [u8], ports: u32, first: u32) -> usize
     requires { ⌜ turnRoom ≤ length (now out) ⌝ }
     ensures { λ r. ⌜ Wrote (line Ports ports ++ line First first) (now (out .entry)) (now (out .exit)) r ⌝ }
 {
-    let at = trace_writer::put_line(out, 0, Key::Ports, ports);
-    trace_writer::put_line(out, at, Key::First, first)
+    let at = trace_line_writer::put_line(out, 0, Key::Ports, ports);
+    trace_line_writer::put_line(out, at, Key::First, first)
 }
 
 // The line `slot`, and the departures of an answer.
@@ -276,7 +281,7 @@ fn put_slot(out: &mut [u8], clock: u32, answer: &[u8]) -> usize
     ensures { λ r. ⌜ Wrote (line Slot clock ++ departuresText (departuresIn portLimit (now (answer .entry))))
         (now (out .entry)) (now (out .exit)) r ⌝ }
 {
-    let at = trace_writer::put_line(out, 0, Key::Slot, clock);
+    let at = trace_line_writer::put_line(out, 0, Key::Slot, clock);
     put_departures(out, at, answer)
 }
 
@@ -305,5 +310,5 @@ fn put_sent(out: &mut [u8], at: usize, sent: &[u8]) -> usize
     if layout_answer::is_none(sent) {
         return at;
     }
-    trace_writer::put_departure(out, at, layout_answer::cell_in(sent))
+    trace_line_writer::put_departure(out, at, layout_answer::cell_in(sent))
 }

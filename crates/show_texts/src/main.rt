@@ -144,7 +144,7 @@ fn write(name: &[u8], ports: u32, first: u32, counts: &[u32], numbers: &[u32]) {
 // The refusal's two lines.
 fn refused(refusal: Refusal, line: usize) {
     let mut out = [0u8; 64];
-    let end = trace_writer::put_refusal(&mut out, 0, refusal, line);
+    let end = trace_line_writer::put_refusal(&mut out, 0, refusal, line);
     print_first(&out, end);
 }
 

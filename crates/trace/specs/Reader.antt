@@ -19,6 +19,10 @@ pub record Cursor : Type 0 where
   pub line : ℕ
   pub text : List ℕ
 
+-- a text and the number of its first line
+abbrev pub from : ℕ → List ℕ → Cursor
+from l t = record { line = l; text = t }
+
 pub data Read (A : Type 0) : Type 0 where
   got : A → Cursor → Read A
   badAt : ℕ → Read A
@@ -92,7 +96,7 @@ pub data Header : Type 0 where
 -- first `ports`, then `first`; a number of ports out of range is refused before the line of `first` is looked at
 unfoldable pub header : List ℕ → Header
 header t =
-    elim (number Ports (record { line = 1; text = t })) [
+    elim (number Ports (from 1 t)) [
       | badAt l ↦ refusedAt BadLine l
       | got n c ↦ elim (portsInRange n) [
         | false ↦ refusedAt BadSize 1

@@ -1,9 +1,6 @@
 // The trace: one grammar, read by `trace_reader` and written by `trace_writer`. What a line, a block and a whole text
 // mean is in specs/.
 use cell::Refusal;
-ghost use mathlib.Core.Path.{_≡_};
-ghost use lib.ListN.{length, take};
-ghost use Rattle.trace.specs.Line.{keyText};
 
 // So many arrivals a block has at most, each of so many numbers: input, output, flow, rank, tag.
 pub const BLOCK_LIMIT: u32 = 16;
@@ -29,9 +26,6 @@ pub enum Key {
     Refused,
     Line,
 }
-
-// A key and `=`, filled up with blanks, and how many bytes they have.
-pub struct KeyText(pub [u8; 8], pub usize);
 
 // What stands at the start of a text.
 pub enum Opening {
@@ -61,24 +55,4 @@ pub enum Output {
     Text(usize),
     // A refusal; nothing was written.
     TurnedBack(Refusal),
-}
-
-// What a key is in a text, for the reader and the writer.
-pub fn key_text(key: Key) -> KeyText
-    ensures { λ r. ⌜ take (r .1) (r .0) ≡ keyText key ⌝ }
-    ensures { λ r. ⌜ r .1 ≡ length (keyText key) ⌝ }
-{
-    match key {
-        Key::Ports => KeyText(*b"ports=  ", 6),
-        Key::First => KeyText(*b"first=  ", 6),
-        Key::Slot => KeyText(*b"slot=   ", 5),
-        Key::In => KeyText(*b"in=     ", 3),
-        Key::Out => KeyText(*b"out=    ", 4),
-        Key::Flow => KeyText(*b"flow=   ", 5),
-        Key::Rank => KeyText(*b"rank=   ", 5),
-        Key::Tag => KeyText(*b"tag=    ", 4),
-        Key::End => KeyText(*b"end=    ", 4),
-        Key::Refused => KeyText(*b"refused=", 8),
-        Key::Line => KeyText(*b"line=   ", 5),
-    }
 }

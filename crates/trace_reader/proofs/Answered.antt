@@ -17,15 +17,14 @@ use Rattle.trace.specs.declared.Opening.{Opening}
 use Rattle.trace.specs.declared.Opening.the-variants.{Open, Refused, Short}
 use Rattle.trace.specs.Line.{line}
 use Rattle.trace.specs.Contents.{arrivalsText}
-use Rattle.trace.specs.Reader.{Cursor, Read, got, badAt, number, Next, slotAhead, finished, faulty, next}
+use Rattle.trace.specs.Reader.{from, Cursor, Read, got, badAt, number, Next, slotAhead, finished, faulty, next}
 use Rattle.trace.specs.Reader.{Header, opened, refusedAt, header}
 use Rattle.trace.specs.Piece.{Piece, known, more, decided, nextIn, headerIn, answerOf, openingOf}
-use Rattle.trace_reader.specs.Reading.{from}
 use Rattle.trace.proofs.Blocks.{next-exact}
 use Rattle.trace.proofs.RoundTrip.{header-bad-ports, header-bad-size, header-bad-first, header-opened, header-exact}
 use Rattle.trace_reader.proofs.Answers.{headerIn-more, headerIn-known, nextIn-more, nextIn-known}
 use Rattle.trace_reader.proofs.Arrivals.{number-line-next}
-use Rattle.trace_reader.proofs.Lines.{drop-rest}
+use Rattle.trace_line_reader.proofs.Lines.{drop-rest}
 
 never : {P : Type 0} → _≡_ {A = ℕ} 0 1 → P
 never z = absurd (omega arith)

@@ -22,10 +22,10 @@ use Rattle.trace.specs.declared.Opening.the-variants.{Open, Refused, Short}
 use Rattle.trace.specs.declared.Answer.{Answer}
 use Rattle.trace.specs.declared.Answer.the-variants.{End, Bad, More}
 use Rattle.trace.specs.Contents.{blockLimit}
-use Rattle.trace.specs.Reader.{Cursor, Read, got, badAt, number, exactly, begins, arrivals, block}
+use Rattle.trace.specs.Reader.{from, Cursor, Read, got, badAt, number, exactly, begins, arrivals, block}
 use Rattle.trace.specs.Reader.{Next, faulty, afterEnd, next, refusedAt, header}
 use Rattle.trace.specs.Piece.{Piece, known, more, decided, nextIn, headerIn, numbersOf, answerOf, openingOf}
-use Rattle.trace_reader.specs.Reading.{from, wholeArrivals, wholeOf, numbersAfter}
+use Rattle.trace_reader.specs.Reading.{wholeArrivals, wholeOf, numbersAfter}
 use Rattle.trace.proofs.Blocks.{bind-got, bind-bad, exactly-same, exactly-other, exactly-bad, afterEnd-nil, afterEnd-cons}
 use Rattle.trace.proofs.Blocks.{next-block, next-no-block, next-last, next-no-last}
 use Rattle.trace.proofs.RoundTrip.{header-bad-ports, header-bad-size, header-bad-first, header-opened}

@@ -19,11 +19,10 @@ use Rattle.trace_reader.specs.declared.Came.{Came}
 use Rattle.trace_reader.specs.declared.Came.the-variants.{Whole, Bad}
 use Rattle.trace.specs.Line.{readLine}
 use Rattle.trace.specs.Contents.{arrivalText}
-use Rattle.trace.specs.Reader.{Cursor, Read, got, badAt, Reader, give, _>>=_, number, exactly, begins, arrival, arrivals}
-use Rattle.trace_reader.specs.Reading.{from}
+use Rattle.trace.specs.Reader.{from, Cursor, Read, got, badAt, Reader, give, _>>=_, number, exactly, begins, arrival, arrivals}
 use Rattle.trace.proofs.Blocks.{got-bad, bind-got, bind-bad, bind-exact, number-some, number-none, arrival-exact}
 use Rattle.trace.proofs.Blocks.{exactly-same, exactly-other, exactly-bad, arrivals-stop}
-use Rattle.trace_reader.proofs.Lines.{drop-rest}
+use Rattle.trace_line_reader.proofs.Lines.{drop-rest}
 use Rattle.trace_reader.specs.Code.{cameOf}
 
 module _ (t : List ℕ) where

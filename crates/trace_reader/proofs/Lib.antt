@@ -1,9 +1,6 @@
 pub mod Answered
 pub mod Answers
 pub mod Arrivals
-pub mod Lines
-pub mod Marks
-pub mod Numbers
 pub mod Pieces
 pub mod Records
 pub mod Whole

@@ -26,12 +26,11 @@ use Rattle.trace.specs.declared.Key.{Key}
 use Rattle.trace.specs.declared.Key.the-variants.{Ports, First, Slot, In, Out, Flow, Rank, Tag, End}
 use Rattle.trace.specs.Ascii.{ascii}
 use Rattle.trace.specs.Line.{keyName, keyText, line, after, isDigit, readLine}
-use Rattle.trace.specs.Reader.{Cursor, Read, got, badAt, Reader, give, _>>=_, number, exactly, begins}
+use Rattle.trace.specs.Reader.{from, Cursor, Read, got, badAt, Reader, give, _>>=_, number, exactly, begins}
 use Rattle.trace.specs.Reader.{arrival, arrivals, block, Next, slotAhead, finished, faulty, afterEnd, next}
 use Rattle.trace.specs.Reader.{Header, opened, refusedAt, header}
 use Rattle.trace.specs.Contents.{blockLimit}
 use Rattle.trace.specs.Piece.{known, enough, decided, nextIn, headerIn}
-use Rattle.trace_reader.specs.Reading.{from}
 use Rattle.trace.proofs.Lengths.{length-line-le}
 use Rattle.trace.proofs.Line.{after-exact}
 use Rattle.trace.proofs.Blocks.{bind-got, bind-bad, bind-exact, number-some, number-none, number-exact}
@@ -41,9 +40,9 @@ use Rattle.trace.proofs.Blocks.{next-block, next-no-block, next-last, next-no-l
 use Rattle.trace.proofs.RoundTrip.{header-bad-ports, header-bad-size, header-bad-first, header-opened}
 use Rattle.trace_reader.proofs.Answers.{headerIn-more, headerIn-known, nextIn-more, nextIn-known}
 use Rattle.trace_reader.proofs.Arrivals.{exactly-line-next, arrival-line}
-use Rattle.trace_reader.proofs.Numbers.{continued, continued-line-feed, continued-stray, continued-zero}
-use Rattle.trace_reader.proofs.Numbers.{continued-digit, continued-over, readBody-stray, readBody-first}
-use Rattle.trace_reader.specs.Code.{readBody}
+use Rattle.trace_line_reader.proofs.Numbers.{continued, continued-line-feed, continued-stray, continued-zero}
+use Rattle.trace_line_reader.proofs.Numbers.{continued-digit, continued-over, readBody-stray, readBody-first}
+use Rattle.trace_line_reader.specs.Code.{readBody}
 
 -- a line
 

@@ -17,11 +17,11 @@ use Rattle.trace.specs.declared.Answer.the-variants.{Slot, Bad}
 use Rattle.trace_reader.specs.declared.Came.{Came}
 use Rattle.trace_reader.specs.declared.Came.the-variants.{Whole, Bad as BadCame}
 use Rattle.trace.specs.Contents.{blockLimit}
-use Rattle.trace.specs.Reader.{Cursor, got, badAt, begins, arrival, arrivals}
+use Rattle.trace.specs.Reader.{from, Cursor, got, badAt, begins, arrival, arrivals}
 use Rattle.trace.specs.Piece.{known, numbersOf, answerOf}
-use Rattle.trace_reader.specs.Reading.{from, stored, wholeArrivals, numbersAfter}
+use Rattle.trace_reader.specs.Reading.{stored, wholeArrivals, numbersAfter}
 use Rattle.trace.proofs.Flat.{numbersOf-append, length-numbersOf, sets-append}
-use Rattle.trace_reader.proofs.Lines.{rest, rest-drop, length-rest}
+use Rattle.trace_line_reader.proofs.Lines.{rest, rest-drop, length-rest}
 use Rattle.trace_reader.proofs.Arrivals.{came-bad, came-whole, onto, onto-nil, onto-none, onto-stop, onto-bad, onto-more}
 use Rattle.trace_reader.specs.Code.{cameOf, ahead}
 

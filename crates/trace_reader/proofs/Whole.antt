@@ -26,11 +26,11 @@ use Rattle.trace.specs.declared.Answer.the-variants.{Slot, End, Bad}
 use Rattle.trace_reader.specs.declared.Verdict.the-variants.{Accepted, Refused}
 use Rattle.trace.specs.Line.{line, readLine}
 use Rattle.trace.specs.Contents.{blockLimit, arrivalsText}
-use Rattle.trace.specs.Reader.{Cursor, Read, got, badAt, number, exactly, begins, arrivals, block}
+use Rattle.trace.specs.Reader.{from, Cursor, Read, got, badAt, number, exactly, begins, arrivals, block}
 use Rattle.trace.specs.Reader.{Next, slotAhead, finished, faulty, next, withSlot, blocks}
 use Rattle.trace.specs.Reader.{opened, refusedAt, header, read}
 use Rattle.trace.specs.Piece.{decided, nextIn, answerOf}
-use Rattle.trace_reader.specs.Reading.{from, verdictOf}
+use Rattle.trace_reader.specs.Reading.{verdictOf}
 use Rattle.trace.proofs.Tests.{fits32-e}
 use Rattle.trace.proofs.Line.{length-line}
 use Rattle.trace.proofs.Blocks.{bind-bad, number-some, number-none, number-exact, exactly-other, exactly-bad}
@@ -38,7 +38,7 @@ use Rattle.trace.proofs.Blocks.{next-no-block, next-no-last, next-exact}
 use Rattle.trace.proofs.RoundTrip.{blocks-end, blocks-slot, blocks-fault, read-refused, read-bad, read-accepted}
 use Rattle.trace_reader.proofs.Pieces.{next-slot-later, next-finished-later, next-faulty-later, next-line}
 use Rattle.trace_reader.proofs.Answered.{Ahead, answer-slot-e, answer-end-e, answer-bad-e}
-use Rattle.trace_reader.proofs.Lines.{rest, rest-drop, length-rest}
+use Rattle.trace_line_reader.proofs.Lines.{rest, rest-drop, length-rest}
 use Rattle.trace_reader.specs.Code.{ended, endedOf}
 
 -- a line that is not the clock's

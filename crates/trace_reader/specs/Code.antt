@@ -1,30 +1,14 @@
 -- What the private functions of the reader answer, by what the definitions read of a part.
-use Prim.Native.Nat.{ℕ, _+_, _*_, _-_}
-use mathlib.Core.Bool.{Bool, true, false}
+use Prim.Native.Nat.{ℕ, _+_, _-_}
 use mathlib.Core.List.{List}
-use mathlib.Core.Option.{Option, none, some, bind, Option·map}
-use lib.ListN.{length, getD}
+use lib.ListN.{length}
 use Rattle.cell.specs.declared.Arrival.{Arrival}
 use Rattle.cell.specs.declared.Refusal.the-variants.{BadLine}
 use Rattle.trace_reader.specs.declared.Came.{Came}
 use Rattle.trace_reader.specs.declared.Came.the-variants.{Whole, Bad as BadCame}
 use Rattle.trace_reader.specs.declared.Verdict.{Verdict}
 use Rattle.trace_reader.specs.declared.Verdict.the-variants.{Accepted, Refused}
-use Rattle.trace.specs.Line.{after, upToLineFeed, readNumber}
-use Rattle.trace.specs.Reader.{Read, got, badAt, Next, slotAhead, faulty, blocks}
-use Rattle.trace_reader.specs.Reading.{from}
-
--- four bytes as one number, the first of them its lowest
-abbrev pub wordAt : List ℕ → ℕ → ℕ
-wordAt t i = getD t i 0 + 256 * getD t (i + 1) 0 + 65536 * getD t (i + 2) 0 + 16777216 * getD t (i + 3) 0
-
--- whether a text begins with p
-unfoldable pub beginsWith : List ℕ → List ℕ → Bool
-beginsWith p t = elim (after p t) [ none ↦ false | some u ↦ true ]
-
--- a line behind its key: the number, and what follows the line feed
-unfoldable pub readBody : List ℕ → Option (ℕ × List ℕ)
-readBody t = bind (upToLineFeed t) (λ s. Option·map (λ n. (n, s .1)) (readNumber (s .0)))
+use Rattle.trace.specs.Reader.{from, Read, got, badAt, Next, slotAhead, faulty, blocks}
 
 unfoldable pub cameOf : List ℕ → Read Arrival → Came
 cameOf t (got a d) = Whole a (length t - length (d .text))

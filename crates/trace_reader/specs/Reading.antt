@@ -1,5 +1,4 @@
 -- What the functions of the reader answer, by what the definitions read:
---     lineOf t o      a line at the start of t
 --     verdictOf o     a whole text
 --     numbersAfter    the numbers lent to the block reader
 use Prim.Native.Nat.{ℕ, zero, suc, _-_}
@@ -10,23 +9,12 @@ use lib.ListN.{length}
 use lib.Seq.{sets}
 use Rattle.cell.specs.declared.Arrival.{Arrival}
 use Rattle.trace.specs.declared.Key.the-variants.{Slot, In, End}
-use Rattle.trace_reader.specs.declared.Line.{Line}
-use Rattle.trace_reader.specs.declared.Line.the-variants.{Number, Bad}
 use Rattle.trace_reader.specs.declared.Verdict.{Verdict}
 use Rattle.trace_reader.specs.declared.Verdict.the-variants.{Accepted, Refused}
 use Rattle.trace.specs.Contents.{blockLimit}
 use Rattle.trace.specs.Piece.{Piece, known, more, numbersOf}
 use Rattle.trace.specs.Reader.{Cursor, got, badAt, exactly, begins, arrival, Next, slotAhead, finished, faulty}
 use Rattle.trace.specs.Reader.{Outcome, accepted, refused}
-
--- a text and the number of its first line
-abbrev pub from : ℕ → List ℕ → Cursor
-from l t = record { line = l; text = t }
-
--- how many bytes of t were read is what they left
-unfoldable pub lineOf : List ℕ → Option (ℕ × List ℕ) → Line
-lineOf t none = Bad
-lineOf t (some s) = Number (s .0) (length t - length (s .1))
 
 unfoldable pub verdictOf : Outcome → Verdict
 verdictOf (accepted c) = Accepted (length (c .slots))

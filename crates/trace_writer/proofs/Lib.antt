@@ -1,4 +1,2 @@
-pub mod Decimals
 pub mod Flat
-pub mod Pour
 pub mod Writing

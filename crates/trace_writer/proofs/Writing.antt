@@ -24,15 +24,16 @@ use Rattle.trace.specs.Contents.{Contents, arrivalText, arrivalsText, slotsText
 use Rattle.trace.specs.Contents.{Written, write, wrote, turnedBack}
 use Rattle.trace.specs.Flat.{arrivalAt, arrivalsFrom, slotsFrom, fitTogether, contentsOf}
 use Rattle.trace.specs.Flat.{writeFlat, outputOf, bufferAfter}
-use Rattle.trace_writer.specs.Writing.{lastPlace, placeAfter, Put}
+use Rattle.trace_line_writer.specs.Writing.{lastPlace, placeAfter, Put}
 use Rattle.trace.specs.Reader.{accepted, read}
 use Rattle.laws.proofs.Tests.{and-l}
 use Rattle.trace.proofs.RoundTrip.{write-bad-line, write-short, write-fits, write-read}
 use Rattle.trace_writer.proofs.Flat.{Fit32, hasText-flat}
 use Rattle.trace_writer.proofs.Flat.{arrivalsText-more, slotsText-more, slotsText-end}
-use Rattle.trace_writer.proofs.Pour.{poured-whole, poured-tried, tried-put, tried-then, tried-none}
-use Rattle.trace_writer.proofs.Pour.{Rest, rest-start, rest-step, rest-end}
-use Rattle.trace_writer.specs.Code.{Tried, flatHasText}
+use Rattle.trace_line_writer.proofs.Pour.{poured-whole, poured-tried, tried-put, tried-then, tried-none}
+use Rattle.trace_line_writer.proofs.Pour.{Rest, rest-start, rest-step, rest-end}
+use Rattle.trace_line_writer.specs.Code.{Tried}
+use Rattle.trace_writer.specs.Code.{flatHasText}
 
 -- what is left to put
 

@@ -5,7 +5,7 @@ use mathlib.Core.Path.{_≡_, refl, _∙_}
 use borrow.Author.Needs.{needs}
 use lib.ListN.{length}
 use Rattle.trace.specs.Lines.{departuresText}
-use Rattle.trace_writer.specs.Writing.{Put}
+use Rattle.trace_line_writer.specs.Writing.{Put}
 use Rattle.layout.specs.Answer.{departuresIn}
 use Rattle.layout.proofs.Number.{bytes?-i}
 use Rattle.player_turns.proofs.Lines.{put-nothing}

@@ -6,7 +6,7 @@ use mathlib.Core.Path.{sym, ap, _∙_}
 use denote.Ref.{now}
 use Rattle.trace.specs.declared.Key.the-variants.{In, Out, Flow, Rank, Tag}
 use Rattle.trace_reader.specs.declared.Came.the-variants.{Bad}
-use Rattle.trace_reader.proofs.Lines.{rest, Taken, taken, number-bad}
+use Rattle.trace_line_reader.proofs.Lines.{rest, Taken, taken, number-bad}
 use Rattle.trace_reader.proofs.Arrivals.{cameOf-bad, cameOf-whole, arrival-bad-in, arrival-bad-out}
 use Rattle.trace_reader.proofs.Arrivals.{arrival-bad-flow, arrival-bad-rank, arrival-bad-tag, arrival-whole}
 use borrow.Author.Needs.{needs}

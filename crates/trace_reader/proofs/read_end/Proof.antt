@@ -1,6 +1,6 @@
 -- `trace_reader::read_end` meets its contract: each `return` is a case of what stands at the line of `end`. Assumes nothing.
 use Rattle.trace.specs.declared.Key.the-variants.{End}
-use Rattle.trace_reader.proofs.Lines.{number-bad, number-got}
+use Rattle.trace_line_reader.proofs.Lines.{number-bad, number-got}
 use Rattle.trace_reader.proofs.Answers.{end-bad, end-other, end-more, end-end}
 use borrow.Author.Needs.{needs}
 use Rattle.trace_reader.proofs.read_end.Statement.{statement}

@@ -9,7 +9,7 @@ use denote.Ref.{now}
 use Prim.Native.Nat.{ℕ}
 use Rattle.trace.specs.declared.Key.the-variants.{Ports, First}
 use Rattle.trace.specs.Piece.{decided}
-use Rattle.trace_reader.proofs.Lines.{rest, Taken, taken, number-bad}
+use Rattle.trace_line_reader.proofs.Lines.{rest, Taken, taken, number-bad}
 use Rattle.trace_reader.proofs.Answers.{opening-short, opening-bad-ports, opening-bad-size}
 use Rattle.trace_reader.proofs.Answers.{opening-bad-first, opening-open}
 use Rattle.trace_reader.proofs.read_header.Statement.{statement}

@@ -1,6 +1,6 @@
 -- `trace_reader::read_slot` meets its contract: each `return` is a case of what stands at the line of `slot`. Assumes nothing.
 use Rattle.trace.specs.declared.Key.the-variants.{Slot}
-use Rattle.trace_reader.proofs.Lines.{number-bad, number-got, number-within}
+use Rattle.trace_line_reader.proofs.Lines.{number-bad, number-got, number-within}
 use Rattle.trace_reader.proofs.Answers.{slot-bad, slot-other, slot-same}
 use borrow.Author.Needs.{needs}
 use Rattle.trace_reader.proofs.read_slot.Statement.{statement}

@@ -8,7 +8,7 @@ use lib.ListN.{drop}
 use Rattle.trace.specs.Contents.{arrivalText, arrivalsText}
 use Rattle.trace.specs.Flat.{arrivalsFrom}
 use Rattle.trace_writer.proofs.Flat.{arrivalsText-end}
-use Rattle.trace_writer.proofs.Pour.{Rest, rest-start, rest-done}
+use Rattle.trace_line_writer.proofs.Pour.{Rest, rest-start, rest-done}
 use Rattle.trace_writer.proofs.Writing.{rest-arrival}
 use Rattle.trace_writer.proofs.pour_arrivals.Statement.{statement}
 use Rattle.trace_writer.proofs.pour_arrivals.Tie as tie

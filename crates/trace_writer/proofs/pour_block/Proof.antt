@@ -1,7 +1,7 @@
 -- `trace_writer::pour_block` meets its contract: the line of the slot and its arrivals.
 -- Assumes nothing.
 use native.Mathlib.Omega.{arith}
-use Rattle.trace_writer.proofs.Pour.{tried-put, tried-then}
+use Rattle.trace_line_writer.proofs.Pour.{tried-put, tried-then}
 use borrow.Author.Needs.{needs}
 use Rattle.trace_writer.proofs.pour_block.Statement.{statement}
 use Rattle.trace_writer.proofs.pour_block.Tie as tie

@@ -7,7 +7,7 @@ use native.Mathlib.Omega.{arith}
 use lib.ListN.{length, drop}
 use Rattle.trace.specs.Contents.{slotsText}
 use Rattle.trace.specs.Flat.{slotsFrom}
-use Rattle.trace_writer.proofs.Pour.{Rest}
+use Rattle.trace_line_writer.proofs.Pour.{Rest}
 use Rattle.trace_writer.proofs.Writing.{rest-slots, rest-slot, rest-slots-end}
 use Rattle.trace_writer.proofs.pour_slots.Statement.{statement}
 use Rattle.trace_writer.proofs.pour_slots.Tie as tie
