@@ -62,9 +62,12 @@ loop-holds c =
       ap readBody (drop-here _ _ (c .before .before .before .if1 .left)) ∙ readBody-first _ _ d,
     )
 
+abbrev start : tie.In-loop Inv-loop μ-loop → tie.Start Inv-loop μ-loop
+start c = c .before .before .before .before .before .before .before
+
 -- what is read, by the next byte
 here : (c : tie.In-loop Inv-loop μ-loop)
-    → let a = c .before .before .before .before .before .before .before .args in
+    → let a = start c .args in
     let l = c .before .loop in
     readBody (drop (a .start) (a .text .now))
     ≡ continued (l .n) (getD (a .text .now) (l .at) 0 ∷ drop (l .at + 1) (a .text .now))
@@ -91,7 +94,7 @@ returns-4 c =
 
 digit : (c : tie.Else3 Inv-loop μ-loop)
     → let turn = c .before .before .before in
-    isDigit (getD (turn .before .before .before .before .before .before .before .args .text .now) (turn .before .loop .at) 0) ≡ true
+    isDigit (getD (start turn .args .text .now) (turn .before .loop .at) 0) ≡ true
 digit c = sym (c .before .is-digit2 .ensures) ∙ not-false _ (c .if3 .left)
 
 returns-5 : tie.Need-returns-5 Inv-loop μ-loop
@@ -116,7 +119,7 @@ add-m c = omega (arith, isDigit-e _ (digit (c .before)))
 -- what is read, behind one more digit
 further : (c : tie.Else5 Inv-loop μ-loop)
     → let turn = c .before .before .before .before in
-    let a = turn .before .before .before .before .before .before .before .args in
+    let a = start turn .args in
     let l = turn .before .loop in
     readBody (drop (a .start) (a .text .now))
     ≡ continued (10 * l .n + (getD (a .text .now) (l .at) 0 - 48)) (drop (l .at + 1) (a .text .now))

@@ -79,8 +79,9 @@ loop-again c =
 
 add-at : tie.Need-add-at Inv-loop μ-loop
 add-at c =
-    let begins = c .before .before .before .before .before .before .before in
-    omega (arith, loop-again c .within, begins .before .before .before .before .before .good)
+    let came = c .before .before .before .before .before in
+    let turn = came .before .before .before .before in
+    omega (arith, loop-again c .within, turn .before .before .before .good)
 
 add-k : tie.Need-add-k Inv-loop μ-loop
 add-k c = omega arith

@@ -31,19 +31,27 @@ cast-line c = search needs
 
 add-line : tie.Need-add-line Inv-loop μ-loop
 add-line c =
-    let v = c .before .before .before .before .before .before .loop .inv in
-    let l = verified-lines v (c .before .before .before .read-block .ensures .0) (c .before .used .given .1) in
+    let block = c .before .before .before in
+    let v = block .before .before .before .loop .inv in
+    let l = verified-lines v (block .read-block .ensures .0) (c .before .used .given .1) in
     omega (arith, v .begun, v .fits, v .lines)
 
 returns : tie.Need-returns Inv-loop μ-loop
 returns c =
-    verified-clock-end (c .before .before .before .before .before .before .before .loop .inv) (c .before .before .before .before .read-block .ensures .0) (c .before .before .used .given .1) (c .if1 .taken)
+    let used = c .before .before in
+    let block = used .before .before in
+    verified-clock-end (block .before .before .before .loop .inv) (block .read-block .ensures .0) (used .used .given .1) (c .if1 .taken)
 
 add-clock : tie.Need-add-clock Inv-loop μ-loop
-add-clock c = omega (arith, c .before .before .before .before .before .before .before .loop .inv .fits, c .if1 .left)
+add-clock c =
+    let block = c .before .before .before .before in
+    omega (arith, block .before .before .before .loop .inv .fits, c .if1 .left)
 
 sub-rest : tie.Need-sub-rest Inv-loop μ-loop
-sub-rest c = verified-within (c .before .before .before .before .before .before .before .loop .inv) (c .before .before .before .before .read-block .ensures .0) (c .before .before .used .given .1)
+sub-rest c =
+    let used = c .before .before in
+    let block = used .before .before in
+    verified-within (block .before .before .before .loop .inv) (block .read-block .ensures .0) (used .used .given .1)
 
 part-rest-start : tie.Need-part-rest-start Inv-loop μ-loop
 part-rest-start c = sub-rest c
@@ -53,11 +61,16 @@ part-rest-end c = search needs
 
 loop-less : tie.Need-loop-less Inv-loop μ-loop
 loop-less c =
-    verified-less (c .before .before .before .before .before .before .before .before .loop .inv) (c .before .before .before .before .before .read-block .ensures .0) (c .before .before .before .used .given .1)
+    let used = c .before .before .before in
+    let block = used .before .before in
+    verified-less (block .before .before .before .loop .inv) (block .read-block .ensures .0) (used .used .given .1)
 
 loop-again : tie.Need-loop-again Inv-loop μ-loop
 loop-again c =
-    verified-more (c .before .before .before .before .before .before .before .before .loop .inv) (c .before .before .before .before .before .read-block .ensures .0) (c .before .before .before .used .given .1) (c .before .if1 .left)
+    let used = c .before .before .before in
+    let block = used .before .before in
+    verified-more (block .before .before .before .loop .inv) (block .read-block .ensures .0) (used .used .given .1)
+    (c .before .if1 .left)
 
 enum-told : tie.Need-enum-told Inv-loop μ-loop
 enum-told c = search needs
@@ -66,7 +79,9 @@ sub-t19 : tie.Need-sub-t19 Inv-loop μ-loop
 sub-t19 c = c .before .before .before .before .before .loop .inv .begun
 
 returns-2 : tie.Need-returns-2 Inv-loop μ-loop
-returns-2 c = verified-end (c .before .before .before .before .before .loop .inv) (c .before .before .read-block .ensures .0) (c .enum-told .given .1)
+returns-2 c =
+    let block = c .before .before in
+    verified-end (block .before .before .before .loop .inv) (block .read-block .ensures .0) (c .enum-told .given .1)
 
 enum-known-k : tie.Need-enum-known-k Inv-loop μ-loop
 enum-known-k c = search needs
@@ -76,12 +91,15 @@ cast-t21 c = search needs
 
 add-t22 : tie.Need-add-t22 Inv-loop μ-loop
 add-t22 c =
-    let v = c .before .before .before .before .before .before .loop .inv in
+    let block = c .before .before .before in
+    let v = block .before .before .before .loop .inv in
     let g = c .known-told2 .given in
     omega (arith, v .begun, v .fits, v .lines, g)
 
 returns-3 : tie.Need-returns-3 Inv-loop μ-loop
-returns-3 c = verified-bad (c .before .before .before .before .before .before .loop .inv) (c .before .before .before .read-block .ensures .0) (c .before .k .given .1)
+returns-3 c =
+    let block = c .before .before .before in
+    verified-bad (block .before .before .before .loop .inv) (block .read-block .ensures .0) (c .before .k .given .1)
 
 enum-told-2 : tie.Need-enum-told-2 Inv-loop μ-loop
 enum-told-2 c = search needs

@@ -14,19 +14,18 @@ use Rattle.trace_writer.specs.Code.{flatHasText}
 
 -- what the tests showed
 
-in-range : (c : tie.Else1) → portsInRange (c .before .before .before .before .before .args .ports) ≡ true
+abbrev start : tie.Else1 → tie.Start
+start c = c .before .before .before .before .before
+
+in-range : (c : tie.Else1) → portsInRange (start c .args .ports) ≡ true
 in-range c = sym (c .before .ports-in-range .ensures) ∙ not-false _ (c .if1 .left)
 
-fit32 : (c : tie.Else1) → Fit32 (c .before .before .before .before .before .args .numbers .now)
-fit32 c =
-    let s = c .before .before .before in
-    fit32-i (s .before .before .args .numbers .now) (s .shared-slice-known2 .given)
+fit32 : (c : tie.Else1) → Fit32 (start c .args .numbers .now)
+fit32 c = fit32-i (start c .args .numbers .now) (c .before .before .before .shared-slice-known2 .given)
 
 some-text : (c : tie.Else2)
-    → flatHasText (c .before .before .before .before .before .before .before .args .first)
-    (c .before .before .before .before .before .before .before .args .counts .now)
-    (c .before .before .before .before .before .before .before .args .numbers .now)
-    ≡ true
+    → let a = start (c .before .before) .args in
+    flatHasText (a .first) (a .counts .now) (a .numbers .now) ≡ true
 some-text c = sym (c .before .has-text .ensures) ∙ not-false _ (c .if2 .left)
 
 ports-in-range-requires : tie.Need-ports-in-range-requires
