@@ -100,20 +100,22 @@ module _ (last : Bool) (s₀ : Standing) (text table₀ out₀ : List ℕ) where
         stopped = inr (omega (arith, going-length g));
       }
 
-  module _ (table out : List ℕ) (stage : Stage) (l used written : ℕ) (g : Going table out stage l used written)
-      (table′ part out′ : List ℕ) (stage′ : Stage) (l′ more n : ℕ)
-      (lent room : List ℕ) (d : lent ≡ drop used text) (f : room ≡ drop written out)
-      (given : Turned (turn last (standing stage l table) lent) lent table room table′ part stage′ l′ more n)
-      (e : out′ ≡ take written out ++ part) (kept-room : length part ≡ length room) where
+  -- a turn more, to which all that is behind is lent: as parts of the text and of the buffer
+  module _ {table out : List ℕ} {stage : Stage} {l used written : ℕ} (g : Going table out stage l used written)
+      {table′ part : List ℕ} {stage′ : Stage} {l′ more n : ℕ}
+      (given : let lent = take (length text - used) (drop used text) in
+      Turned (turn last (standing stage l table) lent) lent table (take (length out - written) (drop written out)) table′
+      part stage′ l′ more n)
+      (kept-room : length part ≡ length (take (length out - written) (drop written out))) where
     same : length part ≡ length (drop written out)
-    same = kept-room ∙ ap length f
+    same = kept-room ∙ ap length (behind-place out written)
 
     t : Turned (turn last (standing stage l table) (drop used text)) (drop used text) table (drop written out) table′ part
         stage′ l′ more n
-    t =
-        subst (λ r. Turned (turn last (standing stage l table) (drop used text)) (drop used text) table r table′ part
-        stage′ l′ more n) f
-        (subst (λ b. Turned (turn last (standing stage l table) b) b table room table′ part stage′ l′ more n) d given)
+    t = rw (behind-place text used, behind-place out written) at given
+
+    abbrev out′ : List ℕ
+    out′ = take written out ++ (part ++ drop (length out - written) (drop written out))
 
     abbrev x : Turn
     x = turn last (standing stage l table) (drop used text)
@@ -147,7 +149,7 @@ module _ (last : Bool) (s₀ : Standing) (text table₀ out₀ : List ℕ) where
     all-wrote =
         record {
           bytes =
-              e
+              put-behind out written part
               ∙ ap₂ (λ a b. a ++ b) front
               (t .wrote .bytes ∙ ap (λ b. x .written ++ drop (length (x .written)) b) back
               ∙ ap (λ b. x .written ++ b) (drop-drop (length (x .written)) (length (g .w)) out₀))
@@ -238,7 +240,7 @@ module _ (last : Bool) (s₀ : Standing) (text table₀ out₀ : List ℕ) where
     all-room = omega (arith, all-size, all-wrote .count)
 
     pub all-length : length out′ ≡ length out₀
-    all-length = wrote-length (g .w ++ x .written) out′ (written + n) all-wrote all-size
+    all-length = wrote-length (g .w ++ x .written) _ (written + n) all-wrote all-size
 
     -- one more that wrote something
     pub going-on : (n ≡ 0 → ⊥) → Going table′ out′ stage′ l′ (used + more) (written + n)

@@ -13,8 +13,9 @@ cast-result c = search needs
 
 returns : tie.Need-returns
 returns c =
-    let a = c .before .before .before .before .before .before .args in
-    slot-tally (a .table .now) (a .arrivals .now) (a .answer .now) (a .tally .now) (c .before .if1 .taken)
+    let test = c .before in
+    let a = test .before .before .before .before .before .args in
+    slot-tally (a .table .now) (a .arrivals .now) (a .answer .now) (a .tally .now) (test .if1 .taken)
     (c .number .result) (c .number .ensures)
 
 slot-requires : tie.Need-slot-requires
@@ -34,7 +35,8 @@ same-length-3 c = search needs
 
 returns-2 : tie.Need-returns-2
 returns-2 c =
-    let called = c .before .before .before .before .before .before .before in
+    let given-back = c .before .before .before .before .before in
+    let called = given-back .before .before in
     let test = called .before .before .before .before in
     let a = test .before .before .before .before .before .args in
     slot-called (a .table .now) (a .arrivals .now) (a .answer .now) (a .tally .now) (test .if1 .left)

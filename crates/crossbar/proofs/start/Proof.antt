@@ -49,14 +49,17 @@ same-length c = search needs
 
 returns-3 : tie.Need-returns-3
 returns-3 c =
-    let a = c .before .before .before .before .before .before .before .before .before .args in
-    let fits = c .before .before .before .before .before .before .before .ports-in-range in
-    let made = c .before .before .before .before .fresh in
-    let wrote = c .before .before .write-fresh in
-    start-runs (a .ports) (a .first) (a .table .now) (wrote .last .1 .0)
-    (startCall-done (a .ports) (a .first) (a .table .now) (sym (fits .ensures) ∙ not-false _ (c .before .before .before .before .before .before .if1 .left))
-    (c .before .before .before .before .before .if2 .left))
-    (wrote .ensures ∙ ap₂ (λ n f. filled (encode (State.fresh n f)) (a .table .now)) (made .ensures .0) (made .ensures .1))
+    let wrote = c .before .before in
+    let made = wrote .before .before in
+    let long = made .before in
+    let fits = long .before in
+    let asked = fits .before in
+    let a = asked .before .before .args in
+    start-runs (a .ports) (a .first) (a .table .now) (wrote .write-fresh .last .1 .0)
+    (startCall-done (a .ports) (a .first) (a .table .now)
+    (sym (asked .ports-in-range .ensures) ∙ not-false _ (fits .if1 .left)) (long .if2 .left))
+    (wrote .write-fresh .ensures
+    ∙ ap₂ (λ n f. filled (encode (State.fresh n f)) (a .table .now)) (made .fresh .ensures .0) (made .fresh .ensures .1))
 
 pub start-spec : {M : Type 1} → statement M
 start-spec =

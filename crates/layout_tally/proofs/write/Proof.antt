@@ -21,13 +21,14 @@ same-length c = search needs
 
 returns : tie.Need-returns
 returns c =
-    let start = c .before .before .before .before .before .before .before .before .before .before .before .before .before .before .before .before .before in
-    let run = c .before .before .before .before .before .before .before .before .before .before .before .before .before .before .write-u64 in
-    let refused = c .before .before .before .before .before .before .before .before .before .before .write-u642 in
-    let arrived = c .before .before .before .before .before .before .write-u643 in
-    let departed = c .before .before .write-u644 in
-    put-tally (start .args .t) (start .args .bytes .now) (run .last .0) (refused .last .0) (arrived .last .0)
-    (departed .last .0) (start .pre) (run .ensures) (refused .ensures) (arrived .ensures) (departed .ensures)
+    let departed = c .before .before in
+    let arrived = departed .before .before .before .before in
+    let refused = arrived .before .before .before .before in
+    let run = refused .before .before .before .before in
+    let start = run .before .before .before in
+    put-tally (start .args .t) (start .args .bytes .now) (run .write-u64 .last .0) (refused .write-u642 .last .0)
+    (arrived .write-u643 .last .0) (departed .write-u644 .last .0) (start .pre) (run .write-u64 .ensures)
+    (refused .write-u642 .ensures) (arrived .write-u643 .ensures) (departed .write-u644 .ensures)
 
 pub write-spec : {M : Type 1} → statement M
 write-spec =

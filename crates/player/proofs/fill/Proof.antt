@@ -37,6 +37,13 @@ part-read-end c = search needs
 read-requires : tie.Need-read-requires Inv-loop μ-loop
 read-requires c κs = search needs
 
+-- the start, from behind a read, and the read, from where its bytes are counted
+abbrev start : tie.After-read Inv-loop μ-loop → tie.Start Inv-loop μ-loop
+start c = let at = c .before .before .before in at .before .before .before
+
+abbrev reading : tie.After-count Inv-loop μ-loop → tie.After-read Inv-loop μ-loop
+reading c = let went = c .before .before .before in went .before .before .before
+
 -- the window after a read is as long as before, and the text that was there stands at its front
 abbrev windowThen : tie.After-read Inv-loop μ-loop → List ℕ
 windowThen c =
@@ -45,28 +52,25 @@ windowThen c =
     ++ (c .read .last .1 .0
     ++ drop (length (at .loop .window) - at .loop .filled) (drop (at .loop .filled) (at .loop .window)))
 
-whole : (c : tie.After-read Inv-loop μ-loop)
-    → length (windowThen c) ≡ length (c .before .before .before .before .before .before .args .window .now)
+whole : (c : tie.After-read Inv-loop μ-loop) → length (windowThen c) ≡ length (start c .args .window .now)
 whole c =
     let at = c .before .before .before in
     read-in (length (at .loop .window)) (at .loop .filled) (at .loop .window) (c .read .last .1 .0) refl
     (omega (arith, at .loop .inv .1, at .loop .inv .2)) (c .read .kept .1 .0) ∙ at .loop .inv .2
 
 front : (c : tie.After-read Inv-loop μ-loop)
-    → take (c .before .before .before .before .before .before .args .filled) (windowThen c)
-    ≡ take (c .before .before .before .before .before .before .args .filled)
-    (c .before .before .before .before .before .before .args .window .now)
+    → take (start c .args .filled) (windowThen c) ≡ take (start c .args .filled) (start c .args .window .now)
 front c =
     let at = c .before .before .before in
-    read-kept (at .before .before .before .args .filled) (at .loop .filled) (at .loop .window) _ (at .loop .inv .0)
+    read-kept (start c .args .filled) (at .loop .filled) (at .loop .window) _ (at .loop .inv .0)
     (omega (arith, at .loop .inv .1, at .loop .inv .2)) ∙ at .loop .inv .3
 
 -- what was read is within it
 within : (c : tie.After-count Inv-loop μ-loop)
-    → c .before .before .before .before .before .before .before .before .before .loop .filled + c .count .result
-    ≤ length (c .before .before .before .before .before .before .before .before .before .before .before .before .args .window .now)
+    → let read = reading c in
+    read .before .before .before .loop .filled + c .count .result ≤ length (start read .args .window .now)
 within c =
-    let read = c .before .before .before .before .before .before in
+    let read = reading c in
     let at = read .before .before .before in
     let filled = at .loop .filled in
     omega (
@@ -109,25 +113,23 @@ count-requires : tie.Need-count-requires Inv-loop μ-loop
 count-requires c κs = search needs
 
 same-length-2 : tie.Need-same-length-2 Inv-loop μ-loop
-same-length-2 c = whole (c .before .before .before .before .before .before .before)
+same-length-2 c = whole (reading (c .before))
 
 returns-3 : tie.Need-returns-3 Inv-loop μ-loop
 returns-3 c =
-    let read = c .before .before .before .before .before .before .before in
+    let read = reading (c .before) in
     let at = read .before .before .before in
     record { kept = front read; more = at .loop .inv .0; within = at .loop .inv .1; full = λ _. inl refl }
 
 add-filled : tie.Need-add-filled Inv-loop μ-loop
-add-filled c =
-    let start = c .before .before .before .before .before .before .before .before .before .before .before .before .before in
-    omega (arith, within (c .before), start .good)
+add-filled c = omega (arith, within (c .before), start (reading (c .before)) .good)
 
 loop-less : tie.Need-loop-less Inv-loop μ-loop
 loop-less c = omega (arith, within (c .before), c .if3 .left)
 
 loop-again : tie.Need-loop-again Inv-loop μ-loop
 loop-again c =
-    let read = c .before .before .before .before .before .before .before in
+    let read = reading (c .before) in
     (omega (arith, read .before .before .before .loop .inv .0), within (c .before), whole read, front read)
 
 same-length-3 : tie.Need-same-length-3 Inv-loop μ-loop

@@ -104,17 +104,18 @@ take-turns-requires c κs =
 status-of-requires : tie.Need-status-of-requires Inv-loop μ-loop
 status-of-requires c κs =
     let turn = c .before .before .before .before in
-    let fill = turn .before .before .before .before .before .before in
+    let read = turn .before .before .before .before in
+    let fill = read .before .before in
     let at = fill .before .before .before in
     finished _ _ _ _ _ _ _ _ _ _ _ _ (turn .take-turns .ensures) (c .if2 .taken) (omega (arith, at .loop .inv .2))
-    (there fill (turn .before .before .before .before .if1 .left))
+    (there fill (read .if1 .left))
 
 returns-2 : tie.Need-returns-2 Inv-loop μ-loop
 returns-2 c = omega (arith, c .status-of .ensures, status-few (c .before .before .before .before .before .take-turns .result .stage))
 
 -- the round before it writes: what it took is there
 abbrev filling : tie.Else2 Inv-loop μ-loop → tie.After-fill Inv-loop μ-loop
-filling c = c .before .before .before .before .before .before .before .before .before .before
+filling c = let turn = c .before .before .before .before in let read = turn .before .before .before .before in read .before .before
 
 taken : (c : tie.Else2 Inv-loop μ-loop)
     → c .before .before .before .before .take-turns .result .used ≤ filling c .fill .result .filled
@@ -151,14 +152,15 @@ close-up-requires c κs =
     (taken turned, omega (arith, whole fill, few fill))
 
 sub-filled : tie.Need-sub-filled Inv-loop μ-loop
-sub-filled c = taken (c .before .before .before .before .before .before .before)
+sub-filled c = let wrote = c .before .before .before .before .before in taken (wrote .before .before)
 
 loop-less : tie.Need-loop-less Inv-loop μ-loop
 loop-less c = search needs
 
 loop-again : tie.Need-loop-again Inv-loop μ-loop
 loop-again c =
-    let turned = c .before .before .before .before .before .before .before in
+    let wrote = c .before .before .before .before .before in
+    let turned = wrote .before .before in
     let turn = turned .before .before .before .before in
     let fill = filling turned in (
       omega (arith, few fill),

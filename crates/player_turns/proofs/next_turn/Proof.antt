@@ -18,6 +18,10 @@ use Rattle.player_turns.proofs.next_turn.Tie as tie
 line-room : (c : tie.After-clock-of) → c .before .before .before .before .before .args .line ≤ 3 + 81 * 4294967295
 line-room c = omega (arith, c .before .before .before .before .before .pre .1 .0, c .clock-of .ensures, c .clock-of .ok)
 
+-- the slot that was played, from where both its buffers are back
+abbrev playing : tie.After-slice-known4 → tie.After-play-slot
+playing c = c .before .before .before .before
+
 -- the sizes of a block
 sizes : (c : tie.After-count) → (c .count .given .0 .0 ≤ 16) × (c .count .given .0 .1 .1 .0 ≤ 81)
     × (length (c .before .before .read-block .last .1 .1 .1 .0) ≡ 80)
@@ -61,7 +65,7 @@ cast-t29 c = search needs
 
 add-t30 : tie.Need-add-t30
 add-t30 c =
-    let answer = c .before .before .before .before .before .before .before .before .before .before .before .before in
+    let answer = playing (c .before .before .before) .before .before .before .before .before in
     omega (arith, line-room (answer .before .before .before .before), sizes answer .1)
 
 enum-known-written-2 : tie.Need-enum-known-written-2
@@ -86,7 +90,7 @@ cast-put-refusal : tie.Need-cast-put-refusal
 cast-put-refusal c = search needs
 
 add-put-refusal : tie.Need-add-put-refusal
-add-put-refusal c = omega (arith, line-room (c .before .before .before .before .before .before))
+add-put-refusal c = let block = c .before .before .before .before in omega (arith, line-room (block .before .before))
 
 put-refusal-requires : tie.Need-put-refusal-requires
 put-refusal-requires c κs = search needs
@@ -105,16 +109,13 @@ same-length-2 c = search needs
 
 returns : tie.Need-returns
 returns c =
-    let played = c .before .before .before .before .before .before .before in
+    let played = playing (c .before .before .before) in
     let answer = played .before .before .before .before .before in
     let block = answer .before .before in
     let read = block .before .before in
     let start = read .before .before .before .before .before in
-    let a = start .args in
-    next-ran (a .last) (a .line) (a .text .now) (a .table .now) (a .out .now) (start .pre .0) (start .pre .1 .0)
-    (read .clock-of .result) (read .clock-of .ensures) (block .read-block .ensures .0) (answer .count .given .1)
-    _ _ (block .read-block .ensures .1) refl
-    (played .play-slot .ensures) (c .before .written .given .1)
+    next-ran _ _ _ _ _ (start .pre .0) (start .pre .1 .0) _ (read .clock-of .ensures) (block .read-block .ensures .0) (answer .count .given .1) _ _
+    (block .read-block .ensures .1) refl (played .play-slot .ensures) (c .before .written .given .1)
 
 same-length-3 : tie.Need-same-length-3
 same-length-3 c = search needs
@@ -124,17 +125,13 @@ same-length-4 c = search needs
 
 returns-2 : tie.Need-returns-2
 returns-2 c =
-    let played = c .before .before .before .before .before .before .before .before in
+    let played = playing (c .before .before .before .before) in
     let answer = played .before .before .before .before .before in
     let block = answer .before .before in
     let read = block .before .before in
     let start = read .before .before .before .before .before in
-    let a = start .args in
-    next-stopped (a .last) (a .line) (a .text .now) (a .table .now) (a .out .now) (start .pre .0) (start .pre .1 .0)
-    (read .clock-of .result) (read .clock-of .ensures) (block .read-block .ensures .0) (answer .count .given .1)
-    _ _ (block .read-block .ensures .1) refl
-    (played .play-slot .ensures) (c .before .before .written2 .given .1) (c .over .result .stage) (c .over .result .line)
-    (c .over .result .used) (c .over .result .written) (c .over .ensures)
+    next-stopped _ _ _ _ _ (start .pre .0) (start .pre .1 .0) _ (read .clock-of .ensures) (block .read-block .ensures .0) (answer .count .given .1) _ _
+    (block .read-block .ensures .1) refl (played .play-slot .ensures) (c .before .before .written2 .given .1) _ _ _ _ (c .over .ensures)
 
 same-length-5 : tie.Need-same-length-5
 same-length-5 c = search needs
@@ -148,13 +145,9 @@ returns-3 c =
     let block = put .before .before .before .before in
     let read = block .before .before in
     let start = read .before .before .before .before .before in
-    let a = start .args in
     let size = line-le End (read .clock-of .result) (fits32-i _ (omega (arith, read .clock-of .ok))) in
-    next-end (a .last) (a .line) (a .text .now) (a .table .now) (a .out .now) (start .pre .0) (start .pre .1 .0)
-    (read .clock-of .result) (read .clock-of .ensures) (block .read-block .ensures .0) (put .put-line .last .0)
-    (c .over2 .result .stage) (c .over2 .result .line) (c .over2 .result .used) (put .put-line .result)
-    (c .over2 .result .written) (c .over2 .ensures)
-    (put .before .before .enum-told .given .1)
+    next-end _ _ _ _ _ (start .pre .0) (start .pre .1 .0) _ (read .clock-of .ensures) (block .read-block .ensures .0) _ _ _ _ _ _
+    (c .over2 .ensures) (put .before .before .enum-told .given .1)
     (wrote-put (omega (arith, size, start .pre .1 .1)) (omega (arith, start .good)) (put .put-line .ensures))
 
 same-length-7 : tie.Need-same-length-7
@@ -172,11 +165,8 @@ returns-4 c =
     let read = block .before .before in
     let start = read .before .before .before .before .before in
     let a = start .args in
-    next-bad (a .last) (a .line) (a .text .now) (a .table .now) (a .out .now) (start .pre .0) (start .pre .1 .0)
-    (read .clock-of .result) (read .clock-of .ensures) (block .read-block .ensures .0) (put .put-refusal .last .0)
-    (c .over3 .result .stage) (c .over3 .result .line) (c .over3 .result .used) (put .put-refusal .result)
-    (c .over3 .result .written) (c .over3 .ensures)
-    (told .k .given .1)
+    next-bad _ _ _ _ _ (start .pre .0) (start .pre .1 .0) _ (read .clock-of .ensures) (block .read-block .ensures .0) _ _ _ _ _ _
+    (c .over3 .ensures) (told .k .given .1)
     (wrote-refusal BadLine (a .line + told .k .given .0 .0) (omega (arith, line-room read, put .before)) (start .pre .1 .1)
     (omega (arith, start .good)) (put .put-refusal .ensures))
 
@@ -188,9 +178,7 @@ returns-5 c =
     let block = c .before .before in
     let read = block .before .before in
     let start = read .before .before .before .before .before in
-    let a = start .args in
-    next-more (a .last) (a .line) (a .text .now) (a .table .now) (a .out .now) (start .pre .0) (start .pre .1 .0)
-    (read .clock-of .result) (read .clock-of .ensures) (block .read-block .ensures .0) (c .enum-told2 .given .1)
+    next-more _ _ _ _ _ (start .pre .0) (start .pre .1 .0) _ (read .clock-of .ensures) (block .read-block .ensures .0) (c .enum-told2 .given .1)
 
 pub next-turn-spec : {M : Type 1} → statement M
 next-turn-spec =

@@ -53,7 +53,7 @@ loop-less c = search needs
 loop-again : tie.Need-loop-again Inv-loop μ-loop
 loop-again c =
     let put = c .before .before in
-    let loop = c .before .before .before .before .before .before in
+    let loop = put .before .before .before .before in
     let start = loop .before .before .before in
     let bytes = bytes?-i (start .args .answer .now) (λ i. loop .before .shared-slice-known .given i .fits) in (
       omega arith,

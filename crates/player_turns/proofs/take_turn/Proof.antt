@@ -75,19 +75,15 @@ returns-2 c =
 
 returns-3 : tie.Need-returns-3
 returns-3 c =
-    let start = c .before .before .before .before .before .before in
-    let a = start .args in
-    rests at-end (a .last) (a .stage) (a .line) (a .text .now) (a .table .now) (a .out .now) (start .pre .0 .size)
-    (c .before .enum-told3 .given .1) (c .over .result .stage) (c .over .result .line) (c .over .result .used)
-    (c .over .result .written) (c .over .ensures)
+    let told = c .before in
+    let start = told .before .before .before .before .before in
+    rests at-end _ _ _ _ _ _ (start .pre .0 .size) (told .enum-told3 .given .1) _ _ _ _ (c .over .ensures)
 
 returns-4 : tie.Need-returns-4
 returns-4 c =
-    let start = c .before .before .before .before .before .before in
-    let a = start .args in
-    rests at-refusal (a .last) (a .stage) (a .line) (a .text .now) (a .table .now) (a .out .now) (start .pre .0 .size)
-    (c .before .enum-told4 .given .1) (c .over2 .result .stage) (c .over2 .result .line) (c .over2 .result .used)
-    (c .over2 .result .written) (c .over2 .ensures)
+    let told = c .before in
+    let start = told .before .before .before .before .before in
+    rests at-refusal _ _ _ _ _ _ (start .pre .0 .size) (told .enum-told4 .given .1) _ _ _ _ (c .over2 .ensures)
 
 pub take-turn-spec : {M : Type 1} → statement M
 take-turn-spec =

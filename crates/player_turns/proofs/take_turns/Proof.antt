@@ -6,7 +6,7 @@ use borrow.Author.Needs.{needs}
 use native.Mathlib.Omega.{arith}
 use lib.ListN.{length, length-drop}
 use Rattle.player_turns.specs.Turns.{standing}
-use Rattle.player_turns.proofs.Taking.{Going, behind-place, put-behind, going-none, going-room, going-length}
+use Rattle.player_turns.proofs.Taking.{Going, behind-place, going-none, going-room, going-length}
 use Rattle.player_turns.proofs.Taking.{going-stops, all-within, all-room, all-length, going-on, going-ends}
 
 abbrev Inv-loop : tie.InvT-loop
@@ -15,6 +15,13 @@ Inv-loop line text last table₀ out₀ stage₀ line₀ used₀ written₀ tabl
 
 abbrev μ-loop : tie.MeasureT-loop
 μ-loop line text last table₀ out₀ stage₀ line₀ used₀ written₀ table out stage line' used written = length out₀ - written
+
+-- the turn that was taken, from where both buffers are back, and the loop's test before it
+abbrev turn : tie.After-slice-known4 Inv-loop μ-loop → tie.After-take-turn Inv-loop μ-loop
+turn c = c .before .before .before .before
+
+abbrev at-loop : tie.After-take-turn Inv-loop μ-loop → tie.At-loop Inv-loop μ-loop
+at-loop c = c .before .before .before .before .before
 
 loop-holds : tie.Need-loop-holds Inv-loop μ-loop
 loop-holds c = going-none _ _ _ _ _ _ _ refl (c .before .before .before .pre)
@@ -51,49 +58,26 @@ take-turn-requires c κs =
 
 add-used : tie.Need-add-used Inv-loop μ-loop
 add-used c =
-    let took = c .before .before .before .before .before in
-    let at = took .before .before .before .before .before in
-    let start = at .before .before .before .before in
-    omega (
-      arith,
-      all-within _ _ _ _ _ _ _ _ _ _ _ (at .loop .inv) _ _ _ _ _ _ _ _ _
-          (behind-place (start .args .text .now) (at .loop .used)) (behind-place (at .loop .out) (at .loop .written))
-          (took .take-turn .ensures) (put-behind (at .loop .out) (at .loop .written) _) (took .take-turn .kept .1 .1 .1 .1 .1 .0),
-    )
+    let took = turn (c .before) in
+    let start = at-loop took .before .before .before .before in
+    omega (arith, all-within _ _ _ _ _ (at-loop took .loop .inv) (took .take-turn .ensures) (took .take-turn .kept .1 .1 .1 .1 .1 .0))
 
 add-written : tie.Need-add-written Inv-loop μ-loop
 add-written c =
-    let took = c .before .before .before .before .before .before in
-    let at = took .before .before .before .before .before in
-    let start = at .before .before .before .before in
-    omega (
-      arith,
-      all-room _ _ _ _ _ _ _ _ _ _ _ (at .loop .inv) _ _ _ _ _ _ _ _ _
-          (behind-place (start .args .text .now) (at .loop .used)) (behind-place (at .loop .out) (at .loop .written))
-          (took .take-turn .ensures) (put-behind (at .loop .out) (at .loop .written) _) (took .take-turn .kept .1 .1 .1 .1 .1 .0),
-    )
+    let took = turn (c .before .before) in
+    let start = at-loop took .before .before .before .before in
+    omega (arith, all-room _ _ _ _ _ (at-loop took .loop .inv) (took .take-turn .ensures) (took .take-turn .kept .1 .1 .1 .1 .1 .0))
 
 loop-less : tie.Need-loop-less Inv-loop μ-loop
 loop-less c =
-    let took = c .before .before .before .before .before .before .before .before in
-    let at = took .before .before .before .before .before in
-    let start = at .before .before .before .before in
-    omega (
-      arith,
-      all-room _ _ _ _ _ _ _ _ _ _ _ (at .loop .inv) _ _ _ _ _ _ _ _ _
-          (behind-place (start .args .text .now) (at .loop .used)) (behind-place (at .loop .out) (at .loop .written))
-          (took .take-turn .ensures) (put-behind (at .loop .out) (at .loop .written) _) (took .take-turn .kept .1 .1 .1 .1 .1 .0),
-      c .if1 .left,
-    )
+    let took = turn (c .before .before .before .before) in
+    omega (arith, all-room _ _ _ _ _ (at-loop took .loop .inv) (took .take-turn .ensures) (took .take-turn .kept .1 .1 .1 .1 .1 .0), c .if1 .left)
 
 loop-again : tie.Need-loop-again Inv-loop μ-loop
 loop-again c =
-    let took = c .before .before .before .before .before .before .before .before in
-    let at = took .before .before .before .before .before in
-    let start = at .before .before .before .before in
-    going-on _ _ _ _ _ _ _ _ _ _ _ (at .loop .inv) _ _ _ _ _ _ _ _ _
-    (behind-place (start .args .text .now) (at .loop .used)) (behind-place (at .loop .out) (at .loop .written))
-    (took .take-turn .ensures) (put-behind (at .loop .out) (at .loop .written) _) (took .take-turn .kept .1 .1 .1 .1 .1 .0) (λ e. omega (arith, e, c .if1 .left))
+    let took = turn (c .before .before .before .before) in
+    going-on _ _ _ _ _ (at-loop took .loop .inv) (took .take-turn .ensures) (took .take-turn .kept .1 .1 .1 .1 .1 .0)
+    (λ e. omega (arith, e, c .if1 .left))
 
 same-length : tie.Need-same-length Inv-loop μ-loop
 same-length c = c .before .loop .inv .stands .size ∙ sym (c .before .before .before .before .before .pre .size)
@@ -106,28 +90,19 @@ returns c = going-stops _ _ _ _ _ _ _ _ _ _ _ (c .before .loop .inv) (omega (ari
 
 same-length-3 : tie.Need-same-length-3 Inv-loop μ-loop
 same-length-3 c =
-    let took = c .before .before .before .before .before .before .before .before in
-    let at = took .before .before .before .before .before in
-    let start = at .before .before .before .before in
-    took .take-turn .ensures .stands .size ∙ sym (start .pre .size)
+    let took = turn (c .before .before .before .before) in
+    took .take-turn .ensures .stands .size ∙ sym (at-loop took .before .before .before .before .pre .size)
 
 same-length-4 : tie.Need-same-length-4 Inv-loop μ-loop
 same-length-4 c =
-    let took = c .before .before .before .before .before .before .before .before in
-    let at = took .before .before .before .before .before in
-    let start = at .before .before .before .before in
-    all-length _ _ _ _ _ _ _ _ _ _ _ (at .loop .inv) _ _ _ _ _ _ _ _ _
-    (behind-place (start .args .text .now) (at .loop .used)) (behind-place (at .loop .out) (at .loop .written))
-    (took .take-turn .ensures) (put-behind (at .loop .out) (at .loop .written) _) (took .take-turn .kept .1 .1 .1 .1 .1 .0)
+    let took = turn (c .before .before .before .before) in
+    all-length _ _ _ _ _ (at-loop took .loop .inv) (took .take-turn .ensures) (took .take-turn .kept .1 .1 .1 .1 .1 .0)
 
 returns-2 : tie.Need-returns-2 Inv-loop μ-loop
 returns-2 c =
-    let took = c .before .before .before .before .before .before .before .before in
-    let at = took .before .before .before .before .before in
-    let start = at .before .before .before .before in
-    going-ends _ _ _ _ _ _ _ _ _ _ _ (at .loop .inv) _ _ _ _ _ _ _ _ _
-    (behind-place (start .args .text .now) (at .loop .used)) (behind-place (at .loop .out) (at .loop .written))
-    (took .take-turn .ensures) (put-behind (at .loop .out) (at .loop .written) _) (took .take-turn .kept .1 .1 .1 .1 .1 .0) (omega (arith, c .if1 .taken))
+    let took = turn (c .before .before .before .before) in
+    going-ends _ _ _ _ _ (at-loop took .loop .inv) (took .take-turn .ensures) (took .take-turn .kept .1 .1 .1 .1 .1 .0)
+    (omega (arith, c .if1 .taken))
 
 pub take-turns-spec : {M : Type 1} → statement M
 take-turns-spec =

@@ -21,15 +21,23 @@ cell-is c =
     let read = c .before .before in
     c .cell-of .ensures ∙ ap (λ k. accepted (k - 1) (read .before .before .before .args .a)) (read .clock-of .ensures)
 
+-- it has entered, from where its sets are opened, and the start before that
+abbrev entering : tie.After-open-sets-arg4 → tie.After-enter
+entering c = let given-back = c .before .before .before .before .before in given-back .before .before
+
+abbrev start-of : tie.After-enter → tie.Start
+start-of c = let cell = c .before in cell .before .before .before .before .before
+
 -- its number
 at : (c : tie.After-open-sets-arg4)
-    → let entered = c .before .before .before .before .before .before .before in
-    let a = entered .before .before .before .before .before .before .args in
-    entered .enter .result ≡ 64 * a .a .input + enterPlace (accepted (clockIn (a .table .now) - 1) (a .a)) (sectionIn (a .table .now) (a .a .input))
+    → let entered = entering c in
+    let a = start-of entered .args in
+    entered .enter .result
+    ≡ 64 * a .a .input + enterPlace (accepted (clockIn (a .table .now) - 1) (a .a)) (sectionIn (a .table .now) (a .a .input))
 unfolding accepted
 at c =
-    let entered = c .before .before .before .before .before .before .before in
-    let a = entered .before .before .before .before .before .before .args in
+    let entered = entering c in
+    let a = start-of entered .args in
     entered .enter .ensures .1
     ∙ ap (λ d. 64 * d .input + enterPlace d (sectionIn (a .table .now) (d .input))) (cell-is (entered .before))
 
@@ -59,12 +67,12 @@ sub-open-sets c = omega (arith, at c)
 
 open-sets-requires : tie.Need-open-sets-requires
 open-sets-requires c κs =
-    let start = c .before .before .before .before .before .before .before .before .before .before .before .before .before in
+    let start = start-of (entering c) in
     let a = start .args in
     let may = start .pre .0 in
     let few = place-room (a .table .now) (a .a) may in (
       (input-low (a .table .now) (a .a) may, omega (arith, at c)),
-      sets-room (a .table .now) (a .a) may (a .listed .now) (a .heads .now) (a .crossed .now) (a .buffered .now) (start .pre .1),
+      sets-room _ _ may _ _ _ _ (start .pre .1),
     )
 
 same-length : tie.Need-same-length
@@ -73,17 +81,15 @@ same-length c = search needs
 returns : tie.Need-returns
 returns c =
     let args = c .before in
-    let entered = args .before .before .before .before .before .before .before in
-    let cell = entered .before in
-    let read = cell .before .before in
-    let start = read .before .before .before in
+    let entered = entering args in
+    let start = start-of entered in
     let a = start .args in
+    let opened = c .open-sets .ensures in
     let new = entered .enter .ensures .0
-    ∙ ap (λ d. encode (enteredBy d (stateOf (a .table .now)))) (cell-is cell) in (
+    ∙ ap (λ d. encode (enteredBy d (stateOf (a .table .now)))) (cell-is (entered .before)) in (
       new,
-      sets-arrived (a .table .now) (a .a) (start .pre .0) (a .listed .now) (a .heads .now) (a .crossed .now)
-          (a .buffered .now) (start .pre .1) _ new _ (omega (arith, at args)) _ _ _ _ (c .open-sets .ensures .0)
-          (c .open-sets .ensures .1 .0) (c .open-sets .ensures .1 .1 .0) (c .open-sets .ensures .1 .1 .1),
+      sets-arrived _ _ (start .pre .0) _ _ _ _ (start .pre .1) _ new _ (omega (arith, at args)) _ _ _ _ (opened .0)
+          (opened .1 .0) (opened .1 .1 .0) (opened .1 .1 .1),
     )
 
 pub arrive-spec : {M : Type 1} → statement M

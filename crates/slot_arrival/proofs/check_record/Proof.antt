@@ -68,7 +68,8 @@ returns-4 c =
 
 input-full-requires : tie.Need-input-full-requires
 input-full-requires c κs =
-    let port = c .before .before .before .before .before .before in
+    let flow = c .before .before .before .before in
+    let port = flow .before .before in
     (port .before .before .before .pre, port-input _ _ (sym (port .before .no-such-port .ensures) ∙ port .if1 .left))
 
 returns-5 : tie.Need-returns-5

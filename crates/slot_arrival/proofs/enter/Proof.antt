@@ -41,7 +41,8 @@ write-entry-requires : tie.Need-write-entry-requires
 write-entry-requires c κs =
     let moved = c .before .before .before in
     let at = moved .before .before in
-    let start = at .before .before .before .before .before .before in
+    let counted = at .before .before in
+    let start = counted .before .before .before .before in
     let input = start .pre .1 .0 in
     let below = place-within _ (start .pre .0) (start .args .c) (input .0) (input .1) in
     let ports = ports-below _ (start .pre .0) in

@@ -77,9 +77,9 @@ loop-again c =
 
 returns-2 : tie.Need-returns-2 Inv-loop μ-loop
 returns-2 c =
-    let start = c .before .before .before .before .before .before in
-    let at = c .before .loop in
-    place-none _ (start .pre .0) _ (start .pre .1 .0) (λ j a b. at .inv .2 j (omega arith) b)
+    let at = c .before in
+    let start = at .before .before .before .before .before in
+    place-none _ (start .pre .0) _ (start .pre .1 .0) (λ j a b. at .loop .inv .2 j (omega arith) b)
 
 pub new-place-spec : {M : Type 1} → statement M
 new-place-spec =

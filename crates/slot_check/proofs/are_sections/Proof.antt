@@ -22,7 +22,7 @@ abbrev μ-loop : tie.MeasureT-loop
 μ-loop bytes ports clock listed₀ heads₀ crossed₀ buffered₀ marks₀ i₀ listed heads crossed buffered marks i = 16 - i
 
 abbrev start : tie.At-loop Inv-loop μ-loop → tie.Start Inv-loop μ-loop
-start c = c .before .before .before .before .before .before
+start c = let known = c .before in known .before .before .before .before .before
 
 abbrev stopped : tie.Then1 Inv-loop μ-loop → tie.At-loop Inv-loop μ-loop
 stopped c = c .before .before .before .before .before

@@ -14,15 +14,18 @@ use Rattle.slot_check.proofs.Sections.{Found, found, asked-if, unsound-
 use Rattle.slot_check.proofs.are_sound.Statement.{statement}
 use Rattle.slot_check.proofs.are_sound.Tie as tie
 
+abbrev start-of : tie.Else1 → tie.Start
+start-of c = c .before .before .before .before .before
+
 -- the entries are right one by one, and what the pass over them found
 module _ (c : tie.Else1) where
-  entries : let a = c .before .before .before .before .before .args in
+  entries : let a = start-of c .args in
       all? (isEntry (a .ports) (a .clock) (a .bytes .now)) (between (a .first) (a .end)) ≡ true
   entries =
       let pass = c .before .before .collect in
       sym (pass .ensures .0 .entries) ∙ not-false-e (pass .result .good) (c .if1 .left)
 
-  found-there : let a = c .before .before .before .before .before .args in
+  found-there : let a = start-of c .args in
       let pass = c .before .before .collect .result in
       Found (a .bytes .now) (a .first) (a .end) (pass .low) (pass .high)
   found-there =
@@ -38,7 +41,7 @@ module _ (c : tie.Else1) where
 
 -- no two entries have one slot
 slots : (c : tie.After-slots-differ)
-    → let a = c .before .before .before .before .before .before .args in
+    → let a = start-of (c .before) .args in
     c .slots-differ .result ≡ pairwise otherSlot (entriesBetween (a .bytes .now) (a .first) (a .end))
 slots c =
     let pass = c .before .before .before .collect in
@@ -48,11 +51,11 @@ slots c =
 
 -- no crosspoint holds two cells
 crosspoints : (c : tie.After-crosspoints-differ)
-    → let a = c .before .before .before .before .before .before .before .before .before .args in
+    → let a = start-of (c .before .before .before .before) .args in
     c .crosspoints-differ .result ≡ pairwise otherCrosspoint (entriesBetween (a .bytes .now) (a .first) (a .end))
 crosspoints c =
     let else1 = c .before .before .before .before in
-    let a = else1 .before .before .before .before .before .args in
+    let a = start-of else1 .args in
     c .crosspoints-differ .ensures
     ∙ ap (λ s. pairwise otherOutput (entriesIn (a .bytes .now) (a .first) s)) (c .before .minus .ensures)
     ∙ found-there else1 .crossed
@@ -85,7 +88,7 @@ returns-2 c =
     let then2 = c .before in
     let asked = then2 .before in
     let else1 = asked .before in
-    let a = else1 .before .before .before .before .before .args in (
+    let a = start-of else1 .args in (
       c .unsound2 .ensures
           ∙ unsound-slots (a .ports) (a .clock) (a .bytes .now) (a .first) (a .end)
           (sym (slots asked) ∙ not-e (asked .slots-differ .result) (then2 .if2 .taken)),
@@ -101,7 +104,7 @@ minus-requires c κs = search needs
 crosspoints-differ-requires : tie.Need-crosspoints-differ-requires
 crosspoints-differ-requires c κs =
     let else1 = c .before .before .before in
-    let pre = else1 .before .before .before .before .before .pre in
+    let pre = start-of else1 .pre in
     ((pre .0 .0, pre .1 .0 .0), rw (c .minus .ensures) (found-there else1 .crossed-range))
 
 unsound-requires-3 : tie.Need-unsound-requires-3
@@ -112,7 +115,7 @@ returns-3 c =
     let then3 = c .before in
     let asked = then3 .before in
     let else1 = asked .before .before .before .before in
-    let a = else1 .before .before .before .before .before .args in (
+    let a = start-of else1 .args in (
       c .unsound3 .ensures
           ∙ unsound-crosspoints (a .ports) (a .clock) (a .bytes .now) (a .first) (a .end)
           (sym (crosspoints asked) ∙ not-e (asked .crosspoints-differ .result) (then3 .if3 .taken)),
@@ -130,8 +133,9 @@ add-flows-together c = search needs
 
 flows-together-requires : tie.Need-flows-together-requires
 flows-together-requires c κs =
-    let else1 = c .before .before .before .before .before .before .before in
-    let pre = else1 .before .before .before .before .before .pre in (
+    let else2 = c .before .before .before .before .before in
+    let else1 = else2 .before .before in
+    let pre = start-of else1 .pre in (
       (pre .0 .0, pre .1 .0 .0, pre .1 .0 .1),
       (rw (c .before .minus2 .ensures) (found-there else1 .listed-range), else1 .before .before .collect .ensures .1),
     )
@@ -148,7 +152,7 @@ returns-4 c =
     let else2 = crossed .before .before in
     let asked = else2 .before in
     let else1 = asked .before in
-    let start = else1 .before .before .before .before .before in
+    let start = start-of else1 in
     let a = start .args in (
       flows .flows-together .ensures .0
           ∙ ap (λ s. together (entriesIn (a .bytes .now) (a .first) s)) (listed .minus2 .ensures)

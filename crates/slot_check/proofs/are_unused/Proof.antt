@@ -62,8 +62,9 @@ loop-less c = omega arith
 
 loop-again : tie.Need-loop-again Inv-loop μ-loop
 loop-again c =
-    let a = c .before .before .before .before .before .before .args in
-    let l = c .before .before .loop in (
+    let at = c .before .before in
+    let a = at .before .before .before .before .args in
+    let l = at .loop in (
       omega arith,
       omega arith,
       gather-block (isUnused (a .bytes .now)) (a .from) (a .to - 8) (a .to) (omega arith) (omega arith) (l .bits)

@@ -74,10 +74,10 @@ place-of-requires : tie.Need-place-of-requires Inv-loop μ-loop
 place-of-requires c κs = search needs
 
 push-requires : tie.Need-push-requires Inv-loop μ-loop
-push-requires c κs = room (c .before .before .before .before .before .before .before) .0
+push-requires c κs = let read = c .before .before .before in room (read .before .before .before .before) .0
 
 push-requires-2 : tie.Need-push-requires-2 Inv-loop μ-loop
-push-requires-2 c κs = room (c .before .before .before .before .before .before .before .before) .1
+push-requires-2 c κs = let read = c .before .before .before .before in room (read .before .before .before .before) .1
 
 loop-less : tie.Need-loop-less Inv-loop μ-loop
 loop-less c = omega arith

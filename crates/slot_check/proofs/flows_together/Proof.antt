@@ -95,11 +95,12 @@ element-write-marks : tie.Need-element-write-marks Inv-loop μ-loop
 element-write-marks c = omega (arith, c .before .before .before .before .flow-number .ensures .1)
 
 rest-requires : tie.Need-rest-requires Inv-loop μ-loop
-rest-requires c κs = some (c .before .before .before .before .before .before)
+rest-requires c κs = let keyed = c .before .before .before in some (keyed .before .before .before)
 
 loop-less : tie.Need-loop-less Inv-loop μ-loop
 loop-less c =
-    let in-loop = c .before .before .before .before .before .before .before in
+    let keyed = c .before .before .before .before in
+    let in-loop = keyed .before .before .before in
     let l = in-loop .before .loop in
     omega (arith, c .rest .ensures, rest-less (l .left) (some in-loop) (l .inv .visited .fits))
 

@@ -30,7 +30,8 @@ slot : (c : tie.After-slot-of2 Inv-loop μ-loop)
     let a = at-loop .before .before .before .args in
     c .slot-of2 .result ≡ entryAt (a .bytes .now) (a .first + firstOf (at-loop .loop .left)) .cell .slot
 slot c =
-    let a = c .before .before .before .before .before .before .args in
+    let at-loop = c .before .before .before in
+    let a = at-loop .before .before .before .args in
     c .slot-of2 .ensures ∙ ap (λ j. entryAt (a .bytes .now) (a .first + j) .cell .slot) (c .before .first .ensures)
 
 slot-of-requires : tie.Need-slot-of-requires Inv-loop μ-loop

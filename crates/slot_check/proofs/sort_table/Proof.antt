@@ -36,7 +36,8 @@ ports-in-range-requires c κs = search needs
 
 returns-3 : tie.Need-returns-3
 returns-3 c =
-    fails (c .before .before .before .before .before .before .before)
+    let else2 = c .before .before .before in
+    fails (else2 .before .before .before .before)
     (λ t.
     clash (ap portsInRange (c .before .before .read-u322 .ensures) ∙ t .ports)
     (sym (c .before .ports-in-range .ensures) ∙ not-e (c .before .ports-in-range .result) (c .if3 .taken)))
@@ -46,7 +47,8 @@ read-u32-requires-3 c κs = search needs
 
 returns-4 : tie.Need-returns-4
 returns-4 c =
-    fails (c .before .before .before .before .before .before .before .before .before) (λ t. c .if4 .taken (c .before .read-u323 .ensures ∙ t .zeros))
+    let else2 = c .before .before .before .before .before in
+    fails (else2 .before .before .before .before) (λ t. c .if4 .taken (c .before .read-u323 .ensures ∙ t .zeros))
 
 clock-of-requires : tie.Need-clock-of-requires
 clock-of-requires c κs = search needs

@@ -42,18 +42,19 @@ loop-less c = search needs
 
 loop-again : tie.Need-loop-again Inv-loop μ-loop
 loop-again c =
-    let start = c .before .before .before .before .before .before .before in
-    let loop = c .before .before .before .before .before .loop in
+    let test = c .before .before .before .before in
+    let start = test .before .before .before in
+    let loop = test .before .loop in
     let one = c .before .before .clear-one in
     let old = start .args .table .now in
     let from = start .args .from in
     let at : loop .k ≡ from + (loop .k - from) = omega (arith, loop .inv .0) in
     let more : loop .k - from + 1 ≡ loop .k + 1 - from = omega (arith, loop .inv .0) in (
       omega (arith, loop .inv .0),
-      omega (arith, c .before .before .before .before .loop-test .taken),
+      omega (arith, test .loop-test .taken),
       one .kept .0 ∙ loop .inv .2,
       cleared-more old (loop .table) (one .last .0) from (loop .k - from)
-          (omega (arith, c .before .before .before .before .loop-test .taken, start .pre .0, start .pre .2)) (loop .inv .3)
+          (omega (arith, test .loop-test .taken, start .pre .0, start .pre .2)) (loop .inv .3)
           (one .ensures ∙ ap (λ k. put (recordStart k) 16 (replicate 16 0) (loop .table)) at)
           ∙ ap (cleared old from) more,
     )

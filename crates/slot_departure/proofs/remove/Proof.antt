@@ -18,12 +18,15 @@ Inv-loop table₀ best firsts ports input₀ table input =
 abbrev μ-loop : tie.MeasureT-loop
 μ-loop table₀ best firsts ports input₀ table input = ports - input
 
+abbrev start-of : tie.At-loop Inv-loop μ-loop → tie.Start Inv-loop μ-loop
+start-of c = c .before .before .before .before .before
+
 port : (t : tie.In-loop Inv-loop μ-loop)
-    → t .before .loop .input < portsIn (t .before .before .before .before .before .before .args .table .now)
+    → t .before .loop .input < portsIn (start-of (t .before) .args .table .now)
 port t = omega (arith, t .loop-test .taken, t .before .before .ports-of .ensures)
 
 few : (t : tie.In-loop Inv-loop μ-loop) → t .before .loop .input < 16
-few t = omega (arith, port t, table-readable _ (t .before .before .before .before .before .before .pre .0) .ports)
+few t = omega (arith, port t, table-readable _ (start-of (t .before) .pre .0) .ports)
 
 first-leaving-requires : tie.Need-first-leaving-requires Inv-loop μ-loop
 first-leaving-requires c κs = search needs
@@ -43,7 +46,7 @@ array-read-remove-from c = few (c .before)
 remove-from-requires : tie.Need-remove-from-requires Inv-loop μ-loop
 remove-from-requires c κs =
     let t = c .before in
-    let start = t .before .before .before .before .before .before in
+    let start = start-of (t .before) in
     let loop = t .before .loop in
     removable _ (start .pre .0) (start .pre .1) (loop .input) (port t) (loop .table) (loop .inv .2)
     (loop .inv .1 ∙ table-readable _ (start .pre .0) .size) (t .before .before .before .before .first-leaving .ensures)
@@ -57,7 +60,7 @@ loop-less c = search needs
 loop-again : tie.Need-loop-again Inv-loop μ-loop
 loop-again c =
     let t = c .before .before .before .before in
-    let start = t .before .before .before .before .before .before in
+    let start = start-of (t .before) in
     let loop = t .before .loop in
     let one = c .before .before .remove-from in (
       omega (arith, t .loop-test .taken),
@@ -71,7 +74,7 @@ same-length c = c .before .loop .inv .1
 
 returns : tie.Need-returns Inv-loop μ-loop
 returns c =
-    let start = c .before .before .before .before .before .before in
+    let start = start-of (c .before) in
     let loop = c .before .loop in
     let table = start .args .table .now in
     let last : loop .input ≡ portsIn table = omega (arith, c .loop-test .left, loop .inv .0, c .before .before .ports-of .ensures) in

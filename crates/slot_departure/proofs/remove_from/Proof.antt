@@ -18,19 +18,22 @@ Inv-loop table₀ best input from end free₀ k₀ table free k =
 abbrev μ-loop : tie.MeasureT-loop
 μ-loop table₀ best input from end free₀ k₀ table free k = end - k
 
+abbrev start-of : tie.At-loop Inv-loop μ-loop → tie.Start Inv-loop μ-loop
+start-of c = c .before .before .before .before .before
+
 -- the next entry is one of the section
 inside : (t : tie.In-loop Inv-loop μ-loop)
-    → let a = t .before .before .before .before .before .before .args in
+    → let a = start-of (t .before) .args in
     t .before .loop .k < 64 * a .input + countIn (a .table .now) (a .input)
 inside t = omega (arith, t .loop-test .taken, t .before .before .end-of .ensures)
 
 -- all entries have closed up
 closed : (t : tie.After-loop Inv-loop μ-loop)
-    → let a = t .before .before .before .before .before .before .args in
+    → let a = start-of (t .before) .args in
     Closing (a .table .now) (a .best .now) (64 * a .input) (64 * a .input + countIn (a .table .now) (a .input))
     (t .before .loop .free) (t .before .loop .table)
 closed t =
-    let a = t .before .before .before .before .before .before .args in
+    let a = start-of (t .before) .args in
     let loop = t .before .loop in
     let last : loop .k ≡ 64 * a .input + countIn (a .table .now) (a .input) =
     omega (arith, t .loop-test .left, loop .inv .0, t .before .before .end-of .ensures) in
@@ -53,7 +56,7 @@ loop-holds c =
 
 close-one-requires : tie.Need-close-one-requires Inv-loop μ-loop
 close-one-requires c κs =
-    let r = c .before .before .before .before .before .before .before .pre in
+    let r = start-of (c .before .before) .pre in
     let closing = c .before .before .loop .inv .2 in
     let l = inside (c .before) in (
       (closing-size _ _ r closing l, closing-number _ _ r closing l, closing-free _ _ r closing l),
@@ -72,14 +75,14 @@ loop-again c =
     let one = c .before .before .close-one in (
       omega (arith, t .loop-test .taken),
       one .kept .0 ∙ t .before .loop .inv .1,
-      closing-more _ _ (t .before .before .before .before .before .before .pre) (t .before .loop .inv .2) (inside t)
+      closing-more _ _ (start-of (t .before) .pre) (t .before .loop .inv .2) (inside t)
           (one .result) (one .last .0) (one .ensures .0) (one .ensures .1),
     )
 
 clear-requires : tie.Need-clear-requires Inv-loop μ-loop
 clear-requires c κs =
     let t = c .before in
-    let r = t .before .before .before .before .before .before .pre in
+    let r = start-of (t .before) .pre in
     let end = t .before .before .end-of .ensures in (
       t .before .loop .inv .1 ∙ r .size,
       omega (arith, closed-high _ _ r (closed t), end),
@@ -92,13 +95,13 @@ mul-write-count c = search needs
 sub-write-count : tie.Need-sub-write-count Inv-loop μ-loop
 sub-write-count c =
     let t = c .before .before .before .before .before in
-    closed-low _ _ (t .before .before .before .before .before .before .pre) (closed t)
+    closed-low _ _ (start-of (t .before) .pre) (closed t)
 
 write-count-requires : tie.Need-write-count-requires Inv-loop μ-loop
 write-count-requires c κs =
     let clear = c .before .before .before in
     let t = clear .before .before in
-    let r = t .before .before .before .before .before .before .pre in (
+    let r = start-of (t .before) .pre in (
       clear .clear .kept .0 ∙ t .before .loop .inv .1 ∙ r .size,
       r .port,
       omega (arith, closed-high _ _ r (closed t), r .count),
@@ -117,7 +120,7 @@ returns-2 c =
     let t = clear .before .before in
     let end = t .before .before .end-of .ensures in
     written .write-count .ensures
-    ∙ removed-section _ _ (t .before .before .before .before .before .before .pre) (closed t) (clear .clear .last .0)
+    ∙ removed-section _ _ (start-of (t .before) .pre) (closed t) (clear .clear .last .0)
     (clear .clear .ensures
     ∙ ap (λ n. cleared (t .before .loop .table) (t .before .loop .free) (n - t .before .loop .free)) end)
 

@@ -37,9 +37,9 @@ mul-send-one-2 c = search needs
 
 send-one-requires : tie.Need-send-one-requires Inv-loop μ-loop
 send-one-requires c κs =
-    let start = c .before .before .before .before .before .before in
-    let loop = c .before .before .before .loop in
-    (start .pre .0, omega (arith, c .before .before .loop-test .taken, loop .inv .1, start .pre .2))
+    let at = c .before .before .before in
+    let start = at .before .before .before in
+    (start .pre .0, omega (arith, c .before .before .loop-test .taken, at .loop .inv .1, start .pre .2))
 
 add-output : tie.Need-add-output Inv-loop μ-loop
 add-output c = search needs
@@ -49,16 +49,17 @@ loop-less c = search needs
 
 loop-again : tie.Need-loop-again Inv-loop μ-loop
 loop-again c =
-    let start = c .before .before .before .before .before .before .before .before .before in
-    let loop = c .before .before .before .before .before .before .loop in
+    let test = c .before .before .before .before .before in
+    let loop = test .before .loop in
+    let start = test .before .before .before .before in
     let one = c .before .before .send-one in
     let table = start .args .table .now in
     let numbers = start .args .best .now in
-    let within : loop .output < length numbers = omega (arith, c .before .before .before .before .before .loop-test .taken, start .pre .1) in (
-      omega (arith, c .before .before .before .before .before .loop-test .taken),
+    let within : loop .output < length numbers = omega (arith, test .loop-test .taken, start .pre .1) in (
+      omega (arith, test .loop-test .taken),
       one .kept .1 .1 .0 ∙ loop .inv .1,
       sent-more (map (departureAt table) numbers) (start .args .answer .now) (start .pre .2) (loop .output) (loop .answer)
-          (one .last .1 .1 .0) (c .before .before .before .before .before .loop-test .taken) (loop .inv .2)
+          (one .last .1 .1 .0) (test .loop-test .taken) (loop .inv .2)
           (one .ensures
           ∙ ap (λ d. put (departureSize * loop .output) departureSize (departureBytes d) (loop .answer))
           (sym (getD-map (departureAt table) numbers (loop .output) 0 none within))),

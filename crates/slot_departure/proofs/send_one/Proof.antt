@@ -35,11 +35,11 @@ returns-2 : tie.Need-returns-2
 returns-2 c =
     let written = c .before .before in
     let cell = written .before .cell-of in
-    let test = written .before .before .before .if1 .left in
-    let a = written .before .before .before .before .before .before .args in
+    let test = written .before .before .before in
+    let a = test .before .before .before .args in
     written .write-departure .ensures
     ∙ ap (λ d. put (a .at) departureSize (departureBytes d) (a .answer .now))
-    (ap some (cell .ensures) ∙ sym (departureAt-some (a .table .now) (a .number) test))
+    (ap some (cell .ensures) ∙ sym (departureAt-some (a .table .now) (a .number) (test .if1 .left)))
 
 pub send-one-spec : {M : Type 1} → statement M
 send-one-spec =

@@ -65,7 +65,7 @@ is-better-requires c κs =
     )
 
 cast-best : tie.Need-cast-best
-cast-best c = omega (arith, small (c .before .before .before .before .before .before .before))
+cast-best c = let keyed = c .before .before .before .before in omega (arith, small (keyed .before .before .before))
 
 mul-best : tie.Need-mul-best
 mul-best c = search needs
@@ -77,7 +77,7 @@ mul-rivals : tie.Need-mul-rivals
 mul-rivals c = search needs
 
 element-write-rivals : tie.Need-element-write-rivals
-element-write-rivals c = column (c .before .before .before .before .before .before)
+element-write-rivals c = let keyed = c .before .before .before .before .before in column (keyed .before)
 
 returns : tie.Need-returns
 returns c =

@@ -17,6 +17,10 @@ abbrev μ-loop : tie.MeasureT-loop
 μ-loop table crossed buffered cross₀ keys₀ best₀ rivals₀ ports input₀ cross keys best rivals input =
     ports - input
 
+-- the turn, from behind its first call
+abbrev turn : tie.After-load-crossed Inv-loop μ-loop → tie.In-loop Inv-loop μ-loop
+turn c = c .before .before .before .before
+
 -- the input of a turn is one of the switch's
 port : (c : tie.In-loop Inv-loop μ-loop)
     → c .before .loop .input < portsIn (c .before .before .before .before .args .table .now)
@@ -50,30 +54,28 @@ load-crossed-requires c κs =
     (start .pre .0, (port in-loop, (start .pre .1 .0 (l .input) (low in-loop), l .inv .1 .crossed)))
 
 mul-load-buffered : tie.Need-mul-load-buffered Inv-loop μ-loop
-mul-load-buffered c = omega (arith, low (c .before .before .before .before))
+mul-load-buffered c = omega (arith, low (turn c))
 
 element-copy-out-load-buffered : tie.Need-element-copy-out-load-buffered Inv-loop μ-loop
-element-copy-out-load-buffered c = low (c .before .before .before .before)
+element-copy-out-load-buffered c = low (turn c)
 
 load-buffered-requires : tie.Need-load-buffered-requires Inv-loop μ-loop
 load-buffered-requires c κs =
-    let in-loop = c .before .before .before .before .before .before .before in
+    let in-loop = turn (c .before .before .before) in
     let l = in-loop .before .loop in
     let start = in-loop .before .before .before .before in
     (start .pre .0, (port in-loop, (start .pre .1 .1 .0 (l .input) (low in-loop), l .inv .1 .bests)))
 
 add-input : tie.Need-add-input Inv-loop μ-loop
-add-input c = omega (arith, low (c .before .before .before .before .before .before .before .before))
+add-input c = omega (arith, low (turn (c .before .before .before .before)))
 
 loop-less : tie.Need-loop-less Inv-loop μ-loop
-loop-less c =
-    let in-loop = c .before .before .before .before .before .before .before .before in
-    omega (arith, in-loop .loop-test .taken)
+loop-less c = omega (arith, turn (c .before .before .before .before) .loop-test .taken)
 
 loop-again : tie.Need-loop-again Inv-loop μ-loop
 loop-again c =
     let crossed = c .before .before .before .before in
-    let in-loop = crossed .before .before .before .before in
+    let in-loop = turn crossed in
     (omega (arith, port in-loop), record { crossed = crossed .load-crossed .ensures; bests = c .load-buffered .ensures })
 
 returns : tie.Need-returns Inv-loop μ-loop

@@ -1,7 +1,7 @@
 -- The loop's invariant: the straight cells of the outputs passed have moved.
 use Prim.Native.Nat.{_-_, _≤_}
 use native.Mathlib.Omega.{arith}
-use mathlib.Core.Path.{_≡_, _∙_, subst}
+use mathlib.Core.Path.{_≡_, _∙_}
 use Rattle.slot_moves.specs.CodeMoves.{straightTo, Straightened}
 use Rattle.slot_moves.proofs.Rounds.{straightened-none, straightened-more, kept-straightened, bound-kept}
 use Rattle.slot_moves.proofs.Rounds.{length-straight-lists, length-straight-heads, length-straight-best, length-inputs, length-outputs}
@@ -29,8 +29,10 @@ straight-number-requires c κs = omega arith
 
 straight-to-requires : tie.Need-straight-to-requires Inv-loop μ-loop
 straight-to-requires c κs =
-    let s = c .before .before .before .before .before .before .before .before .before .before in
-    let l = c .before .before .before .before .before .before .before .before .loop in
+    let lent = c .before .before .before .before .before in
+    let number = lent .before in
+    let l = number .before .before .loop in
+    let s = number .before .before .before .before in
     let i = l .inv .0 in
     let p = s .pre .0 in (
       (
@@ -42,7 +44,7 @@ straight-to-requires c κs =
         length-outputs i,
       ),
       (
-        rw (c .before .before .before .before .before .before .straight-number .ensures) (bound-kept (kept-straightened i) _ (s .pre .1 (l .output) (omega arith))),
+        rw (number .straight-number .ensures) (bound-kept (kept-straightened i) _ (s .pre .1 (l .output) (omega arith))),
         omega arith,
       ),
     )
@@ -54,21 +56,20 @@ loop-less : tie.Need-loop-less Inv-loop μ-loop
 loop-less c = omega arith
 
 loop-again : tie.Need-loop-again Inv-loop μ-loop
-loop-again c = (
-  straightened-more (c .before .before .before .before .before .before .before .before .before .before .before .loop .inv .0) (c .before .before .before .before .before .before .before .before .before .straight-number .ensures)
-      (c .before .before .straight-to .ensures),
-  omega arith,
-)
+loop-again c =
+    let done = c .before .before in
+    let lent = done .before .before .before .before .before in
+    let number = lent .before .before in
+    (straightened-more (number .before .before .loop .inv .0) (number .straight-number .ensures) (done .straight-to .ensures), omega arith)
 
 same-length : tie.Need-same-length Inv-loop μ-loop
 same-length c = kept-straightened (c .before .loop .inv .0) .size
 
 returns : tie.Need-returns Inv-loop μ-loop
 returns c =
-    let a = c .before .before .before .args in
     let l = c .before .loop in
     let all : l .output ≡ 16 = omega arith in
-    subst (λ n. Straightened (straightTo (a .scheduled .now) (a .held .now)) n (a .table .now) (l .table) (a .listed .now) (l .listed) (a .heads .now) (l .heads) (a .best .now) (l .best) (l .inputs) (l .outputs)) all (l .inv .0)
+    rw all at (l .inv .0)
 
 pub go-straight-spec : {M : Type 1} → statement M
 go-straight-spec =

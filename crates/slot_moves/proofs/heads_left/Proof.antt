@@ -21,26 +21,29 @@ from-requires c κs = search needs
 first-requires : tie.Need-first-requires
 first-requires c κs = search needs
 
+abbrev start : tie.After-first → tie.Start
+start c = c .before .before .before .before .before
+
 -- the position that was found
 next : (c : tie.After-first)
-    → let a = c .before .before .before .before .before .args in
+    → let a = start c .args in
     c .first .result ≡ nextOf (a .list) (a .k % 64)
 next c =
-    let a = c .before .before .before .before .before .args in
+    let a = start c .args in
     next-is (a .list) (a .k % 64) (c .before .before .without2 .ensures) (c .before .from .ensures) (c .first .ensures)
 
 -- the flow of its cell
 flow : (c : tie.After-flow-word-of)
-    → let a = c .before .before .before .before .before .before .before .args in
+    → let a = start (c .before .before) .args in
     c .flow-word-of .result ≡ flowWord (entryAt (a .table .now) (64 * (a .k / 64) + nextOf (a .list) (a .k % 64)) .cell)
 flow c =
-    let a = c .before .before .before .before .before .before .before .args in
+    let a = start (c .before .before) .args in
     c .flow-word-of .ensures .0
     ∙ ap (λ n. flowWord (entryAt (a .table .now) (64 * (a .k / 64) + n) .cell)) (next (c .before .before))
 
 returns : tie.Need-returns
 returns c =
-    let a = c .before .before .before .before .before .before .args in
+    let a = start (c .before) .args in
     c .before .before .before .before .without .ensures
     ∙ sym (heads-end (a .table .now) (a .list) (a .heads) (a .k) (subst (λ n. 64 ≤ n) (next (c .before)) (c .if1 .taken)))
 
@@ -64,7 +67,7 @@ returns-2 c =
     let two = c .before in
     let w = two .before in
     let found = w .before .before in
-    let a = found .before .before .before .before .before .args in
+    let a = start found .args in
     heads-found (a .table .now) (a .list) (a .heads) (a .k) (c .with-if .ensures)
     (found .before .before .before .without .ensures) (next found) (flow w) (two .flow-word-of2 .ensures .0)
     (w .before .if1 .left)

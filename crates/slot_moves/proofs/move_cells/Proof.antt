@@ -8,21 +8,30 @@ use borrow.Author.Needs.{needs}
 use Rattle.slot_moves.proofs.move_cells.Statement.{statement}
 use Rattle.slot_moves.proofs.move_cells.Tie as tie
 
+-- the place before a round, from where it is called: the start, or the round before
+abbrev before-straight : tie.After-held → tie.Start
+before-straight c = let lent = c .before .before .before .before .before in lent .before .before .before .before
+
+abbrev before-sending : tie.After-inputs2 → tie.After-go-straight
+before-sending c = let lent = c .before .before .before .before .before in let marked = lent .before .before .before .before in marked .before .before .before
+
+abbrev before-pulling : tie.After-outputs2 → tie.After-send-scheduled
+before-pulling c = let lent = c .before .before .before .before .before in lent .before .before .before
+
 go-straight-requires : tie.Need-go-straight-requires
 go-straight-requires c κs =
-    let s = c .before .before .before .before .before .before .before .before .before in
-    let good = s .pre .0 .0 in
-    let view = s .pre .0 .1 in (
+    let s = before-straight c in
+    let (good, view) = s .pre .0 in (
       (table-readable (s .args .table .now) good .size, view .lists .listed-size, view .lists .heads-size, view .bests .size),
       can-go good view (s .pre .1 .0),
     )
 
 send-scheduled-requires : tie.Need-send-scheduled-requires
 send-scheduled-requires c κs =
-    let s = c .before .before .before .before .before .before .before .before .before .before .before .before .before .before .before .before .before .before .before .before .before .before in
-    let good = s .pre .0 .0 in
-    let view = s .pre .0 .1 in
-    let g = c .before .before .before .before .before .before .before .before .before .before .before .before .go-straight .ensures in (
+    let straight = before-sending c in
+    let s = before-straight (straight .before) in
+    let (good, view) = s .pre .0 in
+    let g = straight .go-straight .ensures in (
       (
         kept-straightened g .size ∙ table-readable (s .args .table .now) good .size,
         length-straight-lists g ∙ view .lists .listed-size,
@@ -36,11 +45,12 @@ send-scheduled-requires c κs =
 
 pull-best-requires : tie.Need-pull-best-requires
 pull-best-requires c κs =
-    let s = c .before .before .before .before .before .before .before .before .before .before .before .before .before .before .before .before .before .before .before .before .before .before .before .before .before .before .before .before .before .before .before in
-    let good = s .pre .0 .0 in
-    let view = s .pre .0 .1 in
-    let g = c .before .before .before .before .before .before .before .before .before .before .before .before .before .before .before .before .before .before .before .before .before .go-straight .ensures in
-    let t = c .before .before .before .before .before .before .before .before .send-scheduled .ensures in (
+    let sent = before-pulling c in
+    let straight = before-sending (sent .before) in
+    let s = before-straight (straight .before) in
+    let (good, view) = s .pre .0 in
+    let g = straight .go-straight .ensures in
+    let t = sent .send-scheduled .ensures in (
       (
         kept-sent t .size ∙ kept-straightened g .size ∙ table-readable (s .args .table .now) good .size,
         length-straight-best g ∙ view .bests .size,
@@ -55,14 +65,13 @@ same-length c = search needs
 
 returns : tie.Need-returns
 returns c =
-    let s = c .before .before .before .before .before .before .before .before .before .before .before .before .before .before .before .before .before .before .before .before .before .before .before .before .before .before .before .before .before .before .before .before .before .before in
-    let good = s .pre .0 .0 in
-    let view = s .pre .0 .1 in
-    let se = s .pre .1 .0 in
-    let b = s .pre .1 .1 in
-    let g = c .before .before .before .before .before .before .before .before .before .before .before .before .before .before .before .before .before .before .before .before .before .before .before .before .go-straight .ensures in
-    let t = c .before .before .before .before .before .before .before .before .before .before .before .send-scheduled .ensures in
-    let u = c .before .before .pull-best .ensures in
+    let pulled = c .before .before in
+    let sent = before-pulling (pulled .before) in
+    let straight = before-sending (sent .before) in
+    let ((good, view), (se, b)) = before-straight (straight .before) .pre in
+    let g = straight .go-straight .ensures in
+    let t = sent .send-scheduled .ensures in
+    let u = pulled .pull-best .ensures in
     (moved-table good view se g b t u, (moved-view good view se g b t u, moved-good good view se g b t u))
 
 pub move-cells-spec : {M : Type 1} → statement M

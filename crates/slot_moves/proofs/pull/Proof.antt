@@ -6,19 +6,17 @@ use Rattle.slot_moves.proofs.pull.Tie as tie
 
 returns : tie.Need-returns
 returns c =
-    let s = c .before .before in
-    let a = s .args in
-    taken-none (a .number) (c .if1 .taken) (a .table .now) (a .best .now) (s .pre .0 .0) (a .cross .now) (a .keys .now)
-    (s .pre .0 .2) (s .pre .0 .3) (a .output)
+    let p = c .before .before .pre .0 in
+    taken-none _ (c .if1 .taken) _ _ (p .0) _ _ (p .2) (p .3) _
 
 fill-requires : tie.Need-fill-requires
 fill-requires c κs = search needs
 
 enter-requires : tie.Need-enter-requires
 enter-requires c κs =
-    let s = c .before .before .before .before .before .before .before in
-    let small = c .before .before .before .before .before .if1 .left in
-    ((s .pre .0 .0, s .pre .0 .1, small), s .pre .1 .0 small)
+    let test = c .before .before .before .before .before in
+    let s = test .before .before in
+    ((s .pre .0 .0, s .pre .0 .1, test .if1 .left), s .pre .1 .0 (test .if1 .left))
 
 write-place-requires : tie.Need-write-place-requires
 write-place-requires c κs = search needs

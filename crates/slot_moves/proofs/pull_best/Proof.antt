@@ -1,7 +1,7 @@
 -- The loop's invariant: the outputs passed have taken their cells.
 use Prim.Native.Nat.{_-_, _≤_}
 use native.Mathlib.Omega.{arith}
-use mathlib.Core.Path.{_≡_, _∙_, subst}
+use mathlib.Core.Path.{_≡_, _∙_}
 use Rattle.slot_moves.specs.CodeMoves.{takeOf, Pulled}
 use Rattle.slot_moves.proofs.Rounds.{pulled-none, pulled-more, kept-pulled, bound-kept, square-pulled, square-pulled-keys}
 use Rattle.slot_moves.proofs.Rounds.{length-pulled-best}
@@ -27,13 +27,14 @@ pull-number-requires c κs = omega arith
 
 pull-requires : tie.Need-pull-requires Inv-loop μ-loop
 pull-requires c κs =
-    let s = c .before .before .before .before .before .before .before .before in
-    let l = c .before .before .before .before .before .before .loop in
+    let number = c .before .before .before .before in
+    let l = number .before .before .loop in
+    let s = number .before .before .before .before in
     let i = l .inv .0 in
     let p = s .pre .0 in (
       (kept-pulled i .size ∙ p .0, length-pulled-best i ∙ p .1, square-pulled i (p .2), square-pulled-keys i (p .3)),
       (
-        rw (c .before .before .before .before .pull-number .ensures) (bound-kept (kept-pulled i) _ (s .pre .1 (l .output) (omega arith))),
+        rw (number .pull-number .ensures) (bound-kept (kept-pulled i) _ (s .pre .1 (l .output) (omega arith))),
         omega arith,
       ),
     )
@@ -45,21 +46,19 @@ loop-less : tie.Need-loop-less Inv-loop μ-loop
 loop-less c = omega arith
 
 loop-again : tie.Need-loop-again Inv-loop μ-loop
-loop-again c = (
-  pulled-more (c .before .before .before .before .before .before .before .before .before .loop .inv .0) (c .before .before .before .before .before .before .before .pull-number .ensures)
-      (c .before .before .pull .ensures),
-  omega arith,
-)
+loop-again c =
+    let done = c .before .before in
+    let number = done .before .before .before .before .before in
+    (pulled-more (number .before .before .loop .inv .0) (number .pull-number .ensures) (done .pull .ensures), omega arith)
 
 same-length : tie.Need-same-length Inv-loop μ-loop
 same-length c = kept-pulled (c .before .loop .inv .0) .size
 
 returns : tie.Need-returns Inv-loop μ-loop
 returns c =
-    let a = c .before .before .before .args in
     let l = c .before .loop in
     let all : l .output ≡ 16 = omega arith in
-    subst (λ n. Pulled (takeOf (a .straight .now) (a .crossed .now)) n (a .table .now) (l .table) (a .cross .now) (l .cross) (a .keys .now) (l .keys) (a .best .now) (l .best)) all (l .inv .0)
+    rw all at (l .inv .0)
 
 pub pull-best-spec : {M : Type 1} → statement M
 pull-best-spec =

@@ -8,22 +8,23 @@ use borrow.Author.Needs.{needs}
 use Rattle.slot_moves.proofs.send.Statement.{statement}
 use Rattle.slot_moves.proofs.send.Tie as tie
 
+-- a cell is there, from where it has left its list
+abbrev behind-test : tie.After-leave-list → tie.Else1
+behind-test c = c .before .before .before .before
+
 returns : tie.Need-returns
 returns c =
-    let s = c .before .before in
-    let a = s .args in
-    let p = s .pre .0 in
-    crossed-none (a .number) (c .if1 .taken) (a .table .now) (a .best .now) (p .0) (a .cross .now) (a .keys .now) (p .4)
-    (p .5) (a .listed .now) (a .heads .now) (p .1) (p .2)
+    let p = c .before .before .pre .0 in
+    crossed-none _ (c .if1 .taken) _ _ (p .0) _ _ (p .4) (p .5) _ _ (p .1) (p .2)
 
 leave-list-requires : tie.Need-leave-list-requires
 leave-list-requires c κs = search needs
 
 enter-requires : tie.Need-enter-requires
 enter-requires c κs =
-    let s = c .before .before .before .before .before .before .before .before in
-    let small = c .before .before .before .before .before .before .if1 .left in
-    ((s .pre .0 .0, s .pre .0 .3, small), s .pre .1 small)
+    let test = behind-test (c .before .before) in
+    let s = test .before .before in
+    ((s .pre .0 .0, s .pre .0 .3, test .if1 .left), s .pre .1 (test .if1 .left))
 
 output-of-requires : tie.Need-output-of-requires
 output-of-requires c κs = search needs
@@ -36,9 +37,11 @@ key-of-requires c κs = search needs
 
 fill-requires : tie.Need-fill-requires
 fill-requires c κs =
-    let s = c .before .before .before .before .before .before .before .before .before .before .before .before .before .before .before in
-    let small = c .before .before .before .before .before .before .before .before .before .before .before .before .before .if1 .left in
-    (s .pre .0 .4, s .pre .0 .5, omega arith, rw (c .before .before .before .before .output-of .ensures) (s .pre .1 small))
+    let output = c .before .before .before .before in
+    let left = output .before .before .before .before .before in
+    let test = behind-test left in
+    let s = test .before .before in
+    (s .pre .0 .4, s .pre .0 .5, omega arith, rw (output .output-of .ensures) (s .pre .1 (test .if1 .left)))
 
 write-place-requires : tie.Need-write-place-requires
 write-place-requires c κs = search needs
@@ -48,19 +51,23 @@ same-length c = search needs
 
 returns-2 : tie.Need-returns-2
 returns-2 c =
-    let a = c .before .before .before .before .before .before .before .before .before .before .before .before .before .before .before .before .before .before .before .before .args in
-    let small = c .before .before .before .before .before .before .before .before .before .before .before .before .before .before .before .before .before .before .if1 .left in
-    let leave = c .before .before .before .before .before .before .before .before .before .before .before .before .before .before .leave-list .ensures in
-    let filled = c .before .before .before .before .fill .ensures in
-    let output = c .before .before .before .before .before .before .before .before .before .output-of .ensures in
-    let key = c .before .before .before .before .before .before .before .key-of .ensures ∙ keyAt-some (a .table .now) (a .number) small in
+    let placed = c .before .before in
+    let filled = placed .before .before in
+    let keyed = filled .before .before .before in
+    let output = keyed .before .before in
+    let entered = output .before .before in
+    let left = entered .before .before .before in
+    let test = behind-test left in
+    let a = test .before .before .args in
+    let goes = output .output-of .ensures in
+    let key = keyed .key-of .ensures ∙ keyAt-some (a .table .now) (a .number) (test .if1 .left) in
     record {
-      to-crosspoint = c .before .before .write-place .ensures;
-      left-list = leave .0;
-      left-heads = leave .1;
-      filled = filled .0 ∙ ap (λ o. put (a .cross .now) (a .number / 64) o (a .number)) output;
-      keyed = filled .1 ∙ ap₂ (λ o k. put (a .keys .now) o (a .number / 64) k) output key;
-      best-in = c .before .before .before .before .before .before .before .before .before .before .before .enter .ensures;
+      to-crosspoint = placed .write-place .ensures;
+      left-list = left .leave-list .ensures .0;
+      left-heads = left .leave-list .ensures .1;
+      filled = filled .fill .ensures .0 ∙ ap (λ o. put (a .cross .now) (a .number / 64) o (a .number)) goes;
+      keyed = filled .fill .ensures .1 ∙ ap₂ (λ o k. put (a .keys .now) o (a .number / 64) k) goes key;
+      best-in = entered .enter .ensures;
     }
 
 pub send-spec : {M : Type 1} → statement M

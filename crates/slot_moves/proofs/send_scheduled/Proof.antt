@@ -1,7 +1,7 @@
 -- The loop's invariant: the inputs passed have sent.
 use Prim.Native.Nat.{_-_, _≤_}
 use native.Mathlib.Omega.{arith}
-use mathlib.Core.Path.{_≡_, _∙_, subst}
+use mathlib.Core.Path.{_≡_, _∙_}
 use Rattle.slot_moves.specs.CodeMoves.{sendOf, Sent}
 use Rattle.slot_moves.proofs.Rounds.{sent-none, sent-more, kept-sent, bound-kept, square-sent, square-sent-keys}
 use Rattle.slot_moves.proofs.Rounds.{length-sent-lists, length-sent-heads, length-sent-best}
@@ -29,8 +29,10 @@ send-number-requires c κs = omega arith
 
 send-requires : tie.Need-send-requires Inv-loop μ-loop
 send-requires c κs =
-    let s = c .before .before .before .before .before .before .before .before .before .before in
-    let l = c .before .before .before .before .before .before .before .before .loop in
+    let lent = c .before .before .before .before .before in
+    let number = lent .before in
+    let l = number .before .before .loop in
+    let s = number .before .before .before .before in
     let i = l .inv .0 in
     let p = s .pre .0 in (
       (
@@ -41,7 +43,7 @@ send-requires c κs =
         square-sent i (p .4),
         square-sent-keys i (p .5),
       ),
-      rw (c .before .before .before .before .before .before .send-number .ensures) (bound-kept (kept-sent i) _ (s .pre .1 (l .input) (omega arith))),
+      rw (number .send-number .ensures) (bound-kept (kept-sent i) _ (s .pre .1 (l .input) (omega arith))),
     )
 
 add-input : tie.Need-add-input Inv-loop μ-loop
@@ -51,21 +53,20 @@ loop-less : tie.Need-loop-less Inv-loop μ-loop
 loop-less c = omega arith
 
 loop-again : tie.Need-loop-again Inv-loop μ-loop
-loop-again c = (
-  sent-more (c .before .before .before .before .before .before .before .before .before .before .before .loop .inv .0) (c .before .before .before .before .before .before .before .before .before .send-number .ensures)
-      (c .before .before .send .ensures),
-  omega arith,
-)
+loop-again c =
+    let done = c .before .before in
+    let lent = done .before .before .before .before .before in
+    let number = lent .before .before in
+    (sent-more (number .before .before .loop .inv .0) (number .send-number .ensures) (done .send .ensures), omega arith)
 
 same-length : tie.Need-same-length Inv-loop μ-loop
 same-length c = kept-sent (c .before .loop .inv .0) .size
 
 returns : tie.Need-returns Inv-loop μ-loop
 returns c =
-    let a = c .before .before .before .args in
     let l = c .before .loop in
     let all : l .input ≡ 16 = omega arith in
-    subst (λ n. Sent (sendOf (a .straight .now) (a .scheduled .now)) n (a .table .now) (l .table) (a .listed .now) (l .listed) (a .heads .now) (l .heads) (a .cross .now) (l .cross) (a .keys .now) (l .keys) (a .best .now) (l .best)) all (l .inv .0)
+    rw all at (l .inv .0)
 
 pub send-scheduled-spec : {M : Type 1} → statement M
 send-scheduled-spec =

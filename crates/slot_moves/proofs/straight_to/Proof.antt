@@ -8,22 +8,23 @@ use borrow.Author.Needs.{needs}
 use Rattle.slot_moves.proofs.straight_to.Statement.{statement}
 use Rattle.slot_moves.proofs.straight_to.Tie as tie
 
+-- a cell is there, from where it has left its list
+abbrev behind-test : tie.After-leave-list → tie.Else1
+behind-test c = c .before .before .before .before
+
 returns : tie.Need-returns
 returns c =
-    let s = c .before .before in
-    let a = s .args in
-    let p = s .pre .0 in
-    straight-none (a .number) (c .if1 .taken) (a .table .now) (a .best .now) (p .0) (a .output) (a .listed .now)
-    (a .heads .now) (a .inputs .now) (a .outputs .now) (p .1) (p .2) (p .4) (p .5)
+    let p = c .before .before .pre .0 in
+    straight-none _ (c .if1 .taken) _ _ (p .0) _ _ _ _ _ (p .1) (p .2) (p .4) (p .5)
 
 leave-list-requires : tie.Need-leave-list-requires
 leave-list-requires c κs = search needs
 
 enter-requires : tie.Need-enter-requires
 enter-requires c κs =
-    let s = c .before .before .before .before .before .before .before .before in
-    let small = c .before .before .before .before .before .before .if1 .left in
-    ((s .pre .0 .0, s .pre .0 .3, small), s .pre .1 .0 small)
+    let test = behind-test (c .before .before) in
+    let s = test .before .before in
+    ((s .pre .0 .0, s .pre .0 .3, test .if1 .left), s .pre .1 .0 (test .if1 .left))
 
 write-place-requires : tie.Need-write-place-requires
 write-place-requires c κs = search needs
@@ -39,16 +40,17 @@ same-length c = search needs
 
 returns-2 : tie.Need-returns-2
 returns-2 c =
-    let s = c .before .before .before .before .before .before .before .before .before .before .before .before .before in
-    let small = c .before .before .before .before .before .before .before .before .before .before .before .if1 .left in
-    let leave = c .before .before .before .before .before .before .before .leave-list .ensures in
+    let entered = c .before .before .before .before in
+    let left = entered .before .before .before in
+    let test = behind-test left in
+    let s = test .before .before in
     record {
       to-buffer = c .before .before .write-place .ensures;
-      left-list = leave .0;
-      left-heads = leave .1;
-      best-in = c .before .before .before .before .enter .ensures;
+      left-list = left .leave-list .ensures .0;
+      left-heads = left .leave-list .ensures .1;
+      best-in = entered .enter .ensures;
       from-input = refl;
-      to-output = ap (λ o. set (s .args .outputs .now) o true) (sym (mark-some (s .args .number) (s .args .output) small));
+      to-output = ap (λ o. set (s .args .outputs .now) o true) (sym (mark-some (s .args .number) (s .args .output) (test .if1 .left)));
     }
 
 pub straight-to-spec : {M : Type 1} → statement M

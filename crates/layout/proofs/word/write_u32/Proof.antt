@@ -26,12 +26,12 @@ same-length c = search needs
 
 returns : tie.Need-returns
 returns c =
-    let start = c .before .before .before .before .before .before .before .before .before in
-    let low = c .before .before .before .before .before .before .write-u16 in
-    let high = c .before .before .write-u162 in
+    let high = c .before .before in
+    let low = high .before .before .before .before in
+    let start = low .before .before .before in
     let a = start .args in
-    put-halves 2 (a .at) (a .n % 65536) (a .n / 65536) (a .n) (a .bytes .now) (low .last .0) (high .last .0)
-    (start .pre) (low .ensures) (high .ensures) (omega arith) (omega arith)
+    put-halves 2 (a .at) (a .n % 65536) (a .n / 65536) (a .n) (a .bytes .now) (low .write-u16 .last .0)
+    (high .write-u162 .last .0) (start .pre) (low .write-u16 .ensures) (high .write-u162 .ensures) (omega arith) (omega arith)
 
 pub write-u32-spec : {M : Type 1} → statement M
 write-u32-spec =

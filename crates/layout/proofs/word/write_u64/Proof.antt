@@ -26,12 +26,12 @@ same-length c = search needs
 
 returns : tie.Need-returns
 returns c =
-    let start = c .before .before .before .before .before .before .before .before .before in
-    let low = c .before .before .before .before .before .before .write-u32 in
-    let high = c .before .before .write-u322 in
+    let high = c .before .before in
+    let low = high .before .before .before .before in
+    let start = low .before .before .before in
     let a = start .args in
-    put-halves 4 (a .at) (a .n % 4294967296) (a .n / 4294967296) (a .n) (a .bytes .now) (low .last .0) (high .last .0)
-    (start .pre) (low .ensures) (high .ensures) (omega arith) (omega arith)
+    put-halves 4 (a .at) (a .n % 4294967296) (a .n / 4294967296) (a .n) (a .bytes .now) (low .write-u32 .last .0)
+    (high .write-u322 .last .0) (start .pre) (low .write-u32 .ensures) (high .write-u322 .ensures) (omega arith) (omega arith)
 
 pub write-u64-spec : {M : Type 1} → statement M
 write-u64-spec =

@@ -31,11 +31,12 @@ slot-of-requires c κs = search needs
 
 returns : tie.Need-returns
 returns c =
-    let a = c .before .before .before .before .before .before .args in
+    let read = c .before .before .before .before in
+    let a = read .before .before .args in
     λ i.
     record {
       input = sym (entryAt-input (a .bytes .now) (a .k)) i;
-      output = c .before .before .before .before .output-of .ensures i;
+      output = read .output-of .ensures i;
       flow = c .before .before .before .flow-of .ensures i;
       rank = c .before .before .rank-of .ensures i;
       tag = c .before .tag-of .ensures i;

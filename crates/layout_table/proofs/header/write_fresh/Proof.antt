@@ -22,14 +22,14 @@ same-length c = search needs
 
 returns : tie.Need-returns
 returns c =
-    let start = c .before .before .before .before .before .before .before .before .before .before .before .before .before .before .before .before .before in
-    let cleared = c .before .before .before .before .before .before .before .before .before .before .before .before .before .before .clear in
-    let layout = c .before .before .before .before .before .before .before .before .before .before .write-u32 in
-    let ports = c .before .before .before .before .before .before .write-u322 in
-    let clock = c .before .before .write-u323 in
-    header-put (start .args .switch .ports) (start .args .switch .clock) (start .args .table .now)
-    (cleared .last .0) (layout .last .0) (ports .last .0) (clock .last .0)
-    (cleared .ensures) (layout .ensures) (ports .ensures) (clock .ensures)
+    let clock = c .before .before in
+    let ports = clock .before .before .before .before in
+    let layout = ports .before .before .before .before in
+    let cleared = layout .before .before .before .before in
+    let a = cleared .before .before .before .args in
+    header-put (a .switch .ports) (a .switch .clock) (a .table .now) (cleared .clear .last .0) (layout .write-u32 .last .0)
+    (ports .write-u322 .last .0) (clock .write-u323 .last .0) (cleared .clear .ensures) (layout .write-u32 .ensures)
+    (ports .write-u322 .ensures) (clock .write-u323 .ensures)
 
 pub write-fresh-spec : {M : Type 1} → statement M
 write-fresh-spec =

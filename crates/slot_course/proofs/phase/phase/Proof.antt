@@ -8,24 +8,31 @@ use Rattle.slot_course.proofs.Unmatched.{unmatched, to-outputs}
 use Rattle.slot_course.proofs.phase.phase.Statement.{statement}
 use Rattle.slot_course.proofs.phase.phase.Tie as tie
 
+-- from where the moves are called: the matching was found; from where the choices are: the start
+abbrev matched : tie.After-move-cells-arg6 → tie.After-matching-of
+matched c = let lent = c .before .before .before .before .before in lent .before .before
+
+abbrev start-of : tie.After-choose-arg5 → tie.Start
+start-of c = let lent = c .before .before .before .before in lent .before .before
+
 choose-requires : tie.Need-choose-requires
 choose-requires c κs =
-    let start = c .before .before .before .before .before .before in
+    let start = start-of c in
     let view = start .pre .1 in
     (table-readable _ (start .pre .0), (view .lists, (view .square, view .agrees, view .keyed)))
 
 matching-of-requires : tie.Need-matching-of-requires
 matching-of-requires c κs =
     let chosen = c .before .before in
-    let start = chosen .before .before .before .before .before .before .before in
+    let start = start-of (chosen .before) in
     let r = table-readable _ (start .pre .0) in
     ((r .size, to-outputs r (chosen .choose .ensures)), unmatched r (chosen .choose .ensures))
 
 move-cells-requires : tie.Need-move-cells-requires
 move-cells-requires c κs =
-    let found = c .before .before .before .before .before .before .before in
+    let found = matched c in
     let chosen = found .before .before .before in
-    let start = chosen .before .before .before .before .before .before .before in
+    let start = start-of (chosen .before) in
     let good = start .pre .0 in
     let choice = chosen .choose .ensures in (
       start .pre,
@@ -38,9 +45,9 @@ same-length c = search needs
 returns : tie.Need-returns
 returns c =
     let moved = c .before .before in
-    let found = moved .before .before .before .before .before .before .before .before in
+    let found = matched (moved .before) in
     let chosen = found .before .before .before in
-    let start = chosen .before .before .before .before .before .before .before in
+    let start = start-of (chosen .before) in
     let good = start .pre .0 in (
       moved .move-cells .ensures .0,
       (

@@ -22,9 +22,12 @@ same-length-2 c = search needs
 returns : tie.Need-returns
 returns c =
     let written = c .before .before in
-    let departed = written .before .before .before .before .before .before in
-    let scheduled = departed .before .before .before .before .before .before in
-    let start = scheduled .before .before .before .before .before .before .before in
+    let back = written .before .before in
+    let departed = back .before .before .before .before in
+    let best = departed .before .before in
+    let scheduled = best .before .before .before .before in
+    let lent = scheduled .before .before .before .before in
+    let start = lent .before .before .before in
     let h = scheduled .schedule .ensures in (
       ran-table _ _ _ _ _ h _ (departed .depart .ensures .0),
       ran-answer _ _ _ _ _ h _ _ _ (start .pre .0 .1) (departed .depart .ensures .1) (written .write-proposals .ensures),

@@ -34,9 +34,12 @@ load-requires c κs =
       ),
     )
 
+abbrev start-of : tie.After-load Inv-loop μ-loop → tie.Start Inv-loop μ-loop
+start-of c = let lent = c .before .before .before .before in lent .before .before
+
 loop-holds : tie.Need-loop-holds Inv-loop μ-loop
 loop-holds c =
-    let start = c .before .before .before .before .before .before in
+    let start = start-of c in
     let l = c .load .ensures in (
       omega arith,
       phased-none _ _ _ (start .pre .0 .0) refl,
@@ -53,7 +56,8 @@ loop-holds c =
 
 phase-requires : tie.Need-phase-requires Inv-loop μ-loop
 phase-requires c κs =
-    let loop = c .before .before .before .before .before .before .before .loop in
+    let lent = c .before .before .before .before .before in
+    let loop = lent .before .before .loop in
     (loop .inv .1 .good, loop .inv .2)
 
 mul-made : tie.Need-mul-made Inv-loop μ-loop
@@ -70,9 +74,11 @@ loop-less c = omega arith
 
 loop-again : tie.Need-loop-again Inv-loop μ-loop
 loop-again c =
-    let test = c .before .before .before .before .before .before .before .before .before in
+    let done = c .before .before in
+    let lent = done .before .before .before .before .before in
+    let test = lent .before .before in
     let loop = test .before .loop in
-    let p = c .before .before .phase in
+    let p = done .phase in
     let room : loop .n < length (loop .made) = omega (arith, loop .inv .3, test .loop-test .taken) in (
       omega arith,
       phased-more _ _ _ _ _ _ (loop .inv .1) room (p .ensures .0) (p .ensures .1 .1),
@@ -93,7 +99,7 @@ same-length c = c .before .loop .inv .4
 returns : tie.Need-returns Inv-loop μ-loop
 returns c =
     let loop = c .before .loop in
-    let start = c .before .before .before .before .before .before .before .before in
+    let start = start-of (c .before .before) in
     let last : loop .n ≡ 2 = omega (arith, loop .inv .0) in
     schedules _ _ _ _
     (subst (λ k. Phased (stateOf (start .args .table .now)) k (loop .table) (loop .made)) last (loop .inv .1))
