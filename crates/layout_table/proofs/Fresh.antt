@@ -60,11 +60,17 @@ section-zeros : sectionBytes [] ≡ zeros sectionSize
 unfolding sectionBytes entriesBytes zeros
 section-zeros = refl
 
+-- a section more
+zeros-more : (k : ℕ) → zeros sectionSize ++ zeros (sectionSize * k) ≡ zeros (sectionSize * suc k)
+zeros-more k =
+    let e : sectionSize + sectionSize * k ≡ sectionSize * suc k = omega arith in
+    zeros-add sectionSize (sectionSize * k) ∙ ap zeros e
+
 sections-zeros : (k n : ℕ) → sectionsBytes k (replicate {A = List Entry} n []) ≡ zeros (sectionSize * k)
 unfolding sectionsBytes zeros
 sections-zeros zero n = refl
-sections-zeros (suc k) zero = ap₂ _++_ section-zeros (sections-zeros k zero) ∙ zeros-add sectionSize (sectionSize * k) ∙ ap zeros (let e : sectionSize + sectionSize * k ≡ sectionSize * suc k = omega arith in e)
-sections-zeros (suc k) (suc n) = ap₂ _++_ section-zeros (sections-zeros k n) ∙ zeros-add sectionSize (sectionSize * k) ∙ ap zeros (let e : sectionSize + sectionSize * k ≡ sectionSize * suc k = omega arith in e)
+sections-zeros (suc k) zero = ap₂ _++_ section-zeros (sections-zeros k zero) ∙ zeros-more k
+sections-zeros (suc k) (suc n) = ap₂ _++_ section-zeros (sections-zeros k n) ∙ zeros-more k
 
 body-zeros : (n : ℕ)
     → bytesOf 4 0 ++ (countsBytes portLimit (replicate {A = List Entry} n []) ++ sectionsBytes portLimit (replicate n []))

@@ -14,5 +14,6 @@ pub shows-given :
     × (given noMatch ≡ true)
     × (given chain ≡ true)
     × (given nobody ≡ true)
-unfolding keep some? none? count least sameList proposed round rounds settled matched proposals candidate ahead over same show given inputsFirst pair pairAlone noMatch chain nobody
+unfolding keep some? none? count least sameList proposed round rounds settled matched proposals candidate ahead over same show given inputsFirst pair
+    pairAlone noMatch chain nobody
 shows-given = (refl, refl, refl, refl, refl, refl)

@@ -48,5 +48,13 @@ pub histories-given :
     × (given fullInput ≡ true)
     × (given orderOfChecks ≡ true)
     × (given lastSlot ≡ true)
-unfolding flatten keep some? none? all? count least pairwise update first? numbersFrom upTo sameFlow fits32 portsInRange over accepted sameCell proposed round rounds settled matched proposals fresh isListed isCrossed isBuffered cells noSuchPort noSuchFlow outOfTurn fallingRank full fault faultFrom firstFault numberFrom numberSections numbered waiting lists crosspoints sameInput sameOutput ahead beats among sameCrosspoint heads blocked crosspointEmpty ready scheduled isUrgent urgent takesPart candidates straight sent pulled phase placeSent placeAfter placedBy moved inListOf newEntry enterAfter enter arrive leaving departuresOf without run slot switchAfter cellsAt freshPifo queued join best rest runPifo slotPifo pifoAfter soundEntry together otherSlot otherCrosspoint soundSection soundSections sound sameDeparture sameList sameCells stand coursePasses crossbarAnswers pifoAnswers crossbarRuns pifoRuns bothRun enterAt sectionsFrom switchWith arrival cell call tables given recordOf runs threeInputs twoOfPair behindScheduled listOrder notOverAll scheduledMatched fullCrosspoint straightAlone arrivals tieOfInputs tieOfSlots tieOfUrgent fallingRanks fullInput orderOfChecks lastSlot
+unfolding flatten keep some? none? all? count least pairwise update first? numbersFrom upTo sameFlow fits32 portsInRange over accepted sameCell proposed
+    round rounds settled matched proposals fresh isListed isCrossed isBuffered cells noSuchPort noSuchFlow outOfTurn fallingRank full fault faultFrom
+    firstFault numberFrom numberSections numbered waiting lists crosspoints sameInput sameOutput ahead beats among sameCrosspoint heads blocked
+    crosspointEmpty ready scheduled isUrgent urgent takesPart candidates straight sent pulled phase placeSent placeAfter placedBy moved inListOf newEntry
+    enterAfter enter arrive leaving departuresOf without run slot switchAfter cellsAt freshPifo queued join best rest runPifo slotPifo pifoAfter soundEntry
+    together otherSlot otherCrosspoint soundSection soundSections sound sameDeparture sameList sameCells stand coursePasses crossbarAnswers pifoAnswers
+    crossbarRuns pifoRuns bothRun enterAt sectionsFrom switchWith arrival cell call tables given recordOf runs threeInputs twoOfPair behindScheduled
+    listOrder notOverAll scheduledMatched fullCrosspoint straightAlone arrivals tieOfInputs tieOfSlots tieOfUrgent fallingRanks fullInput orderOfChecks
+    lastSlot
 histories-given = (refl, refl, refl, refl, refl, refl, refl, refl, refl, refl, refl, refl, refl, refl, refl, refl)

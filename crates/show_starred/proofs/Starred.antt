@@ -36,5 +36,12 @@ use Rattle.model.specs.Calls.{arrival, cell, call}
 use Rattle.show_starred.specs.Shows.{startAnswers, given, starred}
 
 pub starred-shows : all? given starred ≡ true
-unfolding bind flatten keep some? none? all? count least pairwise update first? numbersFrom upTo sameFlow fits32 portsInRange over accepted sameCell proposed round rounds settled matched proposals fresh isListed isCrossed isBuffered cells noSuchPort noSuchFlow outOfTurn fallingRank full fault faultFrom firstFault numberFrom numberSections numbered waiting lists crosspoints sameInput sameOutput ahead beats among sameCrosspoint heads blocked crosspointEmpty ready scheduled isUrgent urgent takesPart candidates straight sent pulled phase placeSent placeAfter placedBy moved inListOf newEntry enterAfter enter arrive leaving departuresOf without run slot switchAfter start freshPifo queued join best rest runPifo slotPifo pifoAfter sameBytes ascii keyName keyText digitsWithin decimal line after upToLineFeed isDigit valueAfter noLeadingZero readNumber readLine give _>>=_ number exactly begins read-arrival read-arrivals block afterEnd next header departureText departuresText refusalText lineOf playFrom play crossbar pifo playCrossbar playPifo sameDeparture sameList crossbarAnswers pifoAnswers crossbarRuns pifoRuns bothRun arrival cell call startAnswers given starred
+unfolding bind flatten keep some? none? all? count least pairwise update first? numbersFrom upTo sameFlow fits32 portsInRange over accepted sameCell
+    proposed round rounds settled matched proposals fresh isListed isCrossed isBuffered cells noSuchPort noSuchFlow outOfTurn fallingRank full fault
+    faultFrom firstFault numberFrom numberSections numbered waiting lists crosspoints sameInput sameOutput ahead beats among sameCrosspoint heads blocked
+    crosspointEmpty ready scheduled isUrgent urgent takesPart candidates straight sent pulled phase placeSent placeAfter placedBy moved inListOf newEntry
+    enterAfter enter arrive leaving departuresOf without run slot switchAfter start freshPifo queued join best rest runPifo slotPifo pifoAfter sameBytes
+    ascii keyName keyText digitsWithin decimal line after upToLineFeed isDigit valueAfter noLeadingZero readNumber readLine give _>>=_ number exactly
+    begins read-arrival read-arrivals block afterEnd next header departureText departuresText refusalText lineOf playFrom play crossbar pifo playCrossbar
+    playPifo sameDeparture sameList crossbarAnswers pifoAnswers crossbarRuns pifoRuns bothRun arrival cell call startAnswers given starred
 starred-shows = refl

@@ -21,7 +21,8 @@ use Rattle.layout.specs.Entry.{countIn}
 use Rattle.layout.specs.Code.{sectionAt}
 use Rattle.slot_check.specs.Code.{isSection}
 use Rattle.layout.proofs.Number.{bytes?, word-here, word-fits, below-fits32, bytesOf-at}
-use Rattle.layout.proofs.Table.{decode-some-iff, decode-sound, encode-decode, length-encode, isTable-some, is-table, encode-counts, encode-sections, length-countsBytes, sound-sections}
+use Rattle.layout.proofs.Table.{decode-some-iff, decode-sound, encode-decode, length-encode, isTable-some, is-table}
+use Rattle.layout.proofs.Table.{encode-counts, encode-sections, length-countsBytes, sound-sections}
 use Rattle.layout.proofs.Records.{between-mem, between-each, stateOf-sections, stateOf-few}
 use Rattle.slot_check.proofs.Parts.{Section, roomOf-le, isSection-i, isSection-e, counts-i, sections-i, sounds-i, rows-e}
 

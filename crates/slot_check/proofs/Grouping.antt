@@ -11,12 +11,15 @@ use lib.Dec.{eqb, ltb, leb}
 use lib.ListN.{length, getD, set}
 use Rattle.laws.specs.Lists.{some?, none?, all?, pairwise, upTo, numbersFrom, between}
 use Rattle.laws.proofs.Tests.{eqb-turned, either, clash, by-fail, same, and-i, and-l, and-r, and-false-r, not-or}
-use Rattle.laws.proofs.Lists.{some?-i, some?-ext, some?-append, none?-e, none?-false, none?-append, none?-not-some?, none?-i, none?-ext, none?-clash, none?-map, all?-i, all?-e, all?-map}
+use Rattle.laws.proofs.Lists.{some?-i, some?-ext, some?-append, none?-e, none?-false, none?-append, none?-not-some?}
+use Rattle.laws.proofs.Lists.{none?-i, none?-ext, none?-clash, none?-map, all?-i, all?-e, all?-map}
 use Rattle.laws.proofs.Pairwise.{pairwise-split}
 use Rattle.laws.proofs.Numbers.{numbersFrom-mem, mem-numbersFrom}
 use Rattle.sets.specs.Sets.{positions, has, setFrom, members, firstOf}
 use Rattle.sets.proofs.Digits.{has-past}
-use Rattle.sets.proofs.Members.{Visited, visited-start, visited-cons, visited-next, visited-member, visited-end, in-members, members-in, members-rising, first-before, first-position, first-member, setOf-is, setFrom-fits, has-setFrom, has-withOne, withOne-lt, has-withoutOne, numbersFrom-shift}
+use Rattle.sets.proofs.Members.{Visited, visited-start, visited-cons, visited-next, visited-member, visited-end, in-members}
+use Rattle.sets.proofs.Members.{members-in, members-rising, first-before, first-position, first-member, setOf-is}
+use Rattle.sets.proofs.Members.{setFrom-fits, has-setFrom, has-withOne, withOne-lt, has-withoutOne, numbersFrom-shift}
 use Rattle.sets.specs.Code.{withOne, restOf}
 use Rattle.cell.specs.Flow.{sameFlow}
 use Rattle.cell.specs.Limits.{sectionRoom, fits32}

@@ -6,7 +6,8 @@ use Prim.Native.Nat.{ℕ, _+_, _-_, _%_, _^_, _≤_, _<_}
 use mathlib.Core.Bool.{true, false, not, _||_}
 use mathlib.Core.Path.{_≡_, refl, sym, _∙_, ap, ap₂, subst}
 use mathlib.Core.Logic.{_⊎_, inl, inr}
-use mathlib.Core.List.{List, [], _∷_, _++_, map, append-nil, List·Memᴰ, List·Memᴰ·head, Memᴰ·map, List·Memᴰ·not-nil, List·Memᴰ·append-cases, List·Memᴰ·eq-of-singleton}
+use mathlib.Core.List.{List, [], _∷_, _++_, map, append-nil, List·Memᴰ, List·Memᴰ·head, Memᴰ·map}
+use mathlib.Core.List.{List·Memᴰ·not-nil, List·Memᴰ·append-cases, List·Memᴰ·eq-of-singleton}
 use native.Mathlib.Omega.{arith}
 use borrow.Author.Tests.{eqb-true, eqb-false, eq-eqb, ne-eqb}
 use lib.Dec.{eqb}
@@ -14,7 +15,8 @@ use lib.ListN.{length, getD, set, replicate, length-set, getD-replicate}
 use lib.Seq.{getD-set-same, getD-set-other}
 use Rattle.laws.specs.Lists.{keep, some?, all?, pairwise}
 use Rattle.laws.proofs.Tests.{either, clash, by-fail, and-i}
-use Rattle.laws.proofs.Lists.{Passing, some?-nil, some?-cons, some?-append, some?-i, some?-e, all?-i, keep-nil, keep-pass, keep-fail, keep-append, keep-mem, mem-keep-in}
+use Rattle.laws.proofs.Lists.{Passing, some?-nil, some?-cons, some?-append, some?-i, some?-e, all?-i}
+use Rattle.laws.proofs.Lists.{keep-nil, keep-pass, keep-fail, keep-append, keep-mem, mem-keep-in}
 use Rattle.laws.proofs.Pairwise.{pairwise-nil, pairwise-snoc, pairwise-split}
 use Rattle.sets.specs.Sets.{positions, members, firstOf}
 use Rattle.sets.proofs.Members.{Visited, visited-start, visited-next, visited-end, visited-member, members-none, members-with}

@@ -79,7 +79,9 @@ module _ (table : List ℕ) (good : IsTable table) where
       → k / sectionRoom ≡ j / sectionRoom → entryAt table k .cell .output ≡ entryAt table j .cell .output → k ≡ j
   unfolding waitingAt
   crossed-once k j h g input output =
-      go (pairwise-e apart (waitingIn table) (waitingIn-single table good) (inTable-i table (placesIn table) readable k (h .entry)) (inTable-i table (placesIn table) readable j (g .entry)))
+      go
+      (pairwise-e apart (waitingIn table) (waitingIn-single table good) (inTable-i table (placesIn table) readable k (h .entry))
+      (inTable-i table (placesIn table) readable j (g .entry)))
     where
       readable : Readable table
       readable = table-readable table good

@@ -20,7 +20,8 @@ enum-told c = search needs
 
 returns : tie.Need-returns
 returns c =
-    slots-accepted _ _ (read (c .before .before .before .before .before .args .text .now)) _ (c .before .before .before .verify .ensures) (c .before .slots .given .1)
+    slots-accepted _ _ (read (c .before .before .before .before .before .args .text .now)) _ (c .before .before .before .verify .ensures)
+    (c .before .slots .given .1)
 
 returns-2 : tie.Need-returns-2
 returns-2 c =

@@ -18,7 +18,8 @@ read-u64-requires-4 c κs = search needs
 
 returns : tie.Need-returns
 returns c =
-    made-read (c .before .before .before .before .before .args .bytes .now) _ _ _ _ (c .before .before .before .read-u64 .ensures) (c .before .before .read-u642 .ensures)
+    made-read (c .before .before .before .before .before .args .bytes .now) _ _ _ _ (c .before .before .before .read-u64 .ensures)
+    (c .before .before .read-u642 .ensures)
     (c .before .read-u643 .ensures) (c .read-u644 .ensures)
 
 pub read-spec : {M : Type 1} → statement M
