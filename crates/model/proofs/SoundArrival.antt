@@ -28,7 +28,7 @@ use Rattle.cell.specs.declared.Arrival.{Arrival}
 use Rattle.cell.specs.declared.Cell.{Cell}
 use Rattle.cell.specs.Cell.{accepted, arrivalFits}
 use Rattle.cell.specs.Flow.{sameFlow}
-use Rattle.cell.specs.Limits.{sectionRoom, fits32}
+use Rattle.cell.specs.Limits.{cellLimit, sectionRoom, fits32}
 use Rattle.cell.proofs.Flow.{flow-sym}
 use Rattle.cell.proofs.Order.{over-in-flow}
 use Rattle.model.specs.State.{Entry, Switch, cells, isListed, isCrossed}
@@ -364,11 +364,13 @@ rank-rises waiting c d h m s = go (ltb (c .rank) (d .rank)) refl
         (and-i (sameFlow d c) (ltb (c .rank) (d .rank)) s e)) h)
     go false e = ltb-false (c .rank) (d .rank) e
 
--- 8: where the input is not full, it has fewer than 64 cells
+-- 8: where the input is not full, its section has room: the limit of its cells is no more than that
 pub room-below : (waiting : List Cell) (c : Cell) → full waiting c ≡ false
     → count (λ d. eqb (d .input) (c .input)) waiting < sectionRoom
 unfolding full
-room-below waiting c h = leb-false sectionRoom (count (λ d. eqb (d .input) (c .input)) waiting) h
+room-below waiting c h =
+    let few : count (λ d. eqb (d .input) (c .input)) waiting < cellLimit = leb-false cellLimit _ h in
+    omega (arith, few)
 
 module _ (ports clock : ℕ) (sections : List (List Entry)) (h : soundSections ports clock 0 sections ≡ true) where
   -- each waiting cell was accepted before this slot
