@@ -14,10 +14,11 @@ use mathlib.Core.Path.{_≡_, refl, sym, _∙_, ap, ap₂}
 use mathlib.Core.Logic.{_⊎_, inl, inr}
 use mathlib.Core.List.{List, [], _∷_, _++_, map, List·Memᴰ, List·Memᴰ·head, List·Memᴰ·tail, List·Memᴰ·not-nil}
 use mathlib.Core.List.{List·Memᴰ·cases-cons, flatten, append-assoc}
+use borrow.Author.Tests.{not-true, not-false}
 use lib.ListN.{length, getD}
 use Rattle.laws.specs.Lists.{keep, some?, none?, all?}
 use Rattle.laws.proofs.Tests.{clash, by-fail, same, and-i, and-l, and-r, or-l, or-r, or-cases}
-use Rattle.laws.proofs.Tests.{not-i, not-e, not-false-e, not-or}
+use Rattle.laws.proofs.Tests.{not-i, not-or}
 
 module _ {A : Type 0} where
   -- a member that passes
@@ -78,7 +79,7 @@ module _ {A : Type 0} where
 
   pub none?-e : (p : A → Bool) {x : A} {l : List A} → none? p l ≡ true → List·Memᴰ x l → p x ≡ false
   unfolding none?
-  none?-e p h (List·Memᴰ·head {x = y} {xs = l} e) = ap p e ∙ not-e (p y) (and-l (not (p y)) (none? p l) h)
+  none?-e p h (List·Memᴰ·head {x = y} {xs = l} e) = ap p e ∙ not-true (p y) (and-l (not (p y)) (none? p l) h)
   none?-e p h (List·Memᴰ·tail {x = y} {xs = l} m) = none?-e p (and-r (not (p y)) (none? p l) h) m
 
   pub none?-i : (p : A → Bool) (l : List A) → ((x : A) → List·Memᴰ x l → p x ≡ false) → none? p l ≡ true
@@ -111,7 +112,7 @@ module _ {A : Type 0} where
   none?-by-some? p l f = none?-not-some? p l ∙ ap not f
 
   pub some?-by-none? : (p : A → Bool) (l : List A) → none? p l ≡ false → some? p l ≡ true
-  some?-by-none? p l f = not-false-e (some? p l) (sym (none?-not-some? p l) ∙ f)
+  some?-by-none? p l f = not-false (some? p l) (sym (none?-not-some? p l) ∙ f)
 
   -- some member passes, or none does
   pub find : (p : A → Bool) (l : List A) → Passing p l ⊎ (none? p l ≡ true)
@@ -168,7 +169,7 @@ module _ {A : Type 0} where
   all?-none? p l =
       same (all? p l) (none? (λ x. not (p x)) l)
       (λ h. none?-i (λ x. not (p x)) l (λ x m. ap not (all?-e p h m)))
-      (λ h. all?-i p l (λ x m. not-false-e (p x) (none?-e (λ x. not (p x)) h m)))
+      (λ h. all?-i p l (λ x m. not-false (p x) (none?-e (λ x. not (p x)) h m)))
 
   pub all?-append : (p : A → Bool) (l m : List A) → all? p (l ++ m) ≡ all? p l && all? p m
   unfolding all?
@@ -282,7 +283,7 @@ module _ {A : Type 0} where
   unfolding keep none?
   keep-none p [] h = refl
   keep-none p (x ∷ l) h =
-      keep-fail p x l (not-e (p x) (and-l (not (p x)) (none? p l) h)) ∙ keep-none p l (and-r (not (p x)) (none? p l) h)
+      keep-fail p x l (not-true (p x) (and-l (not (p x)) (none? p l) h)) ∙ keep-none p l (and-r (not (p x)) (none? p l) h)
 
   ------------------------------------------------------------------------
   -- the tests of a kept list

@@ -12,8 +12,9 @@ use mathlib.Core.Path.{_≡_, refl, sym, _∙_, ap, ap₂}
 use mathlib.Core.Logic.{_⊎_, inl, inr}
 use mathlib.Core.List.{List, [], _∷_, _++_, map, List·Memᴰ, List·Memᴰ·head, List·Memᴰ·tail, List·Memᴰ·cases-cons}
 use mathlib.Core.List.{List·Memᴰ·not-nil, Memᴰ·append-left, Memᴰ·append-right, List·Memᴰ·append-cases}
+use borrow.Author.Tests.{not-true}
 use Rattle.laws.specs.Lists.{keep, none?, all?, count, pairwise}
-use Rattle.laws.proofs.Tests.{and-i, and-l, and-r, and-false-r, not-e}
+use Rattle.laws.proofs.Tests.{and-i, and-l, and-r, and-false-r}
 use Rattle.laws.proofs.Lists.{all?-e, all?-i, all?-map, all?-append, none?-i, keep-pass, keep-fail, keep-nil}
 use Rattle.laws.proofs.Lists.{mem-keep-in}
 use Rattle.laws.proofs.Count.{count-nil, count-pass, count-fail, count-zero}
@@ -159,7 +160,7 @@ module _ {A : Type 0} where
       two x y = not (p x && p y)
 
       others : p x ≡ true → none? p l ≡ true
-      others e = none?-i p l (λ y m. not-e (p y) (ap (λ b. not (b && p y)) (sym e) ∙ pairwise-head two h m))
+      others e = none?-i p l (λ y m. not-true (p y) (ap (λ b. not (b && p y)) (sym e) ∙ pairwise-head two h m))
 
       go : (b : Bool) → p x ≡ b → count p l ≤ 1 → count p (x ∷ l) ≤ 1
       go true e rec = omega (arith, count-pass p x l e, count-zero p l (others e))

@@ -100,16 +100,8 @@ or-false-r false b h = h
 pub not-i : (b : Bool) → b ≡ false → not b ≡ true
 not-i b h = ap not h
 
-pub not-e : (b : Bool) → not b ≡ true → b ≡ false
-not-e true h = sym h
-not-e false h = refl
-
 pub not-false-i : (b : Bool) → b ≡ true → not b ≡ false
 not-false-i b h = ap not h
-
-pub not-false-e : (b : Bool) → not b ≡ false → b ≡ true
-not-false-e true h = refl
-not-false-e false h = sym h
 
 pub not-or : (a b : Bool) → not (a || b) ≡ not a && not b
 not-or true b = refl

@@ -1,16 +1,12 @@
 -- The tally as bytes: it is read back from its 32 bytes.
-use Prim.Native.Nat.{ℕ, _+_, _≤_}
-use mathlib.Core.Bool.{true}
+use Prim.Native.Nat.{ℕ, _≤_}
 use mathlib.Core.Path.{_≡_}
-use mathlib.Core.List.{List}
 use native.Mathlib.Omega.{arith}
-use lib.ListN.{length}
 use Rattle.cell.specs.declared.Tally.{Tally}
 use Rattle.model.specs.Tally.{countTop}
 use Rattle.layout.specs.Number.{bytesOf, numberAt, numberOf}
 use Rattle.layout.specs.TallyBytes.{tallyBytes, tallyOf}
-use Rattle.layout.proofs.Number.{bytes?, numberOf-bytesOf}
-use Rattle.layout.proofs.Number.{numberAt-below}
+use Rattle.layout.proofs.Number.{numberOf-bytesOf}
 
 -- each count is at most the top
 pub record TallyFits (t : Tally) : Type 0 where
@@ -31,6 +27,3 @@ tallyOf-tallyBytes t h =
       arrived = numberOf-count (t .arrived) (h .arrived) k;
       departed = numberOf-count (t .departed) (h .departed) k;
     }
-
-count-fits : (bs : List ℕ) (at : ℕ) → bytes? bs ≡ true → at + 8 ≤ length bs → numberAt 8 at bs ≤ countTop
-count-fits bs at h room = omega (arith, numberAt-below 8 at bs h room)

@@ -50,11 +50,6 @@ module _ {A : Type 0} (ahead over : A → A → Bool) where
   settled-keep : (l : List A) → (p : A → Bool) × (settled ahead over l ≡ keep p l)
   settled-keep l = refusing-keep ahead over (settled-refusing ahead over l)
 
-  settled-length : (l : List A) → length (settled ahead over l) ≤ length l
-  settled-length l =
-      let w : (p : A → Bool) × (settled ahead over l ≡ keep p l) = settled-keep l in
-      rw (w .1, length-keep (w .0) l) (count-le-length (w .0) l)
-
   module _ (by-input : Strict ahead) (by-output : Strict over) where
     ------------------------------------------------------------------------
     -- stable, and best for the inputs

@@ -11,9 +11,10 @@ use mathlib.Core.Bool.{Bool, true, false, not}
 use mathlib.Core.Path.{_≡_, refl, sym, _∙_, ap}
 use mathlib.Core.Logic.{_⊎_, inl, inr}
 use mathlib.Core.List.{List, List·Memᴰ}
+use borrow.Author.Tests.{not-true}
 use lib.ListN.{length}
 use Rattle.laws.specs.Lists.{keep, some?, none?}
-use Rattle.laws.proofs.Tests.{or-false-l, or-false-r, or-cases, not-e}
+use Rattle.laws.proofs.Tests.{or-false-l, or-false-r, or-cases}
 use Rattle.laws.proofs.Lists.{Passing, find, some?-clash, some?-by-none?, none?-by-some?, none?-within, all?-none?}
 use Rattle.laws.proofs.Lists.{keep-mem, mem-keep-passes, keep-all}
 use Rattle.laws.proofs.Count.{length-keep-lt}
@@ -63,7 +64,7 @@ module _ {A : Type 0} (ahead over : A → A → Bool) where
       where
         go : Passing (λ c. not (stays c)) l ⊎ (none? (λ c. not (stays c)) l ≡ true)
             → (round ahead over l ≡ l) ⊎ (length (round ahead over l) < length l)
-        go (inl w) = inr (rw keeps (length-keep-lt stays (w .1) (not-e (stays (w .0)) (w .2))))
+        go (inl w) = inr (rw keeps (length-keep-lt stays (w .1) (not-true (stays (w .0)) (w .2))))
         go (inr n) = inl (keeps ∙ keep-all stays l (all?-none? stays l ∙ n))
 
     -- what a round does not change is at rest

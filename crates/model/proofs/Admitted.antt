@@ -9,10 +9,10 @@ use mathlib.Core.Logic.{_⊎_, inl, inr}
 use mathlib.Core.List.{List, [], _∷_, List·Memᴰ, List·Memᴰ·not-nil}
 use mathlib.Core.List.{List·Memᴰ·cases-cons}
 use mathlib.Core.Option.{Option, none, some, Option·some-ne-none}
-use borrow.Author.Tests.{leb-false, lt-ltb}
+use borrow.Author.Tests.{leb-false, lt-ltb, not-false}
 use lib.Dec.{ltb, leb, eqb}
 use Rattle.laws.specs.Lists.{pairwise}
-use Rattle.laws.proofs.Tests.{or-false-l, or-false-r, not-false-e}
+use Rattle.laws.proofs.Tests.{or-false-l, or-false-r}
 use Rattle.laws.proofs.Pairwise.{pairwise-nil, pairwise-cons}
 use Rattle.cell.specs.declared.Cell.{Cell}
 use Rattle.cell.specs.declared.Refusal.{Refusal}
@@ -125,7 +125,7 @@ port-output ports c h =
 module _ (ports : ℕ) (waiting : List Cell) where
   flow-known : (c : Cell) → noSuchFlow c ≡ false → flowInRange (c .flow) ≡ true
   unfolding noSuchFlow
-  flow-known c h = not-false-e (flowInRange (c .flow)) h
+  flow-known c h = not-false (flowInRange (c .flow)) h
 
   -- the first has no fault, nor have the others
   faults-none : (place : ℕ) (before : Option Cell) (c : Cell) (cs : List Cell)

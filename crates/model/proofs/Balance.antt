@@ -10,7 +10,7 @@ use mathlib.Core.Option.{Option, none, some, Option·map}
 use mathlib.Core.Path.{_≡_, refl, sym, ap, _∙_, subst}
 use lib.Dec.{eqb}
 use lib.ListN.{length, length-map, length-append}
-use borrow.Author.Tests.{eqb-true, eqb-false, eq-eqb, ne-eqb}
+use borrow.Author.Tests.{eqb-true, eqb-false, eq-eqb, ne-eqb, not-true}
 use Rattle.laws.specs.Lists.{keep, some?, none?, all?, count, pairwise, first?, numbersFrom, upTo}
 use Rattle.laws.proofs.Count.{count-nil, count-pass, count-fail, count-ext, count-or, count-map, count-zero, count-all, count-not}
 use Rattle.laws.proofs.Count.{length-keep}
@@ -18,7 +18,7 @@ use Rattle.laws.proofs.Least.{least-keeps}
 use Rattle.laws.proofs.Lists.{keep-nil, keep-pass, keep-fail, keep-keep, keep-mem, mem-keep-passes}
 use Rattle.laws.proofs.Lists.{some?-nil, some?-cons, some?-e, none?-i, all?-i, all?-cons}
 use Rattle.laws.proofs.Pairwise.{pairwise-head, pairwise-tail, pairwise-keep, pairwise-mono}
-use Rattle.laws.proofs.Tests.{clash, same, and-l, and-r, not-i, not-e, by-fail}
+use Rattle.laws.proofs.Tests.{clash, same, and-l, and-r, not-i, by-fail}
 use Rattle.cell.specs.declared.Arrival.{Arrival}
 use Rattle.cell.specs.Cell.{accepted, arrivalFits}
 use Rattle.cell.specs.Limits.{portsInRange, fits32, clockEnd}
@@ -116,7 +116,7 @@ outputs-count n (e ∷ out) h below =
         clash
         (eq-eqb (e .cell .output) (w .0 .cell .output)
         (eqb-true (e .cell .output) o (and-l (mine o) (rest o) t) ∙ sym (eqb-true (w .0 .cell .output) o (w .2))))
-        (not-e (eqb (e .cell .output) (w .0 .cell .output)) (pairwise-head apartOutputs h (w .1))))
+        (not-true (eqb (e .cell .output) (w .0 .cell .output)) (pairwise-head apartOutputs h (w .1))))
 
 sent-count : (n : ℕ) (out : List Waiting) → pairwise apartOutputs out ≡ true
     → ((e : Waiting) → List·Memᴰ e out → e .cell .output < n) → count isSent (departuresOf n out) ≡ length out
@@ -153,7 +153,7 @@ module _ (w : List Waiting) (o : Orderly w) where
           go (beats-total o (leaving-in w m) (leaving-in w k) (output-e e f t))))
         where
           go : (e ≡ f) ⊎ ((beats e f ≡ true) ⊎ (beats f e ≡ true)) → ⊥
-          go (inl p) = eqb-false (e .at) (f .at) (not-e (eqb (e .at) (f .at)) n) (ap (λ x. x .at) p)
+          go (inl p) = eqb-false (e .at) (f .at) (not-true (eqb (e .at) (f .at)) n) (ap (λ x. x .at) p)
           go (inr (inl b)) = clash b (leaving-first w k (leaving-in w m) (leaving-buffered w m))
           go (inr (inr b)) = clash b (leaving-first w m (leaving-in w k) (leaving-buffered w k))
 

@@ -7,12 +7,12 @@ use mathlib.Core.List.{List, List·Memᴰ, Memᴰ·map, map, map-map, flatten}
 use mathlib.Core.Path.{_≡_, refl, sym, ap, _∙_}
 use mathlib.Core.Option.{none}
 use lib.Dec.{eqb}
-use borrow.Author.Tests.{eqb-true}
+use borrow.Author.Tests.{eqb-true, not-true}
 use Rattle.laws.specs.Lists.{keep, none?, all?, count}
 use Rattle.laws.proofs.Count.{count-le, count-keep, count-map, count-or}
 use Rattle.laws.proofs.Lists.{keep-mem, none?-e}
 use Rattle.laws.proofs.Pairwise.{pairwise-le-one, pairwise-mono}
-use Rattle.laws.proofs.Tests.{and-i, and-l, and-r, clash, not-i, not-e, by-fail}
+use Rattle.laws.proofs.Tests.{and-i, and-l, and-r, clash, not-i, by-fail}
 use Rattle.cell.specs.declared.Arrival.{Arrival}
 use Rattle.cell.specs.declared.Cell.{Cell}
 use Rattle.cell.specs.Cell.{sameCell, accepted, arrivalFits}
@@ -77,7 +77,7 @@ crosspoint-one sections one input output =
         (and-l (isCrossed (v .place)) (here (v .cell)) a)
         (and-i (isCrossed (w .place)) (sameCrosspoint v w) (and-l (isCrossed (w .place)) (here (w .cell)) b)
         (crosspoint-i v w (i .0 ∙ sym (j .0)) (i .1 ∙ sym (j .1)))))
-        (not-e (isCrossed (v .place) && (isCrossed (w .place) && sameCrosspoint v w)) h)
+        (not-true (isCrossed (v .place) && (isCrossed (w .place) && sameCrosspoint v w)) h)
 
     single : (v w : Waiting) → List·Memᴰ v (waiting sections) → List·Memᴰ w (waiting sections) → apart v w ≡ true
         → not ((isCrossed (v .place) && here (v .cell)) && (isCrossed (w .place) && here (w .cell))) ≡ true

@@ -9,8 +9,9 @@ use mathlib.Core.Bool.{Bool, true, false, cond, _&&_, false≢true}
 use mathlib.Core.Path.{_≡_, refl, sym, _∙_, ap}
 use mathlib.Core.Logic.{_⊎_, inl, inr}
 use mathlib.Core.List.{List, [], _∷_, List·Memᴰ, List·Memᴰ·head, List·Memᴰ·tail, List·Memᴰ·cases-cons}
+use borrow.Author.Tests.{not-false}
 use Rattle.laws.specs.Lists.{count, some?, none?}
-use Rattle.laws.proofs.Tests.{and-l, and-r, or-cases, not-false-e}
+use Rattle.laws.proofs.Tests.{and-l, and-r, or-cases}
 use Rattle.laws.proofs.Lists.{some?-nil, some?-cons, none?-not-some?}
 use Rattle.laws.proofs.Count.{count-cons}
 use Rattle.cell.specs.declared.Cell.{Cell}
@@ -78,7 +79,7 @@ later-in-list c x es h s = go (or-cases (inListOf c x) (some? (inListOf c) es) (
   where
     go : (inListOf c x ≡ true) ⊎ (some? (inListOf c) es ≡ true) → some? (inListOf c) es ≡ true
     go (inl f) =
-        not-false-e (some? (inListOf c) es)
+        not-false (some? (inListOf c) es)
         (sym (none?-not-some? (inListOf c) es) ∙ ap (λ b. b && none? (inListOf c) es) (sym f) ∙ h)
     go (inr k) = k
 

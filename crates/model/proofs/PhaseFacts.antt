@@ -8,9 +8,10 @@ use mathlib.Core.Bool.{Bool, true, false, not, _&&_}
 use mathlib.Core.Path.{_≡_, sym, _∙_, ap}
 use mathlib.Core.Logic.{_⊎_, inl, inr}
 use mathlib.Core.List.{List, List·Memᴰ, _++_, List·Memᴰ·append-cases, Memᴰ·append-left, Memᴰ·append-right}
+use borrow.Author.Tests.{not-true}
 use Rattle.laws.specs.Lists.{keep, none?, all?, least}
 use Rattle.laws.specs.Order.{Strict}
-use Rattle.laws.proofs.Tests.{clash, and-i, and-l, and-r, not-e, not-i, by-fail}
+use Rattle.laws.proofs.Tests.{clash, and-i, and-l, and-r, not-i, by-fail}
 use Rattle.laws.proofs.Lists.{Passing, some?-i, find, none?-e, all?-e, all?-none?, none?-mono, keep-mem, mem-keep-in}
 use Rattle.laws.proofs.Lists.{mem-keep-passes}
 use Rattle.laws.proofs.Least.{Below, least-below, mem-least-in, mem-least-first}
@@ -127,7 +128,7 @@ module _ (all : List Waiting) where
   pub scheduled-normal : {s : Waiting} → List·Memᴰ s (phase all .scheduled) → blocked (crosspoints all) s ≡ false
   unfolding ready
   scheduled-normal {s} m =
-      not-e (blocked (crosspoints all) s)
+      not-true (blocked (crosspoints all) s)
       (and-l (not (blocked (crosspoints all) s)) _ (scheduled-ready m))
 
   pub scheduled-empty : {s x : Waiting} → List·Memᴰ s (phase all .scheduled) → List·Memᴰ x (crosspoints all)
@@ -217,10 +218,10 @@ module _ (all : List Waiting) where
           → List·Memᴰ h (phase all .urgent) ⊎ NotUrgent h
       go (inl w) t =
           inr (behind (w .0) (mem-keep-in (sameInput h) (phase all .scheduled) (w .1))
-          (mem-keep-passes (sameInput h) (phase all .scheduled) (w .1)) (not-e (ahead h (w .0)) (w .2)))
+          (mem-keep-passes (sameInput h) (phase all .scheduled) (w .1)) (not-true (ahead h (w .0)) (w .2)))
       go (inr f) (inl w) =
           inr (beaten (w .0) (mem-keep-in (sameOutput h) (crosspoints all) (w .1))
-          (mem-keep-passes (sameOutput h) (crosspoints all) (w .1)) (not-e (beats h (w .0)) (w .2)))
+          (mem-keep-passes (sameOutput h) (crosspoints all) (w .1)) (not-true (beats h (w .0)) (w .2)))
       go (inr f) (inr g) =
           inl (keep-mem (isUrgent (crosspoints all) (phase all .scheduled)) m
           (and-i (blocked (crosspoints all) h) (all? (ahead h) near && all? (beats h) facing) b

@@ -9,10 +9,10 @@ use mathlib.Core.Bool.{Bool, true, not, _&&_}
 use mathlib.Core.Path.{_≡_, sym, _∙_, ap}
 use mathlib.Core.Logic.{_⊎_, inl, inr}
 use mathlib.Core.List.{List, map, List·Memᴰ}
-use borrow.Author.Tests.{eqb-true, eqb-false}
+use borrow.Author.Tests.{eqb-true, eqb-false, not-true}
 use lib.Dec.{eqb}
 use Rattle.laws.specs.Lists.{count}
-use Rattle.laws.proofs.Tests.{clash, and-i, and-l, and-r, not-e, not-i, by-fail}
+use Rattle.laws.proofs.Tests.{clash, and-i, and-l, and-r, not-i, by-fail}
 use Rattle.laws.proofs.Pairwise.{pairwise-e, pairwise-mono, pairwise-map, pairwise-le-one}
 use Rattle.model.specs.State.{Place, isListed, isCrossed, isBuffered}
 use Rattle.model.specs.Phase.{Waiting, sameInput, sameOutput, sameCrosspoint, ahead, beats, phase, placeSent}
@@ -50,7 +50,7 @@ unfolding apart
 apart-e e f a h j c =
     clash (and-i (isCrossed (e .place)) (isCrossed (f .place) && sameCrosspoint e f) h
     (and-i (isCrossed (f .place)) (sameCrosspoint e f) j c))
-    (not-e (isCrossed (e .place) && (isCrossed (f .place) && sameCrosspoint e f)) a)
+    (not-true (isCrossed (e .place) && (isCrossed (f .place) && sameCrosspoint e f)) a)
 
 crosspoint-sym : (e f : Waiting) → sameCrosspoint e f ≡ true → sameCrosspoint f e ≡ true
 crosspoint-sym e f c = crosspoint-i f e (sym (crosspoint-input e f c)) (sym (crosspoint-output e f c))
@@ -59,7 +59,7 @@ module _ (all : List Waiting) (o : Orderly all) where
   -- members with different numbers are not equal
   numbers-differ : (e f : Waiting) → otherNumber e f ≡ true → e ≡ f → ⊥
   unfolding otherNumber
-  numbers-differ e f h p = eqb-false _ _ (not-e (eqb (e .at) (f .at)) h) (ap (λ x. x .at) p)
+  numbers-differ e f h p = eqb-false _ _ (not-true (eqb (e .at) (f .at)) h) (ap (λ x. x .at) p)
 
   -- where any two members that pass are one, at most one passes
   one-passes : (q : Waiting → Bool)
@@ -110,7 +110,7 @@ module _ (all : List Waiting) (o : Orderly all) where
           → List·Memᴰ e (phase all .straight) ⊎ List·Memᴰ e (phase all .sent)
       leaves e m t =
           let r : (was e && not (is e)) ≡ true = and-r (eqb (e .cell .input) i) (was e && not (is e)) t in
-          taken-by all o m (and-l (was e) (not (is e)) r) (not-e (is e) (and-r (was e) (not (is e)) r))
+          taken-by all o m (and-l (was e) (not (is e)) r) (not-true (is e) (and-r (was e) (not (is e)) r))
 
       input : (e : Waiting) → test e ≡ true → e .cell .input ≡ i
       input e t = eqb-true _ _ (and-l (eqb (e .cell .input) i) (was e && not (is e)) t)
@@ -159,7 +159,7 @@ module _ (all : List Waiting) (o : Orderly all) where
           → List·Memᴰ e (phase all .straight) ⊎ List·Memᴰ e (phase all .pulled)
       enters e m t =
           let r : (not (was e) && is e) ≡ true = and-r (eqb (e .cell .output) j) (not (was e) && is e) t in
-          brought-by all o m (not-e (was e) (and-l (not (was e)) (is e) r)) (and-r (not (was e)) (is e) r)
+          brought-by all o m (not-true (was e) (and-l (not (was e)) (is e) r)) (and-r (not (was e)) (is e) r)
 
       output : (e : Waiting) → test e ≡ true → e .cell .output ≡ j
       output e t = eqb-true _ _ (and-l (eqb (e .cell .output) j) (not (was e) && is e) t)

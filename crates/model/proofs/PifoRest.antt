@@ -12,10 +12,10 @@ use mathlib.Core.List.{List, [], _∷_, map, flatten, List·Memᴰ, List·Memᴰ
 use mathlib.Core.Option.{Option, none, some}
 use lib.Dec.{eqb, ltb}
 use lib.ListN.{getD}
-use borrow.Author.Tests.{eqb-true, eqb-false, eq-eqb, ne-eqb, ltb-true}
+use borrow.Author.Tests.{eqb-true, eqb-false, eq-eqb, ne-eqb, ltb-true, not-true}
 use Rattle.laws.specs.Lists.{keep, some?, count, least, first?}
 use Rattle.laws.specs.Order.{Strict}
-use Rattle.laws.proofs.Tests.{clash, either, same, by-fail, and-i, and-l, and-r, and-false-r, not-i, not-e}
+use Rattle.laws.proofs.Tests.{clash, either, same, by-fail, and-i, and-l, and-r, and-false-r, not-i}
 use Rattle.laws.proofs.Lists.{some?-i, some?-e, none?-i, keep-ext}
 use Rattle.laws.proofs.Count.{count-nil, count-le, count-lt, count-pos, count-zero, count-keep-le}
 use Rattle.laws.proofs.Least.{least-below, mem-least-in, mem-least-first}
@@ -135,7 +135,7 @@ module _ (q : List Cell) where
     rest-others =
         keep-ext (λ c. some? (λ d. over d c) q) (λ c. not (sameCell b c)) q
         (λ c m. same (some? (λ d. over d c) q) (not (sameCell b c)) (stays c)
-        (λ n. some?-i (λ d. over d c) (best-in b h) (best-over c m (not-e (sameCell b c) n))))
+        (λ n. some?-i (λ d. over d c) (best-in b h) (best-over c m (not-true (sameCell b c) n))))
       where
         stays : (c : Cell) → some? (λ d. over d c) q ≡ true → not (sameCell b c) ≡ true
         stays c o =

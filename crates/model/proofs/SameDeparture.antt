@@ -6,13 +6,13 @@
 use Prim.Native.Nat.{ℕ}
 use mathlib.Core.Bool.{Bool, Bool·not-not, true, false, not, _&&_}
 use mathlib.Core.Path.{_≡_, refl, sym, _∙_, ap, fun-ext}
-use mathlib.Core.Logic.{_⊎_, inl, inr, _≢_}
+use mathlib.Core.Logic.{_⊎_, inl, inr}
 use mathlib.Core.List.{List, map, List·Memᴰ, Memᴰ·of-map, Memᴰ·cast}
 use mathlib.Core.Option.{Option·map}
-use borrow.Author.Tests.{eqb-true, eqb-false, eq-eqb}
+use borrow.Author.Tests.{eqb-true, eq-eqb}
 use lib.Dec.{eqb}
 use Rattle.laws.specs.Lists.{keep, some?, none?, least, pairwise, first?, upTo}
-use Rattle.laws.proofs.Tests.{clash, by-pass, by-fail, same, and-i, and-r, not-e}
+use Rattle.laws.proofs.Tests.{clash, by-pass, by-fail, same, and-i, and-r}
 use Rattle.laws.proofs.Lists.{Passing, some?-i, some?-e, some?-map, none?-not-some?, none?-within, none?-i, none?-clash}
 use Rattle.laws.proofs.Lists.{some?-ext, keep-mem, mem-keep-in, mem-keep-passes, keep-ext, keep-keep, keep-map}
 use Rattle.laws.proofs.Least.{least-keeps, least-mem, mem-least-in, mem-least-none, mem-least-first, least-map, least-ext}
@@ -24,7 +24,7 @@ use Rattle.model.specs.Phase.{Waiting, sameOutput, beats, among}
 use Rattle.model.specs.Crossbar.{leaving, departuresOf}
 use Rattle.model.specs.CodeSlackness.{otherNumber, otherArrival}
 use Rattle.model.proofs.Bags.{SameBag, bag-trans, bag-of-path, bag-keep, bag-least, bag-passed, bag-first?, first?-map}
-use Rattle.model.proofs.WaitingOrder.{beats-trans, differ}
+use Rattle.model.proofs.WaitingOrder.{beats-trans, differ, same-number}
 use Rattle.model.proofs.CellOrder.{goesTo, beatsCell, beats-cell-total, same-cell-refl, same-cell-path}
 
 abbrev pub cellsOf : List Waiting → List Cell
@@ -90,20 +90,7 @@ module _ (w : List Waiting) (best : Best w) where
 ------------------------------------------------------------------------
 -- what stays
 
-other-number : (e f : Waiting) → otherNumber e f ≡ true → e .at ≢ f .at
-unfolding otherNumber
-other-number e f h = eqb-false (e .at) (f .at) (not-e (eqb (e .at) (f .at)) h)
-
 module _ (w : List Waiting) (numbers : pairwise otherNumber w ≡ true) where
-  -- of the waiting cells a number belongs to one
-  pub same-number : {e f : Waiting} → List·Memᴰ e w → List·Memᴰ f w → e .at ≡ f .at → e ≡ f
-  same-number {e} {f} m k h = go (pairwise-e otherNumber w numbers m k)
-    where
-      go : (e ≡ f) ⊎ ((otherNumber e f ≡ true) ⊎ (otherNumber f e ≡ true)) → e ≡ f
-      go (inl p) = p
-      go (inr (inl o)) = absurd (other-number e f o h)
-      go (inr (inr o)) = absurd (other-number f e o (sym h))
-
   -- a waiting cell is among those that nothing beats when nothing beats it
   among-least : (e : Waiting) → List·Memᴰ e w → among (least beats w) e ≡ none? (λ f. beats f e) w
   unfolding among
@@ -112,7 +99,7 @@ module _ (w : List Waiting) (numbers : pairwise otherNumber w ≡ true) where
       out : among (least beats w) e ≡ true → none? (λ f. beats f e) w ≡ true
       out s =
           let v : Passing (λ f. eqb (f .at) (e .at)) (least beats w) = some?-e (λ f. eqb (f .at) (e .at)) (least beats w) s in
-          let p : e ≡ v .0 = same-number m (mem-least-in beats w (v .1)) (sym (eqb-true (v .0 .at) (e .at) (v .2))) in
+          let p : e ≡ v .0 = same-number numbers m (mem-least-in beats w (v .1)) (sym (eqb-true (v .0 .at) (e .at) (v .2))) in
           mem-least-none beats w (Memᴰ·cast p (v .1))
 
       into : none? (λ f. beats f e) w ≡ true → among (least beats w) e ≡ true

@@ -12,7 +12,7 @@ use Rattle.model.proofs.Bags.{flatten-cons}
 use Rattle.model.proofs.Numbering.{entryOf, numberFrom-entries}
 
 -- two lists of one length at the front of equal lists are equal, and so is what follows
-append-split : {A : Type 0} (a b c d : List A) → length a ≡ length c → a ++ b ≡ c ++ d → (a ≡ c) × (b ≡ d)
+pub append-split : {A : Type 0} (a b c d : List A) → length a ≡ length c → a ++ b ≡ c ++ d → (a ≡ c) × (b ≡ d)
 append-split a b c d l e = (
   sym (take-at a b (length a) refl) ∙ ap (take (length a)) e ∙ take-at c d (length a) (sym l),
   sym (drop-at a b (length a) refl) ∙ ap (drop (length a)) e ∙ drop-at c d (length a) (sym l),

@@ -28,8 +28,8 @@ use Rattle.model.specs.CodeSlackness.{cushion, Slack, otherNumber, other
 use Rattle.model.proofs.Numbering.{entryOf, numberFrom-entries, section-waiting, count-waiting, without-at}
 use Rattle.model.proofs.Numbering.{flatten-without}
 use Rattle.model.proofs.PhasePlaces.{listed-not-buffered}
-use Rattle.model.proofs.SameDeparture.{Best, same-number}
-use Rattle.model.proofs.WaitingOrder.{beats-i, differ}
+use Rattle.model.proofs.SameDeparture.{Best}
+use Rattle.model.proofs.WaitingOrder.{beats-i, differ, same-number}
 use Rattle.model.proofs.SlackSections.{Behind, here, there, behind-nil, listedIn, listedIn-cons, listedIn-fail}
 use Rattle.model.proofs.SlackSections.{cushionAt, SlackAt, shields, shields-output, thread-grows}
 
@@ -64,7 +64,7 @@ module _ (all : List Waiting) where
     among-leaving {e} m h =
         let w : Passing (λ f. eqb (f .at) (e .at)) (leaving all) =
         some?-e (λ f. eqb (f .at) (e .at)) (leaving all) h in
-        Memᴰ·cast (same-number all numbers m (leaving-in (w .1)) (sym (eqb-true (w .0 .at) (e .at) (w .2)))) (w .1)
+        Memᴰ·cast (same-number numbers m (leaving-in (w .1)) (sym (eqb-true (w .0 .at) (e .at) (w .2)))) (w .1)
 
     -- a cell in a list stays
     listed-stays : {e : Waiting} → List·Memᴰ e all → isListed (e .place) ≡ true → not (among (leaving all) e) ≡ true

@@ -10,9 +10,9 @@ use mathlib.Core.Logic.{_≢_}
 use mathlib.Core.List.{List, [], _∷_, _++_, List·Memᴰ}
 use lib.Dec.{eqb}
 use lib.ListN.{getD}
-use borrow.Author.Tests.{ne-eqb}
+use borrow.Author.Tests.{ne-eqb, not-true}
 use Rattle.laws.specs.Lists.{keep, pairwise}
-use Rattle.laws.proofs.Tests.{not-i, not-e, and-false-l, and-false-r}
+use Rattle.laws.proofs.Tests.{not-i, and-false-l, and-false-r}
 use Rattle.laws.proofs.Lists.{keep-append, keep-pass, keep-mem}
 use Rattle.laws.proofs.Pairwise.{pairwise-mono, pairwise-map}
 use Rattle.cell.specs.Flow.{sameFlow}
@@ -38,7 +38,7 @@ unfolding otherSlot otherArrival
 otherSlot-arrival v w h =
     not-i (eqb (v .cell .input) (w .cell .input) && eqb (v .cell .slot) (w .cell .slot))
     (and-false-r (eqb (v .cell .input) (w .cell .input)) (eqb (v .cell .slot) (w .cell .slot))
-    (not-e (eqb (v .cell .slot) (w .cell .slot)) h))
+    (not-true (eqb (v .cell .slot) (w .cell .slot)) h))
 
 otherInput-arrival : (v w : Waiting) → v .cell .input ≢ w .cell .input → otherArrival v w ≡ true
 unfolding otherArrival

@@ -2,7 +2,7 @@
 -- `sameCrosspoint`, `ahead`, `beats` and `among`:
 --     input-i, input-e, ..          how to build each, and what it says
 --     ahead-strict, beats-strict    strict orders
---     at-same, among-e              in an orderly list a number has one cell
+--     same-number, among-e          in an orderly list a number has one cell
 --     ahead-total, beats-total      and of two cells of one input, or to one output, one goes first
 use Prim.Native.Nat.{_<_, _≤_}
 use native.Mathlib.Omega.{arith}
@@ -10,10 +10,11 @@ use mathlib.Core.Bool.{Bool, true, false, _&&_}
 use mathlib.Core.Path.{_≡_, refl, sym, _∙_}
 use mathlib.Core.Logic.{_⊎_, inl, inr, _≢_}
 use mathlib.Core.List.{List, List·Memᴰ, Memᴰ·cast}
-use borrow.Author.Tests.{ltb-true, eqb-true, eqb-false, lt-ltb, le-ltb, eq-eqb}
+use borrow.Author.Tests.{ltb-true, eqb-true, eqb-false, lt-ltb, le-ltb, eq-eqb, not-true}
 use lib.Dec.{ltb, eqb}
+use Rattle.laws.specs.Lists.{pairwise}
 use Rattle.laws.specs.Order.{Strict}
-use Rattle.laws.proofs.Tests.{and-i, and-l, and-r, and-false-r, and-false-cases, not-e}
+use Rattle.laws.proofs.Tests.{and-i, and-l, and-r, and-false-r, and-false-cases}
 use Rattle.laws.proofs.Lists.{Passing, some?-i, some?-e}
 use Rattle.laws.proofs.Pairwise.{pairwise-e}
 use Rattle.cell.specs.Order.{over}
@@ -121,7 +122,7 @@ among-i {e} m = some?-i (λ f. eqb (f .at) (e .at)) m (eq-eqb (e .at) (e .at) re
 pub differ : (e f : Waiting) → otherArrival e f ≡ true
     → (e .cell .input ≢ f .cell .input) ⊎ (e .cell .slot ≢ f .cell .slot)
 unfolding otherArrival
-differ e f h = go (and-false-cases i s (not-e (i && s) h))
+differ e f h = go (and-false-cases i s (not-true (i && s) h))
   where
     i : Bool
     i = eqb (e .cell .input) (f .cell .input)
@@ -133,24 +134,25 @@ differ e f h = go (and-false-cases i s (not-e (i && s) h))
     go (inl a) = inl (eqb-false _ _ a)
     go (inr a) = inr (eqb-false _ _ a)
 
-module _ {all : List Waiting} (o : Orderly all) where
-  -- members with one number are one
-  pub at-same : {e f : Waiting} → List·Memᴰ e all → List·Memᴰ f all → e .at ≡ f .at → e ≡ f
-  unfolding otherNumber
-  at-same {e} {f} m k h = go (pairwise-e otherNumber all (o .numbers) m k)
-    where
-      go : (e ≡ f) ⊎ ((otherNumber e f ≡ true) ⊎ (otherNumber f e ≡ true)) → e ≡ f
-      go (inl p) = p
-      go (inr (inl n)) = absurd (eqb-false _ _ (not-e (eqb (e .at) (f .at)) n) h)
-      go (inr (inr n)) = absurd (eqb-false _ _ (not-e (eqb (f .at) (e .at)) n) (sym h))
+-- of cells with different numbers a number belongs to one
+pub same-number : {all : List Waiting} → pairwise otherNumber all ≡ true → {e f : Waiting} → List·Memᴰ e all
+    → List·Memᴰ f all → e .at ≡ f .at → e ≡ f
+unfolding otherNumber
+same-number {all} numbers {e} {f} m k h = go (pairwise-e otherNumber all numbers m k)
+  where
+    go : (e ≡ f) ⊎ ((otherNumber e f ≡ true) ⊎ (otherNumber f e ≡ true)) → e ≡ f
+    go (inl p) = p
+    go (inr (inl n)) = absurd (eqb-false _ _ (not-true (eqb (e .at) (f .at)) n) h)
+    go (inr (inr n)) = absurd (eqb-false _ _ (not-true (eqb (f .at) (e .at)) n) (sym h))
 
+module _ {all : List Waiting} (o : Orderly all) where
   -- what is among members is a member
   pub among-e : (l : List Waiting) {e : Waiting} → ((f : Waiting) → List·Memᴰ f l → List·Memᴰ f all)
       → List·Memᴰ e all → among l e ≡ true → List·Memᴰ e l
   unfolding among
   among-e l {e} within m h =
       let w : Passing (λ f. eqb (f .at) (e .at)) l = some?-e (λ f. eqb (f .at) (e .at)) l h in
-      Memᴰ·cast (at-same m (within (w .0) (w .1)) (sym (eqb-true _ _ (w .2)))) (w .1)
+      Memᴰ·cast (same-number (o .numbers) m (within (w .0) (w .1)) (sym (eqb-true _ _ (w .2)))) (w .1)
 
   -- of two cells of one input, one has the smaller number
   pub ahead-total : {e f : Waiting} → List·Memᴰ e all → List·Memᴰ f all → e .cell .input ≡ f .cell .input
@@ -159,7 +161,7 @@ module _ {all : List Waiting} (o : Orderly all) where
     where
       go : Compared (e .at) (f .at) → (e ≡ f) ⊎ ((ahead e f ≡ true) ⊎ (ahead f e ≡ true))
       go (below l) = inr (inl (ahead-i e f h l))
-      go (equal l) = inl (at-same m k l)
+      go (equal l) = inl (same-number (o .numbers) m k l)
       go (above l) = inr (inr (ahead-i f e (sym h) l))
 
   -- of two cells that go to one output, one has the higher priority

@@ -18,11 +18,11 @@ use mathlib.Core.Option.{Option, none, some}
 use native.Mathlib.Nat.{le-refl}
 use native.Mathlib.Omega.{arith}
 use borrow.Author.Count.{below-more}
-use borrow.Author.Tests.{ltb-true, leb-true, leb-false, lt-ltb, le-ltb, le-leb, lt-leb, eq-eqb, ne-eqb}
+use borrow.Author.Tests.{ltb-true, leb-true, leb-false, lt-ltb, le-ltb, le-leb, lt-leb, eq-eqb, ne-eqb, not-false}
 use lib.Dec.{ltb, leb, eqb}
 use lib.ListN.{length, getD}
 use Rattle.laws.specs.Lists.{some?, none?}
-use Rattle.laws.proofs.Tests.{clash, same, and-i, and-l, or-l, or-cases, or-false-l, or-false-r, not-false-e}
+use Rattle.laws.proofs.Tests.{clash, same, and-i, and-l, or-l, or-cases, or-false-l, or-false-r}
 use Rattle.laws.proofs.Lists.{Passing, some?-e, some?-i, some?-false, some?-map, none?-i, all?-i, getD-mem}
 use Rattle.laws.proofs.Count.{count-all, count-map}
 use Rattle.cell.specs.declared.Cell.{Cell}
@@ -65,7 +65,7 @@ port-by-output ports p c e h =
 
 pub flow-below : (c : Cell) → noSuchFlow c ≡ false → c .flow < flowLimit
 unfolding noSuchFlow
-flow-below c h = ltb-true (c .flow) flowLimit (not-false-e (ltb (c .flow) flowLimit) h)
+flow-below c h = ltb-true (c .flow) flowLimit (not-false (ltb (c .flow) flowLimit) h)
 
 ------------------------------------------------------------------------
 -- 6

@@ -8,13 +8,14 @@ use native.Mathlib.Omega.{arith}
 use borrow.Author.Tests.{leb-true, eqb-true, le-leb, lt-ltb, le-ltb, eqb-false}
 use lib.Dec.{ltb, leb, eqb}
 use lib.ListN.{length, take, drop, getD, replicate, length-append, length-drop, take-append-drop, replicate-append-replicate, length-map, drop-of-length-le}
-use lib.Seq.{take-at, drop-at, take-add, drop-drop, drop-cons, length-take-le}
+use lib.Seq.{take-add, drop-drop, drop-cons, length-take-le}
 use Rattle.laws.specs.Lists.{keep, all?, pairwise, numbersFrom, between}
 use Rattle.laws.proofs.Tests.{either, and-i, and-l, and-r}
 use Rattle.laws.proofs.Lists.{all?-i, all?-e, all?-mono}
 use Rattle.laws.proofs.Numbers.{length-numbersFrom}
 use Rattle.cell.specs.Limits.{sectionRoom, portLimit}
 use Rattle.model.specs.State.{Entry, isListed}
+use Rattle.model.proofs.Shapes.{append-split}
 use Rattle.model.specs.Sound.{soundEntry, soundSection, soundSections, sound, together, otherSlot, otherCrosspoint}
 use Rattle.layout.specs.Number.{bytesOf, sameBytes}
 use Rattle.layout.specs.Table.{headerSize, entrySize, sectionSize, tableSize, entryBytes, entriesBytes, sectionBytes, sectionsBytes, countsBytes}
@@ -27,13 +28,6 @@ use Rattle.layout.proofs.Table.{length-entryBytes, length-entriesBytes, length-
 
 ------------------------------------------------------------------------
 -- bytes one behind the other
-
-append-same : (xs ys us vs : List ℕ) (n : ℕ) → length xs ≡ n → length us ≡ n → xs ++ ys ≡ us ++ vs
-    → (xs ≡ us) × (ys ≡ vs)
-append-same xs ys us vs n hx hu e = (
-  sym (take-at xs ys n hx) ∙ ap (take n) e ∙ take-at us vs n hu,
-  sym (drop-at xs ys n hx) ∙ ap (drop n) e ∙ drop-at us vs n hu,
-)
 
 -- what each number stands for
 joined : (ℕ → List ℕ) → List ℕ → List ℕ
@@ -95,8 +89,8 @@ module _ (bs : List ℕ) where
   joined-e f k zero size room e = refl
   joined-e f k (suc n) size room e =
       let parts =
-      append-same (f k) (joined f (numbersFrom (k + 1) n)) (recordAt bs k) (recordsAt (k + 1) n) entrySize (size k)
-      (length-recordAt k (omega arith)) (e ∙ recordsAt-suc k n) in
+      append-split (f k) (joined f (numbersFrom (k + 1) n)) (recordAt bs k) (recordsAt (k + 1) n)
+      (size k ∙ sym (length-recordAt k (omega arith))) (e ∙ recordsAt-suc k n) in
       and-i (sameBytes (f k) (recordAt bs k)) _
       (ap (λ l. sameBytes (f k) l) (sym (parts .0)) ∙ sameBytes-refl (f k))
       (joined-e f (k + 1) n size (omega arith) (parts .1))
@@ -179,10 +173,10 @@ module _ (bs : List ℕ) where
     unfolding between isUnused
     section-e room e =
         let parts =
-        append-same (joined entryOf-at (between first end)) (joined zeros (between end last))
-        (recordsAt first (end - first)) (recordsAt end (last - end)) (entrySize * (end - first))
-        (length-joined entryOf-at first (end - first) (λ k. length-entryBytes (entryAt bs k)))
-        (length-recordsAt first (end - first) (omega arith)) (sym sectionBytes-at ∙ e ∙ records-split) in (
+        append-split (joined entryOf-at (between first end)) (joined zeros (between end last))
+        (recordsAt first (end - first)) (recordsAt end (last - end))
+        (length-joined entryOf-at first (end - first) (λ k. length-entryBytes (entryAt bs k))
+        ∙ sym (length-recordsAt first (end - first) (omega arith))) (sym sectionBytes-at ∙ e ∙ records-split) in (
           joined-e entryOf-at first (end - first) (λ k. length-entryBytes (entryAt bs k)) (omega arith) (parts .0),
           joined-e zeros end (last - end) (λ k. refl) (omega arith) (parts .1),
         )
@@ -445,13 +439,13 @@ module _ (ports clock : ℕ) (bs : List ℕ) (size : length bs ≡ tableSize) wh
       let es = sectionAt bs i in
       let whole : length (sectionBytes es) ≡ sectionSize = length-sectionBytes es (omega (arith, length-sectionAt i)) in
       let bytes =
-      append-same (sectionBytes (sectionAt bs i)) (sectionsBytes n (sectionsFrom (i + 1) (pred m)))
-      (recordsAt bs (firstRecord i) sectionRoom) (drop (sectionStart (i + 1)) bs) sectionSize whole
-      (length-recordsAt bs (firstRecord i) sectionRoom (omega arith))
+      append-split (sectionBytes (sectionAt bs i)) (sectionsBytes n (sectionsFrom (i + 1) (pred m)))
+      (recordsAt bs (firstRecord i) sectionRoom) (drop (sectionStart (i + 1)) bs)
+      (whole ∙ sym (length-recordsAt bs (firstRecord i) sectionRoom (omega arith)))
       (sym (sectionsBytes-cons n i m empty) ∙ sections ∙ sym (section-cons i)) in
       let numbers =
-      append-same (bytesOf 1 (countIn bs i)) (countsBytes n (sectionsFrom (i + 1) (pred m))) (countIn bs i ∷ [])
-      (take n (drop (16 + (i + 1)) bs)) 1 (length-bytesOf 1 (countIn bs i)) refl
+      append-split (bytesOf 1 (countIn bs i)) (countsBytes n (sectionsFrom (i + 1) (pred m))) (countIn bs i ∷ [])
+      (take n (drop (16 + (i + 1)) bs)) (length-bytesOf 1 (countIn bs i))
       (sym (countsBytes-cons n i m empty) ∙ counts ∙ count-cons i n port) in
       let here : Section ports clock bs i = record { few = room; exact = bytes .0; sound = sound-e i m empty sounds } in
       let later : i + 1 ≤ j → Section ports clock bs j =

@@ -9,7 +9,7 @@ use mathlib.Core.Bool.{true}
 use mathlib.Core.Path.{_≡_, refl, sym, _∙_, ap, subst}
 use mathlib.Core.Logic.{_⊎_, inl, inr, _≢_}
 use mathlib.Core.List.{List, [], List·Memᴰ}
-use borrow.Author.Tests.{lt-ltb, le-ltb}
+use borrow.Author.Tests.{lt-ltb}
 use lib.ListN.{length, getD, set, length-set}
 use Rattle.cell.specs.Order.{over, key}
 use Rattle.cell.specs.Limits.{fits32}
@@ -25,6 +25,7 @@ use Rattle.slot_view.specs.CodeView.{placesIn, crosspointAt, InTable, Agrees}
 use Rattle.slot_view.specs.CodeChoices.{bestOf, empty, best}
 use Rattle.slot_view.specs.CodeScan.{Readable, Holds, Bests}
 use Rattle.slot_view.specs.CodeViewed.{noKey, keyAt, Keyed}
+use Rattle.slot_view.proofs.Keys.{keyAt-cell, keyAt-none}
 use Rattle.slot_view.proofs.Window.{inTable-below, agrees-holds}
 use Rattle.slot_choice.specs.CodeKeys.{leastOfFour, leastOf, FirstWith, Leading, LeadingTo}
 use Rattle.slot_choice.specs.CodeWalk.{BestKnown}
@@ -120,15 +121,6 @@ module _ {row : List ℕ} {v : ℕ} where
 ------------------------------------------------------------------------
 -- the key of a number
 
-module _ (table : List ℕ) where
-  pub key-cell : (k : ℕ) → k < nowhere → keyAt table k ≡ key (entryAt table k .cell)
-  unfolding keyAt
-  key-cell k h = rw (lt-ltb k nowhere h)
-
-  key-none : (k : ℕ) → nowhere ≤ k → keyAt table k ≡ noKey
-  unfolding keyAt
-  key-none k h = rw (le-ltb k nowhere h)
-
 -- a cell's key is below that of an empty crosspoint
 module _ (table : List ℕ) (r : Readable table) (bytes : bytes? table ≡ true) where
   key-below : (k : ℕ) → InTable table k → key (entryAt table k .cell) < noKey
@@ -175,7 +167,7 @@ module _ (table : List ℕ) (r : Readable table) (bytes : bytes? table ≡ true)
     leading-key = least-held ∙ go (compare held nowhere)
       where
         none : nowhere ≤ held → keyAt table held ≡ keyAt table number
-        none h = key-none table held h ∙ sym (key-none table number (omega (arith, number-none h)))
+        none h = keyAt-none table held h ∙ sym (keyAt-none table number (omega (arith, number-none h)))
 
         go : Compared held nowhere → keyAt table held ≡ keyAt table number
         go (below h) = ap (keyAt table) (sym (number-cell h))
@@ -194,7 +186,7 @@ module _ (table : List ℕ) (r : Readable table) (bytes : bytes? table ≡ true)
           let port : c .holder < 16 = omega (arith, c .early, r .ports) in
           let full : crosspointAt cross (c .holder) output < nowhere = omega (arith, c .held, c .some) in
           let own : getD row (c .holder) 0 ≡ key (entryAt table k .cell) =
-          row-at (c .holder) port ∙ ap (keyAt table) (c .held) ∙ key-cell table k (c .some) in (
+          row-at (c .holder) port ∙ ap (keyAt table) (c .held) ∙ keyAt-cell table k (c .some) in (
             omega (arith, smallest .under (c .holder) (omega arith) port),
             subst (InTable table) (c .held) (inside (c .holder) port full),
             port,
@@ -204,7 +196,7 @@ module _ (table : List ℕ) (r : Readable table) (bytes : bytes? table ≡ true)
       none : nowhere ≤ held → BestUpTo table cross output (portsIn table) number
       none s =
           empty (number-none s) (λ k c.
-          let w = no-less c in omega (arith, key-below k (w .1), least-held, key-none table held s))
+          let w = no-less c in omega (arith, key-below k (w .1), least-held, keyAt-none table held s))
 
       one : held < nowhere → BestUpTo table cross output (portsIn table) held
       one s = best s (record { own = own; upper = λ k c. upper k c (no-less c) })
@@ -231,7 +223,7 @@ module _ (table : List ℕ) (r : Readable table) (bytes : bytes? table ≡ true)
           upper k c (low, t, small, own-key) = go (compare least (key (entryAt table k .cell)))
             where
               mine : least ≡ key (entryAt table held .cell)
-              mine = least-held ∙ key-cell table held s
+              mine = least-held ∙ keyAt-cell table held s
 
               go : Compared least (key (entryAt table k .cell))
                   → (k ≡ held) ⊎ (over (entryAt table held .cell) (entryAt table k .cell) ≡ true)

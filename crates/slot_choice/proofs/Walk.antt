@@ -31,7 +31,7 @@ use Rattle.slot_view.specs.CodeViewed.{isHead}
 use Rattle.slot_view.proofs.Window.{waitingAt-input, waitingAt-cell, inTable-below, agrees-holds}
 use Rattle.slot_choice.specs.CodeWalk.{BestKnown, HeadOf, isReady, isPressing, Means}
 use Rattle.slot_choice.proofs.Best.{Chief, chief-of}
-use Rattle.slot_choice.proofs.Keys.{key-cell}
+use Rattle.slot_view.proofs.Keys.{keyAt-cell}
 
 ------------------------------------------------------------------------
 -- rules 2 and 3
@@ -178,7 +178,7 @@ module _ {table : List ℕ} {cross : List (List ℕ)} {best least : List ℕ} {i
       step-best = subst (λ b. b < entryLimit) best-of-output (best-number table cross holds ports e small goes is-full)
 
       pub step-key : getD least o 0 ≡ key (entryAt table (getD best o 0) .cell)
-      step-key = w .keys o (omega (arith, step-output)) ∙ key-cell table (getD best o 0) step-best
+      step-key = w .keys o (omega (arith, step-output)) ∙ keyAt-cell table (getD best o 0) step-best
 
       -- it is over the best of its output or not
       pub step-pressing : {b : Bool} → b ≡ over (entryAt table k .cell) (entryAt table (getD best o 0) .cell)

@@ -17,7 +17,7 @@ use Rattle.laws.proofs.Lists.{keep-mem, mem-keep-passes, getD-any}
 use Rattle.cell.specs.Limits.{sectionRoom, portLimit}
 use Rattle.model.specs.Phase.{Waiting, phase, blocked, crosspoints}
 use Rattle.model.specs.CodeSlackness.{Orderly}
-use Rattle.model.proofs.WaitingOrder.{at-same}
+use Rattle.model.proofs.WaitingOrder.{same-number}
 use Rattle.model.proofs.PhaseFacts.{scheduled-normal, urgent-blocked}
 use Rattle.model.proofs.PhaseMatching.{straight-i, straight-matched, straight-urgent, match-all, match-kind, match-output}
 use Rattle.model.proofs.PhaseMatching.{scheduled-all}
@@ -143,7 +143,7 @@ module _ {table : List ℕ} (r : Readable table) (o : Orderly (waitingIn table))
             where
               here : ByPort inputOf (phase all .scheduled) i → ⊥
               here (has s j _ n) =
-                  let one : e ≡ s = at-same o (match-all all (w .mem)) (scheduled-all all j) (number ∙ q ∙ due ∙ n) in
+                  let one : e ≡ s = same-number (o .numbers) (match-all all (w .mem)) (scheduled-all all j) (number ∙ q ∙ due ∙ n) in
                   clash (urgent-blocked all u) (ap (blocked (crosspoints all)) one ∙ scheduled-normal all j)
               here (lacks _ n) = omega (arith, q, due, n, small)
 

@@ -1,7 +1,6 @@
 -- The table of a state in which one section is exchanged.
 use Prim.Native.Nat.{ℕ, zero, suc, _+_, _*_, _%_, _≤_, _<_}
 use native.Mathlib.Omega.{arith}
-use native.Mathlib.Nat.{zero-add, suc-add}
 use mathlib.Core.Path.{_≡_, refl, sym, _∙_, ap, ap₂}
 use mathlib.Core.List.{List, [], _∷_, _++_, append-assoc}
 use lib.ListN.{length, set, take, drop, length-append}
@@ -12,13 +11,9 @@ use Rattle.model.proofs.Numbering.{Short}
 use Rattle.layout.specs.Number.{bytesOf}
 use Rattle.layout.specs.Table.{layoutNumber, headerSize, sectionSize, sectionBytes, sectionsBytes, countsBytes, encode}
 use Rattle.layout.proofs.Table.{length-sectionBytes, length-countsBytes}
+use Rattle.slot_view.proofs.Encoding.{set-append-add}
 
 -- an element of the second of two lists
-set-append-add : (xs ys : List ℕ) (i a : ℕ) → set (xs ++ ys) (length xs + i) a ≡ xs ++ set ys i a
-set-append-add [] ys i a = ap (λ n. set ys n a) (zero-add i)
-set-append-add (x ∷ xs) ys i a =
-    ap (λ n. set (x ∷ (xs ++ ys)) n a) (suc-add (length xs) i) ∙ ap (λ l. x ∷ l) (set-append-add xs ys i a)
-
 countsBytes-set : (n i : ℕ) (sections : List (List Entry)) (es : List Entry) → i < n → i < length sections
     → length es ≤ sectionRoom → countsBytes n (set sections i es) ≡ set (countsBytes n sections) i (length es)
 unfolding countsBytes bytesOf

@@ -39,7 +39,7 @@ use Rattle.slot_view.proofs.Placed.{decode-entry}
 use Rattle.slot_view.proofs.Window.{inTable-i, inTable-below}
 use Rattle.slot_loading.specs.Code.{BufferedBelow, BestBelow}
 use Rattle.slot_loading.proofs.Walk.{Passing, passing-start, passing-end, passing-this, passing-below, passing-next}
-use Rattle.slot_loading.proofs.Crossing.{keyAt-cell, keyAt-none}
+use Rattle.slot_view.proofs.Keys.{keyAt-cell, keyAt-none}
 
 ------------------------------------------------------------------------
 -- which of two is the better

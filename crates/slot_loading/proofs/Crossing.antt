@@ -8,7 +8,6 @@ use mathlib.Core.Bool.{Bool, true}
 use mathlib.Core.Path.{_≡_, sym, _∙_, ap, ap₂, subst}
 use mathlib.Core.Logic.{_⊎_, inl, inr}
 use mathlib.Core.List.{List}
-use borrow.Author.Tests.{lt-ltb, le-ltb}
 use lib.ListN.{getD, replicate}
 use Rattle.laws.proofs.Pairwise.{pairwise-e}
 use Rattle.sets.specs.Sets.{firstOf}
@@ -28,19 +27,12 @@ use Rattle.layout_table.specs.CodeEntries.{nowhere}
 use Rattle.slot_view.specs.CodeView.{waitingAt, waitingIn, InTable, crosspointAt, placesIn}
 use Rattle.slot_view.specs.CodeScan.{Readable}
 use Rattle.slot_view.specs.CodeViewed.{noKey, keyAt, crossedSet}
+use Rattle.slot_view.proofs.Keys.{keyAt-cell, keyAt-none}
 use Rattle.slot_view.proofs.Own.{table-readable, waitingIn-single}
 use Rattle.slot_view.proofs.Squares.{put, put-square, put-same, put-other, uniform-square, uniform-at}
 use Rattle.slot_view.proofs.Window.{inTable-i, inTable-below, waitingAt-input}
 use Rattle.slot_loading.specs.Code.{Crossed, CrossedBelow}
 use Rattle.slot_loading.proofs.Walk.{Passing, passing-start, passing-end, passing-this, passing-below, passing-next}
-
-pub keyAt-cell : (table : List ℕ) (k : ℕ) → k < nowhere → keyAt table k ≡ key (entryAt table k .cell)
-unfolding keyAt
-keyAt-cell table k h = rw (lt-ltb k nowhere h)
-
-pub keyAt-none : (table : List ℕ) (k : ℕ) → nowhere ≤ k → keyAt table k ≡ noKey
-unfolding keyAt
-keyAt-none table k h = rw (le-ltb k nowhere h)
 
 -- where nothing is at the crosspoints
 pub crossed-none : (table places : List ℕ)
@@ -141,10 +133,10 @@ module _ (table : List ℕ) (good : IsTable table) where
     unfolding input new new-keys crosspointAt
     crossed-put =
         record {
-          square = put-square cross (c .square) input output k port;
+          square = put-square cross (c .square) input output k;
           keyed =
               record {
-                square = put-square keys (c .keyed .square) output input number column;
+                square = put-square keys (c .keyed .square) output input number;
                 at = λ i o li lo. keyed i o li lo (at i o);
               };
           filled = λ j l g. filled j l g (compare j k);

@@ -83,9 +83,6 @@ module _ (table : List ℕ) (good : IsTable table) (input : ℕ) (port : input <
       }
 
   module _ (heads last left : ℕ) (w : Heading table input heads last left) where
-    walk-in : Walk (listedSet table (placesIn table) input) (w .bound) left
-    walk-in = w .walk
-
     -- a head is an entry of the list
     head-in : (j : ℕ) → has (headSet table (placesIn table) input) j ≡ true
         → InTable table (sectionRoom * input + j) × (isListed (placeOf (getD (placesIn table) (sectionRoom * input + j) 0)) ≡ true)

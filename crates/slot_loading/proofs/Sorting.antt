@@ -2,25 +2,23 @@
 use Prim.Native.Nat.{ℕ, _+_, _*_, _-_, _/_, _%_, _^_, _≤_, _<_}
 use native.Mathlib.Nat.{le-refl}
 use native.Mathlib.Omega.{arith}
-use mathlib.Core.Bool.{Bool}
 use mathlib.Core.Path.{_≡_, sym, _∙_, ap, ap₂}
 use mathlib.Core.List.{List}
 use lib.Dec.{eqb}
-use lib.ListN.{getD}
 use lib.Pow.{pow-mono}
 use Rattle.sets.specs.Sets.{setFrom, pushed, minus, both}
-use Rattle.sets.proofs.Members.{setFrom-lt, setFrom-ext}
+use Rattle.sets.proofs.Members.{setFrom-lt}
 use Rattle.cell.specs.Limits.{sectionRoom}
-use Rattle.model.specs.State.{Place, isListed, isCrossed, isBuffered}
-use Rattle.layout.specs.Entry.{entryAt, countIn}
+use Rattle.model.specs.State.{isListed, isCrossed, isBuffered}
+use Rattle.layout.specs.Entry.{countIn}
 use Rattle.layout.specs.Code.{placeByteAt, portsIn}
-use Rattle.layout.specs.Table.{placeOf, stateOf, IsTable}
-use Rattle.layout.proofs.Records.{entryAt-place}
+use Rattle.layout.specs.Table.{stateOf, IsTable}
 use Rattle.slot_check.specs.Code.{lowPlace, highPlace}
 use Rattle.slot_check.proofs.Collecting.{set-back}
 use Rattle.slot_check.proofs.Walks.{listed-set, crossed-set, buffered-set}
 use Rattle.slot_view.specs.CodeView.{InTable, placesIn}
 use Rattle.slot_view.specs.CodeViewed.{listedSet, crossedSet, bufferedSet}
+use Rattle.slot_view.proofs.Handed.{kinds}
 use Rattle.slot_view.proofs.Own.{table-readable, own-place, own-in-place}
 use Rattle.slot_view.proofs.Placed.{inTable-number}
 use Rattle.slot_loading.specs.Code.{Sorted}
@@ -76,18 +74,6 @@ module _ (table : List ℕ) (good : IsTable table) (input : ℕ) (port : input <
   inside j h =
       inTable-number table (stateOf table) good input (sectionRoom * input + j) port (omega arith) (omega arith)
 
-  -- a test of the places, by the column or by the entries
-  by-column : (test : Place → Bool)
-      → setFrom (λ k. test (entryAt table k .place)) (sectionRoom * input) (countIn table input)
-      ≡ setFrom (λ k. test (placeOf (getD (placesIn table) k 0))) (sectionRoom * input) (countIn table input)
-  by-column test =
-      setFrom-ext (λ k. test (entryAt table k .place)) (λ k. test (placeOf (getD (placesIn table) k 0)))
-      (sectionRoom * input) (countIn table input)
-      (λ j h.
-      ap test
-      (entryAt-place table (sectionRoom * input + j)
-      ∙ ap placeOf (sym (own-place table good (sectionRoom * input + j) (inside j h)))))
-
   places : (j : ℕ) → j < countIn table input
       → (1 ≤ placeByteAt table (sectionRoom * input + j)) × (placeByteAt table (sectionRoom * input + j) ≤ 3)
   places j h =
@@ -101,6 +87,7 @@ module _ (table : List ℕ) (good : IsTable table) (input : ℕ) (port : input <
   sorting-end end low high k last w done =
       let first : ℕ = sectionRoom * input in
       let n : ℕ = countIn table input in
+      let by-column = kinds table good input (omega (arith, table-readable table good .ports)) in
       let at : k ≡ first = omega (arith, w .start) in
       let size : end - k ≡ n = omega arith in
       let lows : low ≡ setFrom (lowPlace table) first n = w .lows ∙ ap₂ (setFrom (lowPlace table)) at size in

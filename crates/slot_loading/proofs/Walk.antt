@@ -8,9 +8,9 @@ use native.Mathlib.Omega.{arith}
 use mathlib.Core.Bool.{Bool, true, not, _&&_}
 use mathlib.Core.Path.{_≡_, sym, _∙_, ap, subst}
 use mathlib.Core.List.{List}
-use borrow.Author.Tests.{ltb-true, lt-ltb, eqb-false, ne-eqb}
+use borrow.Author.Tests.{ltb-true, lt-ltb, eqb-false, ne-eqb, not-true}
 use lib.Dec.{ltb, eqb}
-use Rattle.laws.proofs.Tests.{clash, and-i, and-l, and-r, not-i, not-e}
+use Rattle.laws.proofs.Tests.{clash, and-i, and-l, and-r, not-i}
 use Rattle.sets.specs.Sets.{positions, has, setFrom, firstOf}
 use Rattle.sets.proofs.Digits.{has-past}
 use Rattle.sets.proofs.Members.{has-setFrom, has-withoutOne, first-position, first-member, first-before, rest-less}
@@ -80,7 +80,7 @@ module _ {set bound left : ℕ} (w : Walk set bound left) (some : 0 < left) wher
         where
           later : has left j ≡ true → not (eqb j (firstOf left)) ≡ true → Compared j (firstOf left) → firstOf left + 1 ≤ j
           later here other (below l) = absurd (clash here (first-before left j l))
-          later here other (equal l) = absurd (eqb-false j (firstOf left) (not-e _ other) l)
+          later here other (equal l) = absurd (eqb-false j (firstOf left) (not-true _ other) l)
           later here other (above l) = omega arith
 
 pub walk-end : {set bound left : ℕ} → Walk set bound left → left ≡ 0 → (j : ℕ) → bound ≤ j → has set j ≡ true → ⊥

@@ -5,11 +5,11 @@ use mathlib.Core.Bool.{Bool, true, false, not}
 use mathlib.Core.Path.{_≡_, sym, _∙_, ap, subst}
 use mathlib.Core.Logic.{_⊎_, inl, inr}
 use mathlib.Core.List.{List, List·Memᴰ}
-use borrow.Author.Tests.{ltb-true, ltb-false, eqb-true, eq-eqb}
+use borrow.Author.Tests.{ltb-true, ltb-false, eqb-true, eq-eqb, not-true}
 use lib.Dec.{ltb, eqb}
 use lib.ListN.{getD, List·getD-eq-default}
 use Rattle.laws.specs.Lists.{keep, none?}
-use Rattle.laws.proofs.Tests.{either, clash, by-fail, same, or-l, or-r, or-cases, not-i, not-e}
+use Rattle.laws.proofs.Tests.{either, clash, by-fail, same, or-l, or-r, or-cases, not-i}
 use Rattle.laws.proofs.Lists.{none?-i, keep-mem, mem-keep, keep-members, getD-any}
 use Rattle.laws.proofs.Count.{count-ext}
 use Rattle.matching.specs.Matching.{proposed, matched, proposals}
@@ -77,7 +77,7 @@ module _ (table candidates : List ℕ) (to : ToOutputs table (numbersOf candidat
 
       into : (not (isIn left c) ≡ true) ⊎ (eqb (getD held (out c) 0) c ≡ true)
           → none? (λ d. aheadAt d c) (numbersOf left) ≡ true
-      into (inl f) = first (a .sound .in-order c m) (not-e (isIn left c) f)
+      into (inl f) = first (a .sound .in-order c m) (not-true (isIn left c) f)
       into (inr e) = mem-proposed-none aheadAt overs (numbersOf left) (held-proposal m (eqb-true _ c e))
 
       back : none? (λ d. aheadAt d c) (numbersOf left) ≡ true → (isIn left c ≡ true) ⊎ (isIn left c ≡ false)

@@ -7,11 +7,11 @@ use mathlib.Core.Bool.{Bool, true, false, not, _&&_, and-true}
 use mathlib.Core.Path.{_≡_, refl, sym, _∙_, ap}
 use mathlib.Core.Logic.{_⊎_, inl, inr, _≢_}
 use mathlib.Core.List.{List, List·Memᴰ}
-use borrow.Author.Tests.{eqb-true, eqb-false, eq-eqb, ne-eqb}
+use borrow.Author.Tests.{eqb-true, eqb-false, eq-eqb, ne-eqb, not-true, not-false}
 use lib.Dec.{eqb}
 use lib.ListN.{length, getD}
 use Rattle.laws.specs.Lists.{keep, none?}
-use Rattle.laws.proofs.Tests.{and-false-r, not-i, not-e, not-false-i, not-false-e}
+use Rattle.laws.proofs.Tests.{and-false-r, not-i, not-false-i}
 use Rattle.laws.proofs.Lists.{some?-i, none?-within, keep-mem, mem-keep}
 use Rattle.matching.specs.Matching.{proposed}
 use Rattle.matching.specs.Stable.{Refusing, stop}
@@ -88,7 +88,7 @@ module _ (over : ℕ → ℕ → Bool) where
     unfolding other
     in-others {c} m =
         let w = mem-keep other (numbersOf left) (rw others at m) in
-        (w .0, eqb-false c r (not-e (eqb c r) (w .1)))
+        (w .0, eqb-false c r (not-true (eqb c r) (w .1)))
 
     others-in : {c : ℕ} → List·Memᴰ c (numbersOf left) → c ≢ r → List·Memᴰ c (numbersOf fewer)
     unfolding other
@@ -107,7 +107,7 @@ module _ (over : ℕ → ℕ → Bool) where
           refusing =
               rw others
               (refusing-more aheadAt over (l .refusing) other (λ c m f.
-              some?-i (λ e. over e c) by (ap (over d) (eqb-true c r (not-false-e (eqb c r) f)) ∙ beats)));
+              some?-i (λ e. over e c) by (ap (over d) (eqb-true c r (not-false (eqb c r) f)) ∙ beats)));
           in-order = λ c m. go c (l .in-order c m) (eqb c r) refl;
         }
       where

@@ -7,7 +7,7 @@ use mathlib.Core.Logic.{_⊎_, inl, inr, _≢_}
 use mathlib.Core.List.{List, []}
 use borrow.Author.Tests.{eqb-true, eqb-false, ltb-true, ltb-false}
 use lib.Dec.{eqb, ltb}
-use lib.ListN.{length, getD, set, length-set}
+use lib.ListN.{length, getD, set}
 use lib.Seq.{getD-set-same, getD-set-other, set-out, set-getD}
 use Rattle.laws.proofs.Tests.{either, clash}
 use Rattle.cell.specs.Limits.{sectionRoom}
@@ -18,6 +18,7 @@ use Rattle.layout_table.specs.CodeEntries.{nowhere}
 use Rattle.slot_view.specs.CodeView.{waitingAt, crosspointAt, InTable, Agrees, Square}
 use Rattle.slot_view.specs.CodeScan.{Readable}
 use Rattle.slot_moves.specs.CodeMoves.{written, put, sending, pulling}
+use Rattle.slot_view.proofs.Squares as squares
 use Rattle.slot_view.proofs.Window.{inTable-e, inTable-i, inTable-below}
 use Rattle.slot_moves.proofs.Written.{hit, hit-miss, length-written, written-hit, written-miss}
 
@@ -32,40 +33,24 @@ crossedAt places k = isCrossed (placeOf (getD places k 0))
 -- a crosspoint after a write
 
 module _ (cross : List (List ℕ)) (square : Square cross) where
-  row-same : (i o k : ℕ) → i < 16 → getD (put cross i o k) i [] ≡ set (getD cross i []) o k
-  unfolding put
-  row-same i o k a = getD-set-same cross i (set (getD cross i []) o k) [] (let s = square .rows in omega arith)
-
-  row-other : (i o k j : ℕ) → j ≢ i → getD (put cross i o k) j [] ≡ getD cross j []
-  unfolding put
-  row-other i o k j n = getD-set-other cross i j (set (getD cross i []) o k) [] n
-
   pub put-same : (i o k : ℕ) → i < 16 → o < 16 → crosspointAt (put cross i o k) i o ≡ k
-  unfolding crosspointAt
-  put-same i o k a b =
-      ap (λ row. getD row o 0) (row-same i o k a)
-      ∙ getD-set-same (getD cross i []) o k 0 (let s = square .columns i a in omega arith)
+  unfolding put
+  put-same i o k = squares.put-same cross square i o k
 
   pub put-row : (i o k j p : ℕ) → j ≢ i → crosspointAt (put cross i o k) j p ≡ crosspointAt cross j p
-  unfolding crosspointAt
-  put-row i o k j p n = ap (λ row. getD row p 0) (row-other i o k j n)
-
-  pub put-column : (i o k j p : ℕ) → i < 16 → p ≢ o → crosspointAt (put cross i o k) j p ≡ crosspointAt cross j p
-  unfolding crosspointAt
-  put-column i o k j p a n = go (either (eqb j i))
-    where
-      go : (eqb j i ≡ true) ⊎ (eqb j i ≡ false) → crosspointAt (put cross i o k) j p ≡ crosspointAt cross j p
-      go (inl e) =
-          rw (eqb-true j i e)
-          (ap (λ row. getD row p 0) (row-same i o k a) ∙ getD-set-other (getD cross i []) o p k 0 n)
-      go (inr e) = put-row i o k j p (eqb-false j i e)
+  unfolding put
+  put-row i o k = squares.put-row cross square i o k
 
   pub put-other : (i o k j p : ℕ) → i < 16 → (j ≡ i → p ≡ o → ⊥) → crosspointAt (put cross i o k) j p ≡ crosspointAt cross j p
-  put-other i o k j p a n = go (either (eqb j i))
-    where
-      go : (eqb j i ≡ true) ⊎ (eqb j i ≡ false) → crosspointAt (put cross i o k) j p ≡ crosspointAt cross j p
-      go (inl e) = put-column i o k j p a (n (eqb-true j i e))
-      go (inr e) = put-row i o k j p (eqb-false j i e)
+  unfolding put
+  put-other i o k j p row = squares.put-other cross square i o k row j p
+
+  pub put-column : (i o k j p : ℕ) → i < 16 → p ≢ o → crosspointAt (put cross i o k) j p ≡ crosspointAt cross j p
+  put-column i o k j p row d = put-other i o k j p row (λ _. d)
+
+  pub square-put : (i o k : ℕ) → Square (put cross i o k)
+  unfolding put
+  square-put i o k = squares.put-square cross square i o k
 
   -- a number that no entry has changes nothing
   pub put-nowhere : (i o k : ℕ) → 16 ≤ i → put cross i o k ≡ cross
@@ -83,28 +68,6 @@ module _ (cross : List (List ℕ)) (square : Square cross) where
       go (inr t) =
           let past : 16 ≤ i = ltb-false _ _ t in
           set-out cross i (set (getD cross i []) o k) (omega (arith, square .rows))
-
-  square-rows : (i o k : ℕ) → length (put cross i o k) ≡ 16
-  unfolding put
-  square-rows i o k = length-set cross i (set (getD cross i []) o k) ∙ square .rows
-
-  pub square-put : (i o k : ℕ) → Square (put cross i o k)
-  square-put i o k = record { rows = rows; columns = columns }
-    where
-      rows : length (put cross i o k) ≡ 16
-      rows = square-rows i o k
-
-      columns : (j : ℕ) → j < 16 → length (getD (put cross i o k) j []) ≡ 16
-      columns j h = go (either (eqb j i))
-        where
-          go : (eqb j i ≡ true) ⊎ (eqb j i ≡ false) → length (getD (put cross i o k) j []) ≡ 16
-          go (inl e) =
-              let s : j ≡ i = eqb-true j i e in
-              rw s
-              (ap length (row-same i o k (omega arith))
-              ∙ length-set (getD cross i []) o k
-              ∙ square .columns i (omega arith))
-          go (inr e) = ap length (row-other i o k j (eqb-false j i e)) ∙ square .columns j h
 
 ------------------------------------------------------------------------
 -- rounds keep the shape

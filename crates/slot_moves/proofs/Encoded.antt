@@ -20,7 +20,7 @@ use Rattle.model.specs.State.{Entry, Switch}
 use Rattle.model.specs.Sound.{sound}
 use Rattle.model.specs.Phase.{Phase, numberFrom, numberSections, numbered, waiting, phase, placedBy, moved}
 use Rattle.model.specs.CodeSlackness.{relocated}
-use Rattle.model.proofs.Numbering.{waiting-moved, entryAfter}
+use Rattle.model.proofs.Numbering.{waiting-moved, entryAfter, length-moved}
 use Rattle.model.proofs.Shapes.{length-number, waiting-injective}
 use Rattle.model.proofs.SoundLaws.{SoundTable, sound-e, sound-i}
 use Rattle.model.proofs.SoundPhase.{phase-sound}
@@ -60,10 +60,6 @@ lengths-numbered p input (s ∷ ss) =
 lengths-moved : (p : Phase) (ss : List (List Entry)) → map length (moved p ss) ≡ map length ss
 unfolding moved placedBy numbered
 lengths-moved p ss = lengths-numbered p 0 ss
-
-length-moved : (p : Phase) (ss : List (List Entry)) → length (moved p ss) ≡ length ss
-length-moved p ss =
-    sym (length-map (moved p ss) length) ∙ ap length (lengths-moved p ss) ∙ length-map ss length
 
 ------------------------------------------------------------------------
 -- the bytes

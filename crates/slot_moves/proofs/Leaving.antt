@@ -8,20 +8,19 @@ use mathlib.Core.Bool.{Bool, true, false, not, _&&_, _||_}
 use mathlib.Core.Path.{_≡_, refl, sym, _∙_, ap, ap₂, subst}
 use mathlib.Core.Logic.{_⊎_, inl, inr, _≢_}
 use mathlib.Core.List.{List, List·Memᴰ}
-use borrow.Author.Tests.{eqb-true, eqb-false, eq-eqb, ne-eqb, ltb-true, ltb-false, lt-ltb, le-ltb}
+use borrow.Author.Tests.{eqb-true, eqb-false, eq-eqb, ne-eqb, ltb-true, ltb-false, lt-ltb, le-ltb, not-true}
 use lib.Dec.{eqb, ltb}
 use lib.ListN.{length, getD, set, length-set}
-use lib.Pow.{pow-mono}
 use lib.Seq.{getD-set-same, getD-set-other, set-out}
 use Rattle.laws.specs.Lists.{none?}
 use Rattle.laws.proofs.Least.{mem-least-in, mem-least-none}
 use Rattle.laws.proofs.Lists.{none?-i, none?-e}
 use Rattle.laws.proofs.Tests.{either, clash, by-fail, same, and-i, and-l, and-r, and-false-r, or-l, or-r}
-use Rattle.laws.proofs.Tests.{or-cases, not-i, not-e, cond-pass, cond-fail}
+use Rattle.laws.proofs.Tests.{or-cases, not-i, cond-pass, cond-fail}
 use Rattle.sets.specs.Sets.{positions, has, setFrom, firstOf}
 use Rattle.sets.proofs.Digits.{trailing-member}
-use Rattle.sets.proofs.Members.{has-setFrom, setFrom-lt, setFrom-ext, setOf-is, has-withoutOne, has-from}
-use Rattle.sets.proofs.Members.{first-before, first-trailing}
+use Rattle.sets.proofs.Members.{has-setFrom, setFrom-ext, setOf-is, has-withoutOne, has-from}
+use Rattle.sets.proofs.Members.{first-before, first-trailing, setFrom-fits}
 use Rattle.cell.specs.Flow.{sameFlow}
 use Rattle.cell.specs.Limits.{sectionRoom, portLimit}
 use Rattle.cell.proofs.Flow.{flow-input, flow-sym, flow-trans}
@@ -40,17 +39,14 @@ use Rattle.slot_view.specs.CodeScan.{Readable}
 use Rattle.slot_view.specs.CodeView.{waitingAt, inTable, InTable}
 use Rattle.slot_view.specs.CodeViewed.{isHead, listedSet, headSet, ListsOf}
 use Rattle.slot_view.proofs.Together.{Contiguous}
-use Rattle.slot_view.proofs.Window.{inTable-i, inTable-e, inTable-below, waitingAt-at, waitingAt-cell, waitingAt-input, waitingAt-place}
+use Rattle.slot_view.proofs.Window.{inTable-i, inTable-e, inTable-below, inTable-section, waitingAt-at, waitingAt-cell}
+use Rattle.slot_view.proofs.Window.{waitingAt-input, waitingAt-place}
 use Rattle.slot_moves.specs.CodeMoves.{written, left, nextOf, headsLeft, leftHeads, leaving, leavingHeads}
-use Rattle.slot_moves.proofs.Relocated.{section-entry}
 use Rattle.slot_moves.proofs.Steps.{left-none, leftHeads-none}
 use Rattle.slot_moves.proofs.Written.{hit, hit-miss, length-written, written-hit, written-miss}
 
 ------------------------------------------------------------------------
 -- sets
-
-fits : (p : ℕ → Bool) (k n : ℕ) → n ≤ positions → setFrom p k n < 2 ^ positions
-fits p k n h = let most : 2 ^ n ≤ 2 ^ positions = pow-mono h in omega (arith, setFrom-lt p k n)
 
 -- a position less
 without-setFrom : (p q : ℕ → Bool) (k n x : ℕ) → n ≤ positions
@@ -58,7 +54,7 @@ without-setFrom : (p q : ℕ → Bool) (k n x : ℕ) → n ≤ positions
     → setFrom q k n ≡ withoutOne (setFrom p k n) x
 unfolding withoutOne
 without-setFrom p q k n x small others gone =
-    setOf-is (λ j. has (setFrom p k n) j && not (eqb j x)) (setFrom q k n) (fits q k n small) (λ j h.
+    setOf-is (λ j. has (setFrom p k n) j && not (eqb j x)) (setFrom q k n) (setFrom-fits q k n small) (λ j h.
     has-setFrom q k n j
     ∙ go j (either (ltb j n)) (either (eqb j x))
     ∙ ap (λ b. b && not (eqb j x)) (sym (has-setFrom p k n j)))
@@ -124,10 +120,10 @@ module _ (list x : ℕ) where
       front = and-l (has list n && not (eqb n x)) (not (ltb n x)) all
 
       apart : n ≢ x
-      apart = eqb-false n x (not-e (eqb n x) (and-r (has list n) (not (eqb n x)) front))
+      apart = eqb-false n x (not-true (eqb n x) (and-r (has list n) (not (eqb n x)) front))
 
       behind : x ≤ n
-      behind = ltb-false n x (not-e (ltb n x) (and-r (has list n && not (eqb n x)) (not (ltb n x)) all))
+      behind = ltb-false n x (not-true (ltb n x) (and-r (has list n && not (eqb n x)) (not (ltb n x)) all))
 
 ------------------------------------------------------------------------
 -- heads by their numbers
@@ -242,7 +238,7 @@ module _ {table : List ℕ} (r : Readable table) (places : List ℕ) (size : len
 
   -- the entry with a position in the section
   section-own : (j : ℕ) → j < n → InTable table (sectionRoom * i + j)
-  section-own j l = section-entry r i (sectionRoom * i + j) (entry .input) (omega arith) (omega arith)
+  section-own j l = inTable-section r i (sectionRoom * i + j) (entry .input) (omega arith) (omega arith)
 
   ------------------------------------------------------------------------
   -- the lists
@@ -447,7 +443,7 @@ module _ {table : List ℕ} (r : Readable table) (places : List ℕ) (size : len
   others-e j l h =
       let b : (has heads-in j && not (eqb j x)) ≡ true = sym (has-withoutOne heads-in x j l) ∙ h in
       let c = run-member (isHeadIn places) (sectionRoom * i) n j (and-l (has heads-in j) (not (eqb j x)) b) in
-      (c .0, head-stays j (c .0) (eqb-false j x (not-e (eqb j x) (and-r (has heads-in j) (not (eqb j x)) b))) (head-e r places (at j) (c .1)))
+      (c .0, head-stays j (c .0) (eqb-false j x (not-true (eqb j x) (and-r (has heads-in j) (not (eqb j x)) b))) (head-e r places (at j) (c .1)))
 
   others-i : (j : ℕ) → j < n → HeadAt table places′ (at j) → HeadAt table places (at j) → has others j ≡ true
   unfolding headSet
@@ -492,7 +488,7 @@ module _ {table : List ℕ} (r : Readable table) (places : List ℕ) (size : len
 
   new-fits : headSet table places′ i < 2 ^ positions
   unfolding headSet
-  new-fits = fits (isHeadIn places′) (sectionRoom * i) n few
+  new-fits = setFrom-fits (isHeadIn places′) (sectionRoom * i) n few
 
   next-inside : next < positions → next < n
   next-inside l = list-e next (next-behind list x l .0) .0

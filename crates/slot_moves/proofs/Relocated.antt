@@ -1,5 +1,5 @@
 -- A column whose places are those after a phase makes the waiting cells those that the phase has relocated.
-use Prim.Native.Nat.{ℕ, _+_, _*_, _/_, _<_, _≤_}
+use Prim.Native.Nat.{ℕ, _+_, _*_, _<_, _≤_}
 use native.Mathlib.Omega.{arith}
 use mathlib.Core.Path.{_≡_, refl, sym, _∙_, ap₂}
 use mathlib.Core.List.{List, [], _∷_, _++_, map, map-append, flatten, List·Memᴰ, List·Memᴰ·head, List·Memᴰ·tail}
@@ -14,6 +14,7 @@ use Rattle.layout.specs.Table.{placeOf}
 use Rattle.layout.specs.Code.{portsIn}
 use Rattle.slot_view.specs.CodeView.{waitingAt, window, inTable, InTable}
 use Rattle.slot_view.specs.CodeScan.{Readable}
+use Rattle.slot_view.proofs.Window.{inTable-section}
 
 module _ {A B C : Type 0} (f : B → C) (g : A → C) (h : A → B) where
   map-through : (l : List A) → ((x : A) → List·Memᴰ x l → g x ≡ f (h x)) → map g l ≡ map f (map h l)
@@ -30,14 +31,6 @@ module _ {A B C : Type 0} (f : B → C) (g : A → List C) (h : A → List B) wh
       ∙ sym (map-append f (h x) (flatten (map h l)))
 
 module _ {table : List ℕ} (r : Readable table) where
-  -- a number in the section of an input is an entry's
-  pub section-entry : (i k : ℕ) → i < portsIn table → sectionRoom * i ≤ k → k < sectionRoom * i + countIn table i
-      → InTable table k
-  section-entry i k p a b =
-      let small : countIn table i ≤ sectionRoom = r .counts i (omega (arith, r .ports)) in
-      let same : i ≡ k / sectionRoom = omega arith in
-      record { input = rw (← same) p; position = rw (← same) b }
-
   pub inTable-relocated : (p : Phase) (places places′ : List ℕ)
       → ((k : ℕ) → InTable table k → placeOf (getD places′ k 0) ≡ placeAfter p (waitingAt table places k))
       → inTable table places′ ≡ relocated p (inTable table places)
@@ -53,7 +46,7 @@ module _ {table : List ℕ} (r : Readable table) where
 
       entry : (i k : ℕ) → (0 ≤ i) × (i < 0 + portsIn table)
           → (sectionRoom * i ≤ k) × (k < sectionRoom * i + countIn table i) → InTable table k
-      entry i k a b = section-entry i k (omega arith) (b .0) (b .1)
+      entry i k a b = inTable-section r i k (omega arith) (b .0) (b .1)
 
       one : (k : ℕ) → InTable table k → waitingAt table places′ k ≡ relocate p (waitingAt table places k)
       one k i = λ x. record { at = k; cell = entryAt table k .cell; place = after k i x }

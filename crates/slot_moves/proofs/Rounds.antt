@@ -13,14 +13,14 @@ use Rattle.layout.specs.Table.{tableSize}
 use Rattle.layout_table.specs.CodeEntries.{nowhere}
 use Rattle.slot_view.specs.CodeView.{Square, placesIn}
 use Rattle.slot_view.specs.CodeViewed.{noKey, keyAt}
-use Rattle.slot_view.proofs.Placing.{Kept, kept-same, kept-trans, placed-kept, placesIn-placed}
+use Rattle.slot_view.proofs.Placing.{Kept, kept-same, kept-trans, placed-kept, placesIn-placed, kept-key}
 use Rattle.slot_moves.specs.CodeMoves.{written, placeAt, placing, left, leftHeads, leaving, leavingHeads, put, sending}
 use Rattle.slot_moves.specs.CodeMoves.{keying, pulling, unkeying, entered, entering, markOf, Bound}
 use Rattle.slot_moves.specs.CodeMoves.{Straight, Crossed, Taken, Straightened, Sent, Pulled}
 use Rattle.slot_moves.proofs.Written.{length-written}
 use Rattle.slot_moves.proofs.Agreeing.{square-put, square-sending, square-pulling}
 use Rattle.slot_moves.proofs.Entering.{length-entering}
-use Rattle.slot_moves.proofs.Steps.{entered-kept, leftHeads-kept, keyAt-kept}
+use Rattle.slot_moves.proofs.Steps.{entered-kept, leftHeads-kept}
 
 ------------------------------------------------------------------------
 -- the table
@@ -183,7 +183,7 @@ module _ {f : ℕ → ℕ} {n : ℕ} {table table′ listed listed′ heads head
       rw (add-one n, ← s .keyed, ← e)
       (q
       ∙ ap (λ c. put keys′ (c .output) (k / sectionRoom) (keyAt table′ k)) (kept-sent .cells k)
-      ∙ ap (put keys′ (entryAt table k .cell .output) (k / sectionRoom)) (keyAt-kept kept-sent k))
+      ∙ ap (put keys′ (entryAt table k .cell .output) (k / sectionRoom)) (kept-key kept-sent k))
 
   pub sent-more : {k : ℕ} {table″ listed″ heads″ : List ℕ} {cross″ keys″ : List (List ℕ)} {best″ : List ℕ} → k ≡ f n
       → Crossed table′ k table″ listed′ listed″ heads′ heads″ cross′ cross″ keys′ keys″ best′ best″
@@ -285,7 +285,7 @@ module _ {old new : List ℕ} (kept : Kept old new) (f : ℕ → ℕ) where
   keying-kept zero keys = refl
   keying-kept (suc n) keys =
       ap (λ c. put (keying new f n keys) (c .output) (f n / sectionRoom) (keyAt new (f n))) (kept .cells (f n))
-      ∙ ap₂ (λ x y. put x (entryAt old (f n) .cell .output) (f n / sectionRoom) y) (keying-kept n keys) (keyAt-kept kept (f n))
+      ∙ ap₂ (λ x y. put x (entryAt old (f n) .cell .output) (f n / sectionRoom) y) (keying-kept n keys) (kept-key kept (f n))
 
   pub entering-kept : (n : ℕ) (best : List ℕ) → entering new f n best ≡ entering old f n best
   unfolding entering

@@ -1,16 +1,12 @@
 -- One move: where there is no cell, nothing changes; and what a move takes from a table is the same in one that keeps it.
-use Prim.Native.Nat.{ℕ, _/_, _<_, _≤_}
+use Prim.Native.Nat.{ℕ, _/_, _≤_}
 use native.Mathlib.Omega.{arith}
 use mathlib.Core.Bool.{Bool, true}
 use mathlib.Core.Path.{_≡_, sym, _∙_, ap}
 use mathlib.Core.List.{List}
-use borrow.Author.Tests.{lt-ltb}
-use lib.Dec.{ltb}
 use lib.ListN.{length, getD, set}
 use lib.Seq.{set-out}
-use Rattle.laws.proofs.Tests.{cond-pass}
 use Rattle.cell.specs.Limits.{sectionRoom}
-use Rattle.cell.specs.Order.{key}
 use Rattle.layout.specs.Entry.{entryAt}
 use Rattle.layout.specs.Table.{tableSize}
 use Rattle.layout_table.specs.CodeEntries.{nowhere, betterOf}
@@ -91,11 +87,3 @@ module _ {old new : List ℕ} (kept : Kept old new) where
   pub leftHeads-kept : (listed heads : List ℕ) (k : ℕ) → leftHeads new listed heads k ≡ leftHeads old listed heads k
   unfolding leftHeads headsLeft
   leftHeads-kept listed heads k = simp (kept .cells)
-
-  pub keyAt-kept : (k : ℕ) → keyAt new k ≡ keyAt old k
-  unfolding keyAt
-  keyAt-kept k = rw (kept .cells k)
-
-pub keyAt-some : (table : List ℕ) (k : ℕ) → k < nowhere → key (entryAt table k .cell) ≡ keyAt table k
-unfolding keyAt
-keyAt-some table k h = sym (cond-pass (ltb k nowhere) (key (entryAt table k .cell)) noKey (lt-ltb k nowhere h))

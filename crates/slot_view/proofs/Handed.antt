@@ -51,7 +51,8 @@ module _ (t : List ℕ) (g : IsTable t) where
     entry-in k low high =
         inTable-number t (stateOf t) g i k (entry-port i (k - sectionRoom * i) port (omega arith)) low high
 
-    kinds : (f : Place → Bool) → setFrom (λ k. f (entryAt t k .place)) (sectionRoom * i) (countIn t i)
+    -- a test of the places, by the entries or by the column
+    pub kinds : (f : Place → Bool) → setFrom (λ k. f (entryAt t k .place)) (sectionRoom * i) (countIn t i)
         ≡ setFrom (λ k. f (placeOf (getD (placesIn t) k 0))) (sectionRoom * i) (countIn t i)
     kinds f =
         setFrom-ext _ _ (sectionRoom * i) (countIn t i)

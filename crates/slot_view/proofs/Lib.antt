@@ -3,6 +3,7 @@ pub mod Choices
 pub mod Encoding
 pub mod Handed
 pub mod Heads
+pub mod Keys
 pub mod Own
 pub mod Placed
 pub mod Placing

@@ -27,6 +27,7 @@ use Rattle.layout.proofs.Records.{entryAt-place, stateOf-sections}
 use Rattle.slot_view.specs.CodeView.{waitingAt, window, inTable, InTable}
 use Rattle.slot_view.specs.CodeScan.{Readable}
 use Rattle.slot_view.proofs.Bytes.{recordAt-encode}
+use Rattle.slot_view.proofs.Window.{inTable-section}
 use Rattle.slot_view.specs.CodeSections.{entryPlaced, sectionPlaced, sectionsPlaced}
 
 ------------------------------------------------------------------------
@@ -131,15 +132,6 @@ module _ (table : List ℕ) (s : Switch) (e : decode table ≡ some s) where
       sym (ap (λ t. t .sections) (decode-state table s e))
       ∙ stateOf-sections table (λ i h. decode-count-few i (omega arith))
 
-  -- a number within a section is in the table
-  pub inTable-number : (i k : ℕ) → i < portsIn table → sectionRoom * i ≤ k → k < sectionRoom * i + countIn table i
-      → InTable table k
-  inTable-number i k h low high =
-      let ports : portsIn table ≤ portLimit = decode-ports-few in
-      let few : countIn table i ≤ 64 = decode-count-few i (omega arith) in
-      let own : k / 64 ≡ i = omega arith in
-      record { input = rw own h; position = rw own high }
-
   -- the entry with a number of the table
   module _ (k : ℕ) (t : InTable table k) where
     own-port : k / sectionRoom < portLimit
@@ -196,6 +188,11 @@ module _ (table : List ℕ) (s : Switch) (e : decode table ≡ some s) where
         flows = λ k t. ltb-true _ _ (decode-entry k t .flow);
         early = λ k t. omega (arith, decode-entry k t .slot, fits32-below _ (sound-clock s (decode-sound table s e)));
       }
+
+  -- a number within a section is in the table
+  pub inTable-number : (i k : ℕ) → i < portsIn table → sectionRoom * i ≤ k → k < sectionRoom * i + countIn table i
+      → InTable table k
+  inTable-number = inTable-section decode-readable
 
   -- where the column has the table's own places, the sections are those of its state
   pub sectionsPlaced-same : (places : List ℕ) → ((k : ℕ) → InTable table k → getD places k 0 ≡ placeByteAt table k)

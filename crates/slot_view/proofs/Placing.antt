@@ -161,6 +161,10 @@ module _ (table : List ℕ) (k v : ℕ) where
 ------------------------------------------------------------------------
 -- the view of a table and of one that keeps it
 
+pub kept-key : {old new : List ℕ} → Kept old new → (k : ℕ) → keyAt new k ≡ keyAt old k
+unfolding keyAt
+kept-key kept k = rw (kept .cells k)
+
 module _ {old new : List ℕ} (kept : Kept old new) (r : Readable old) where
   kept-entry : {k : ℕ} → InTable old k → InTable new k
   kept-entry {k} t =
@@ -238,10 +242,6 @@ module _ {old new : List ℕ} (kept : Kept old new) (r : Readable old) where
               upper = λ k m. rw (kept .cells n, kept .cells k) (u .upper k (back o k m));
             })
 
-  kept-key : (k : ℕ) → keyAt new k ≡ keyAt old k
-  unfolding keyAt
-  kept-key k = rw (kept .cells k)
-
   pub kept-view : {places listed heads : List ℕ} {cross keys : List (List ℕ)} {bests : List ℕ}
       → ViewOf old places listed heads cross keys bests → ViewOf new places listed heads cross keys bests
   kept-view {places} {listed} {heads} {cross} {keys} {bests} v =
@@ -252,7 +252,7 @@ module _ {old new : List ℕ} (kept : Kept old new) (r : Readable old) where
         keyed =
             record {
               square = v .keyed .square;
-              at = λ i o p q. v .keyed .at i o p q ∙ sym (kept-key (crosspointAt cross i o));
+              at = λ i o p q. v .keyed .at i o p q ∙ sym (kept-key kept (crosspointAt cross i o));
             };
         bests = kept-bests places bests (v .bests);
       }

@@ -23,9 +23,12 @@ module _ (n : ℕ) where
   uniform-at i o l m =
       ap (λ row. getD row o 0) (getD-replicate 16 i (replicate 16 n) [] l) ∙ getD-replicate 16 o n 0 m
 
-module _ (rows : List (List ℕ)) (square : Square rows) (i o n : ℕ) (row : i < 16) where
-  put-row : getD (put rows i o n) i [] ≡ set (getD rows i []) o n
-  put-row = getD-set-same rows i (set (getD rows i []) o n) [] (omega (arith, square .rows))
+module _ (rows : List (List ℕ)) (square : Square rows) (i o n : ℕ) where
+  row-same : i < 16 → getD (put rows i o n) i [] ≡ set (getD rows i []) o n
+  row-same row = getD-set-same rows i (set (getD rows i []) o n) [] (omega (arith, square .rows))
+
+  row-other : (j : ℕ) → j ≢ i → getD (put rows i o n) j [] ≡ getD rows j []
+  row-other j d = getD-set-other rows i j (set (getD rows i []) o n) [] d
 
   pub put-square : Square (put rows i o n)
   put-square =
@@ -35,35 +38,36 @@ module _ (rows : List (List ℕ)) (square : Square rows) (i o n : ℕ) (row : i 
       }
     where
       other : (j : ℕ) → j < 16 → j ≢ i → length (getD (put rows i o n) j []) ≡ 16
-      other j l d = ap length (getD-set-other rows i j (set (getD rows i []) o n) [] d) ∙ square .columns j l
+      other j l d = ap length (row-other j d) ∙ square .columns j l
 
       go : (j : ℕ) → j < 16 → Compared j i → length (getD (put rows i o n) j []) ≡ 16
       go j l (below d) = other j l (omega arith)
       go j l (equal d) =
           ap (λ j. length (getD (put rows i o n) j [])) d
-          ∙ ap length put-row
+          ∙ ap length (row-same (omega arith))
           ∙ length-set (getD rows i []) o n
-          ∙ square .columns i row
+          ∙ square .columns i (omega arith)
       go j l (above d) = other j l (omega arith)
 
-  pub put-same : o < 16 → crosspointAt (put rows i o n) i o ≡ n
+  pub put-same : i < 16 → o < 16 → crosspointAt (put rows i o n) i o ≡ n
   unfolding crosspointAt
-  put-same column =
-      ap (λ r. getD r o 0) put-row
+  put-same row column =
+      ap (λ r. getD r o 0) (row-same row)
       ∙ getD-set-same (getD rows i []) o n 0 (omega (arith, square .columns i row))
 
-  pub put-other : (j p : ℕ) → (j ≡ i → p ≡ o → ⊥) → crosspointAt (put rows i o n) j p ≡ crosspointAt rows j p
+  pub put-row : (j p : ℕ) → j ≢ i → crosspointAt (put rows i o n) j p ≡ crosspointAt rows j p
   unfolding crosspointAt
-  put-other j p d = go (compare j i)
-    where
-      else : j ≢ i → getD (getD (put rows i o n) j []) p 0 ≡ getD (getD rows j []) p 0
-      else d = ap (λ r. getD r p 0) (getD-set-other rows i j (set (getD rows i []) o n) [] d)
+  put-row j p d = ap (λ r. getD r p 0) (row-other j d)
 
+  pub put-other : i < 16 → (j p : ℕ) → (j ≡ i → p ≡ o → ⊥) → crosspointAt (put rows i o n) j p ≡ crosspointAt rows j p
+  unfolding crosspointAt
+  put-other row j p d = go (compare j i)
+    where
       go : Compared j i → getD (getD (put rows i o n) j []) p 0 ≡ getD (getD rows j []) p 0
-      go (below l) = else (omega arith)
+      go (below l) = put-row j p (omega arith)
       go (equal l) =
           ap (λ j. getD (getD (put rows i o n) j []) p 0) l
-          ∙ ap (λ r. getD r p 0) put-row
+          ∙ ap (λ r. getD r p 0) (row-same row)
           ∙ getD-set-other (getD rows i []) o p n 0 (d l)
           ∙ ap (λ j. getD (getD rows j []) p 0) (sym l)
-      go (above l) = else (omega arith)
+      go (above l) = put-row j p (omega arith)

@@ -112,6 +112,14 @@ module _ {A : Type 0} (w : ℕ → List A) where
 pub inTable-below : {table : List ℕ} (r : Readable table) {k : ℕ} → InTable table k → k < entryLimit
 inTable-below r t = omega (arith, t .input, r .ports)
 
+-- a number within a section is in the table
+pub inTable-section : {table : List ℕ} (r : Readable table) (i k : ℕ) → i < portsIn table → sectionRoom * i ≤ k
+    → k < sectionRoom * i + countIn table i → InTable table k
+inTable-section r i k port low high =
+    let few = r .counts i (omega (arith, r .ports)) in
+    let own : k / sectionRoom ≡ i = omega arith in
+    record { input = rw own port; position = rw own high }
+
 module _ (table places : List ℕ) where
   pub waitingAt-at : (k : ℕ) → waitingAt table places k .at ≡ k
   unfolding waitingAt

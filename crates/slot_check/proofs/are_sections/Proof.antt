@@ -2,9 +2,10 @@
 use Prim.Native.Nat.{_+_, _-_, _*_}
 use mathlib.Core.Path.{_≡_, refl, sym, _∙_}
 use native.Mathlib.Omega.{arith}
+use borrow.Author.Tests.{not-true, not-false}
 use borrow.Author.Needs.{needs}
 use Rattle.laws.specs.Lists.{all?, between}
-use Rattle.laws.proofs.Tests.{clash, not-e, not-false-e}
+use Rattle.laws.proofs.Tests.{clash}
 use Rattle.slot_check.specs.Code.{isSection, MarksBelow}
 use Rattle.slot_check.proofs.Handed.{Handing, handing-start, handing-next, handing-end}
 use Rattle.slot_check.proofs.Marks.{marks-clear, below-more}
@@ -55,7 +56,7 @@ returns c =
     let a = start (in-loop .before) .args in (
       each-stop (isSection (a .ports) (a .clock) (a .bytes .now)) (l .i) 16 _ (l .inv .0)
           (in-loop .loop-test .taken)
-          (sym (asked .is-section .ensures .0) ∙ not-e (asked .is-section .result .sound) (c .if1 .taken)),
+          (sym (asked .is-section .ensures .0) ∙ not-true (asked .is-section .result .sound) (c .if1 .taken)),
       λ t. absurd (clash t refl),
     )
 
@@ -96,7 +97,7 @@ loop-again c =
     let l = in-loop .before .loop in
     let a = start (in-loop .before) .args in
     let r = asked .is-section .result in
-    let sound = not-false-e (r .sound) (c .if1 .left) in (
+    let sound = not-false (r .sound) (c .if1 .left) in (
       each-next (isSection (a .ports) (a .clock) (a .bytes .now)) (l .i) 16 _ (l .inv .0)
           (in-loop .loop-test .taken) (sym (asked .is-section .ensures .0) ∙ sound),
       below-more _ _ _ (omega arith) (asked .is-section .ensures .1 .1),

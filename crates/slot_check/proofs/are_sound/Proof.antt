@@ -2,9 +2,10 @@
 use mathlib.Core.Bool.{true}
 use mathlib.Core.Path.{_≡_, sym, _∙_, ap}
 use native.Mathlib.Omega.{arith}
+use borrow.Author.Tests.{not-true, not-false}
 use borrow.Author.Needs.{needs}
 use Rattle.laws.specs.Lists.{all?, pairwise, between}
-use Rattle.laws.proofs.Tests.{clash, not-e, not-false-e}
+use Rattle.laws.proofs.Tests.{clash}
 use Rattle.model.specs.Sound.{together, otherSlot, otherCrosspoint}
 use Rattle.layout.specs.Code.{entriesBetween}
 use Rattle.layout_table.proofs.Places.{known-bytes}
@@ -23,7 +24,7 @@ module _ (c : tie.Else1) where
       all? (isEntry (a .ports) (a .clock) (a .bytes .now)) (between (a .first) (a .end)) ≡ true
   entries =
       let pass = c .before .before .collect in
-      sym (pass .ensures .0 .entries) ∙ not-false-e (pass .result .good) (c .if1 .left)
+      sym (pass .ensures .0 .entries) ∙ not-false (pass .result .good) (c .if1 .left)
 
   found-there : let a = start-of c .args in
       let pass = c .before .before .collect .result in
@@ -37,7 +38,7 @@ module _ (c : tie.Else1) where
       found (a .ports) (a .clock) (a .bytes .now) (known-bytes (a .bytes .now) (known .shared-slice-known .given))
       (pre .0 .0) (pre .0 .1) (a .first) (a .end) (pre .1 .0 .0) (pre .1 .1 .0) (pre .1 .1 .1) (pass .result .good)
       (pass .result .again) (pass .result .low) (pass .result .high) (pass .ensures .0)
-      (not-false-e (pass .result .good) (c .if1 .left))
+      (not-false (pass .result .good) (c .if1 .left))
 
 -- no two entries have one slot
 slots : (c : tie.After-slots-differ)
@@ -47,7 +48,7 @@ slots c =
     let pass = c .before .before .before .collect in
     c .slots-differ .ensures
     ∙ asked-if (pass .result .again) _
-    (pass .ensures .0 .slots (not-false-e (pass .result .good) (c .before .if1 .left)))
+    (pass .ensures .0 .slots (not-false (pass .result .good) (c .before .if1 .left)))
 
 -- no crosspoint holds two cells
 crosspoints : (c : tie.After-crosspoints-differ)
@@ -73,7 +74,7 @@ returns c =
     let a = then1 .before .before .before .before .before .args in (
       c .unsound .ensures
           ∙ unsound-entry (a .ports) (a .clock) (a .bytes .now) (a .first) (a .end)
-          (sym (pass .ensures .0 .entries) ∙ not-e (pass .result .good) (then1 .if1 .taken)),
+          (sym (pass .ensures .0 .entries) ∙ not-true (pass .result .good) (then1 .if1 .taken)),
       (λ t. absurd (clash t (c .unsound .ensures)), below-more _ _ _ (omega arith) (pass .ensures .1)),
     )
 
@@ -91,7 +92,7 @@ returns-2 c =
     let a = start-of else1 .args in (
       c .unsound2 .ensures
           ∙ unsound-slots (a .ports) (a .clock) (a .bytes .now) (a .first) (a .end)
-          (sym (slots asked) ∙ not-e (asked .slots-differ .result) (then2 .if2 .taken)),
+          (sym (slots asked) ∙ not-true (asked .slots-differ .result) (then2 .if2 .taken)),
       (
         λ t. absurd (clash t (c .unsound2 .ensures)),
         below-more _ _ _ (omega arith) (else1 .before .before .collect .ensures .1),
@@ -118,7 +119,7 @@ returns-3 c =
     let a = start-of else1 .args in (
       c .unsound3 .ensures
           ∙ unsound-crosspoints (a .ports) (a .clock) (a .bytes .now) (a .first) (a .end)
-          (sym (crosspoints asked) ∙ not-e (asked .crosspoints-differ .result) (then3 .if3 .taken)),
+          (sym (crosspoints asked) ∙ not-true (asked .crosspoints-differ .result) (then3 .if3 .taken)),
       (
         λ t. absurd (clash t (c .unsound3 .ensures)),
         below-more _ _ _ (omega arith) (else1 .before .before .collect .ensures .1),
@@ -158,8 +159,8 @@ returns-4 c =
           ∙ ap (λ s. together (entriesIn (a .bytes .now) (a .first) s)) (listed .minus2 .ensures)
           ∙ ap together (found-there else1 .listed)
           ∙ sound-flows (a .ports) (a .clock) (a .bytes .now) (a .first) (a .end) (entries else1)
-          (sym (slots asked) ∙ not-false-e (asked .slots-differ .result) (else2 .if2 .left))
-          (sym (crosspoints crossed) ∙ not-false-e (crossed .crosspoints-differ .result) (else3 .if3 .left)),
+          (sym (slots asked) ∙ not-false (asked .slots-differ .result) (else2 .if2 .left))
+          (sym (crosspoints crossed) ∙ not-false (crossed .crosspoints-differ .result) (else3 .if3 .left)),
       (
         λ _.
             rw (

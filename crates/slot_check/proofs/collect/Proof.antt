@@ -2,8 +2,8 @@
 use Prim.Native.Nat.{_^_, _<_}
 use mathlib.Core.Path.{sym, _∙_, ap}
 use native.Mathlib.Omega.{arith}
+use borrow.Author.Tests.{not-true, not-false}
 use borrow.Author.Needs.{needs}
-use Rattle.laws.proofs.Tests.{not-e, not-false-e}
 use Rattle.layout.specs.Number.{word}
 use Rattle.slot_check.proofs.Marks.{marked-below}
 use Rattle.slot_check.proofs.Collecting.{Collecting, collecting-start, collecting-end, collecting-room, collecting-stop, collecting-next}
@@ -48,7 +48,7 @@ returns c =
     let asked = c .before .in-reach in (
       collecting-stop (a .ports) (a .clock) (a .bytes .now) (a .from) (a .to) (a .mark) (l .marks)
           (known .shared-slice-known .given) (pre .0 .0) (pre .1 .0) (pre .0 .2) (l .again) (l .bits) (l .low) (l .high)
-          (l .k) (l .inv) (in-loop .loop-test .taken) (sym (asked .ensures) ∙ not-e (asked .result) (c .if1 .taken)),
+          (l .k) (l .inv) (in-loop .loop-test .taken) (sym (asked .ensures) ∙ not-true (asked .result) (c .if1 .taken)),
       marked-below (l .inv .marked),
     )
 
@@ -96,7 +96,7 @@ loop-again c =
     rw (c .before .push .ensures, c .push2 .ensures)
     (collecting-next (a .ports) (a .clock) (a .bytes .now) (a .from) (a .to) (a .mark) (l .marks) (l .again) (l .bits)
     (l .low) (l .high) (l .k) (l .inv) (in-loop .loop-test .taken)
-    (sym (asked .ensures) ∙ not-false-e (asked .result) (else1 .if1 .left)) (read .read-u32 .result)
+    (sym (asked .ensures) ∙ not-false (asked .result) (else1 .if1 .left)) (read .read-u32 .result)
     (read .read-u32 .ensures ∙ ap (word (a .bytes .now)) (start .start-of .ensures)) (byte .slot-byte-of .result)
     (byte .slot-byte-of .ensures) (omega arith) (place .place-of .result) (place .place-of .ensures .0))
 

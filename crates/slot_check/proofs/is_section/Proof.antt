@@ -2,8 +2,9 @@
 use Prim.Native.Nat.{_+_, _-_, _*_, _/_, _≤_}
 use mathlib.Core.Path.{_≡_, sym, _∙_}
 use native.Mathlib.Omega.{arith}
+use borrow.Author.Tests.{not-true, not-false}
 use borrow.Author.Needs.{needs}
-use Rattle.laws.proofs.Tests.{clash, not-e, not-false-e}
+use Rattle.laws.proofs.Tests.{clash}
 use Rattle.slot_check.proofs.Marks.{below-more}
 use Rattle.slot_check.proofs.Parts.{roomOf-le}
 use Rattle.slot_check.proofs.Sections.{section-full, section-used, section-sound}
@@ -62,7 +63,7 @@ returns-2 c =
     let a = start .args in (
       c .unsound2 .ensures
           ∙ section-used (a .ports) (a .clock) (a .bytes .now) (a .input) (count .count-of .ensures)
-          (sym (asked .ensures) ∙ not-e (asked .result) (then2 .if2 .taken)),
+          (sym (asked .ensures) ∙ not-true (asked .result) (then2 .if2 .taken)),
       (λ t. absurd (clash t (c .unsound2 .ensures)), below-more _ _ _ (omega arith) (start .pre .1)),
     )
 
@@ -95,7 +96,7 @@ returns-3 c =
       c .are-sound .ensures .0
           ∙ section-sound (a .ports) (a .clock) (a .bytes .now) (a .input) (count .count-of .ensures)
           (omega (arith, else1 .before .room .ensures, else1 .if1 .left))
-          (sym (asked .ensures) ∙ not-false-e (asked .result) (else2 .if2 .left)),
+          (sym (asked .ensures) ∙ not-false (asked .result) (else2 .if2 .left)),
       (
         λ t. rw (input, size, count .count-of .ensures) at (c .are-sound .ensures .1 .0 t),
         below-more _ _ _ (omega arith) (c .are-sound .ensures .1 .1),

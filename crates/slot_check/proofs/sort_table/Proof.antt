@@ -1,9 +1,10 @@
 -- Each rule in turn: one that is broken, or none.
 use mathlib.Core.Bool.{true, false}
 use mathlib.Core.Path.{_≡_, sym, _∙_, ap, ap₂}
+use borrow.Author.Tests.{not-true, not-false}
 use borrow.Author.Needs.{needs}
 use Rattle.laws.specs.Lists.{all?, between}
-use Rattle.laws.proofs.Tests.{clash, by-fail, same, not-e, not-false-e}
+use Rattle.laws.proofs.Tests.{clash, by-fail, same}
 use Rattle.cell.specs.Limits.{portsInRange}
 use Rattle.layout.specs.Entry.{clockIn}
 use Rattle.slot_check.specs.Code.{isSection}
@@ -40,7 +41,7 @@ returns-3 c =
     fails (else2 .before .before .before .before)
     (λ t.
     clash (ap portsInRange (c .before .before .read-u322 .ensures) ∙ t .ports)
-    (sym (c .before .ports-in-range .ensures) ∙ not-e (c .before .ports-in-range .result) (c .if3 .taken)))
+    (sym (c .before .ports-in-range .ensures) ∙ not-true (c .before .ports-in-range .result) (c .if3 .taken)))
 
 read-u32-requires-3 : tie.Need-read-u32-requires-3
 read-u32-requires-3 c κs = search needs
@@ -64,7 +65,7 @@ are-sections-requires c κs =
       (
         ports .before .before .before .if1 .left,
         portsInRange-e (ports .read-u322 .result)
-            (sym (asked .ensures) ∙ not-false-e (asked .result) (else3 .if3 .left)),
+            (sym (asked .ensures) ∙ not-false (asked .result) (else3 .if3 .left)),
       ),
       (
         arg1 .are-sections-arg .given .0 .1,
@@ -101,7 +102,7 @@ returns-5 c =
             ports =
                 ap portsInRange (sym (ports .read-u322 .ensures))
                 ∙ sym (asked .ensures)
-                ∙ not-false-e (asked .result) (else3 .if3 .left);
+                ∙ not-false (asked .result) (else3 .if3 .left);
             zeros = sym (zeros .read-u323 .ensures) ∙ else4 .if4 .left;
             sections = sym whole ∙ t;
           }))

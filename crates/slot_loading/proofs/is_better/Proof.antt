@@ -6,7 +6,7 @@ use lib.Dec.{ltb}
 use Rattle.layout.specs.Table.{entryLimit}
 use Rattle.slot_view.proofs.Own.{table-readable}
 use Rattle.slot_view.proofs.Window.{inTable-below}
-use Rattle.slot_loading.proofs.Crossing.{keyAt-cell}
+use Rattle.slot_view.proofs.Keys.{keyAt-cell}
 use Rattle.slot_loading.proofs.Buffers.{key-held, better-order, better-key}
 use Rattle.slot_loading.proofs.is_better.Statement.{statement}
 use Rattle.slot_loading.proofs.is_better.Tie as tie

@@ -1,9 +1,10 @@
 -- The cell moves to its crosspoint; for no cell nothing changes.
 use Prim.Native.Nat.{_/_}
 use native.Mathlib.Omega.{arith}
-use mathlib.Core.Path.{_∙_, ap, ap₂}
+use mathlib.Core.Path.{sym, _∙_, ap, ap₂}
 use Rattle.slot_moves.specs.CodeMoves.{put}
-use Rattle.slot_moves.proofs.Steps.{crossed-none, keyAt-some}
+use Rattle.slot_view.proofs.Keys.{keyAt-cell}
+use Rattle.slot_moves.proofs.Steps.{crossed-none}
 use borrow.Author.Needs.{needs}
 use Rattle.slot_moves.proofs.send.Statement.{statement}
 use Rattle.slot_moves.proofs.send.Tie as tie
@@ -60,7 +61,7 @@ returns-2 c =
     let test = behind-test left in
     let a = test .before .before .args in
     let goes = output .output-of .ensures in
-    let key = keyed .key-of .ensures ∙ keyAt-some (a .table .now) (a .number) (test .if1 .left) in
+    let key = keyed .key-of .ensures ∙ sym (keyAt-cell (a .table .now) (a .number) (test .if1 .left)) in
     record {
       to-crosspoint = placed .write-place .ensures;
       left-list = left .leave-list .ensures .0;

@@ -1,6 +1,6 @@
 -- Where no cell is urgent there is no candidate, and nothing is found.
+use borrow.Author.Tests.{not-true}
 use borrow.Author.Needs.{needs}
-use Rattle.laws.proofs.Tests.{not-e}
 use Rattle.slot_course.proofs.Unmatched.{found-none}
 use Rattle.slot_course.proofs.phase.matching_of.Statement.{statement}
 use Rattle.slot_course.proofs.phase.matching_of.Tie as tie
@@ -8,7 +8,7 @@ use Rattle.slot_course.proofs.phase.matching_of.Tie as tie
 returns : tie.Need-returns
 returns c =
     let start = c .before .before in
-    found-none _ _ (start .pre .1 (not-e (start .args .urgent) (c .if1 .taken)))
+    found-none _ _ (start .pre .1 (not-true (start .args .urgent) (c .if1 .taken)))
 
 find-matching-requires : tie.Need-find-matching-requires
 find-matching-requires c κs = search needs
