@@ -13,10 +13,7 @@ cast-result c = search needs
 
 returns : tie.Need-returns
 returns c =
-    let test = c .before in
-    let a = test .before .before .before .before .before .args in
-    slot-tally (a .table .now) (a .arrivals .now) (a .answer .now) (a .tally .now) (test .if1 .taken)
-    (c .number .result) (c .number .ensures)
+    slot-tally _ _ _ _ (c .before .if1 .taken) _ (c .number .ensures)
 
 slot-requires : tie.Need-slot-requires
 slot-requires c κs = search needs
@@ -38,9 +35,7 @@ returns-2 c =
     let given-back = c .before .before .before .before .before in
     let called = given-back .before .before in
     let test = called .before .before .before .before in
-    let a = test .before .before .before .before .before .args in
-    slot-called (a .table .now) (a .arrivals .now) (a .answer .now) (a .tally .now) (test .if1 .left)
-    (called .slot .result) _ _ _ (called .slot .ensures) (c .result-of .result) (c .result-of .ensures)
+    slot-called _ _ _ _ (test .if1 .left) _ _ _ _ (called .slot .ensures) _ (c .result-of .ensures)
 
 pub slot-spec : {M : Type 1} → statement M
 slot-spec =

@@ -20,10 +20,8 @@ abbrev μ-loop : tie.MeasureT-loop
 -- the sets have room for one position more
 room : (c : tie.In-loop Inv-loop μ-loop) → (c .before .loop .low < 2 ^ 63) × (c .before .loop .high < 2 ^ 63)
 room c =
-    let a = c .before .before .before .args in
     let l = c .before .loop in
-    collecting-room (a .ports) (a .clock) (a .bytes .now) (a .from) (a .to) (a .mark) (l .marks) (l .again) (l .bits)
-    (l .low) (l .high) (l .k) (l .inv) (c .loop-test .taken) (c .before .before .before .pre .0 .3)
+    collecting-room _ _ _ _ _ _ _ _ _ _ _ _ (l .inv) (c .loop-test .taken) (c .before .before .before .pre .0 .3)
 
 loop-holds : tie.Need-loop-holds Inv-loop μ-loop
 loop-holds c =
@@ -42,13 +40,11 @@ returns : tie.Need-returns Inv-loop μ-loop
 returns c =
     let in-loop = c .before .before in
     let known = in-loop .before .before in
-    let a = known .before .args in
     let pre = known .before .pre in
     let l = in-loop .before .loop in
     let asked = c .before .in-reach in (
-      collecting-stop (a .ports) (a .clock) (a .bytes .now) (a .from) (a .to) (a .mark) (l .marks)
-          (known .shared-slice-known .given) (pre .0 .0) (pre .1 .0) (pre .0 .2) (l .again) (l .bits) (l .low) (l .high)
-          (l .k) (l .inv) (in-loop .loop-test .taken) (sym (asked .ensures) ∙ not-true (asked .result) (c .if1 .taken)),
+      collecting-stop _ _ _ _ _ _ _ (known .shared-slice-known .given) (pre .0 .0) (pre .1 .0) (pre .0 .2) _ _ _ _ _ (l .inv)
+          (in-loop .loop-test .taken) (sym (asked .ensures) ∙ not-true (asked .result) (c .if1 .taken)),
       marked-below (l .inv .marked),
     )
 
@@ -94,8 +90,7 @@ loop-again c =
     let a = in-loop .before .before .before .args in
     let l = in-loop .before .loop in
     rw (c .before .push .ensures, c .push2 .ensures)
-    (collecting-next (a .ports) (a .clock) (a .bytes .now) (a .from) (a .to) (a .mark) (l .marks) (l .again) (l .bits)
-    (l .low) (l .high) (l .k) (l .inv) (in-loop .loop-test .taken)
+    (collecting-next _ _ _ _ _ _ _ _ _ _ _ _ (l .inv) (in-loop .loop-test .taken)
     (sym (asked .ensures) ∙ not-false (asked .result) (else1 .if1 .left)) (read .read-u32 .result)
     (read .read-u32 .ensures ∙ ap (word (a .bytes .now)) (start .start-of .ensures)) (byte .slot-byte-of .result)
     (byte .slot-byte-of .ensures) (omega arith) (place .place-of .result) (place .place-of .ensures .0))
@@ -114,13 +109,11 @@ returns-2 c =
     let either = c .before in
     let after = either .before in
     let known = after .before .before in
-    let a = known .before .args in
     let pre = known .before .pre in
     let l = after .before .loop in (
       rw (c .size .ensures, either .either .ensures)
-          (collecting-end (a .ports) (a .clock) (a .bytes .now) (a .from) (a .to) (a .mark) (l .marks)
-          (known .shared-slice-known .given) (pre .0 .0) (pre .1 .0) (pre .0 .2) (l .again) (l .bits) (l .low) (l .high)
-          (l .k) (l .inv) (pre .0 .3) (after .loop-test .left)),
+          (collecting-end _ _ _ _ _ _ _ (known .shared-slice-known .given) (pre .0 .0) (pre .1 .0) (pre .0 .2) _ _ _ _ _ (l .inv)
+          (pre .0 .3) (after .loop-test .left)),
       marked-below (l .inv .marked),
     )
 

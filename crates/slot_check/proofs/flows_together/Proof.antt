@@ -48,10 +48,8 @@ module _ (c : tie.In-loop Inv-loop μ-loop) where
   this : let a = c .before .before .before .args in
       Good (a .first) (entryAt (a .bytes .now) (a .first + firstOf (c .before .loop .left)))
   this =
-      let a = c .before .before .before .args in
       let l = c .before .loop in
-      this-good (a .bytes .now) (a .first) (a .listed) (a .mark) (l .marks) (l .broken) (l .heads) (l .last) (l .last-key)
-      (l .left) (l .inv) some good
+      this-good _ _ _ _ _ _ _ _ _ _ (l .inv) some good
 
 loop-holds : tie.Need-loop-holds Inv-loop μ-loop
 loop-holds c =
@@ -69,7 +67,6 @@ add-k c = omega (arith, position (c .before), c .first .ensures)
 flow-number-requires : tie.Need-flow-number-requires Inv-loop μ-loop
 flow-number-requires c κs =
     let start = c .before .before .before .before in
-    let a = start .args in
     let ranges = inRange-e _ (this (c .before) .range) in (
       (start .pre .0 .0, omega (arith, position (c .before), c .first .ensures)),
       rw (c .first .ensures) ranges,
@@ -119,19 +116,15 @@ loop-again c =
     let first : keyed .key-of .result ≡ key (entryAt (a .bytes .now) (a .first + firstOf (l .left)) .cell) =
     keyed .key-of .ensures ∙ ap (λ j. key (entryAt (a .bytes .now) (a .first + j) .cell)) (at .first .ensures) in
     rw (broken .breaks-flow .ensures, c .before .with-if .ensures, at .first .ensures, c .rest .ensures)
-    (flows-next (a .bytes .now) (a .first) (a .listed) (a .mark) (l .marks) (l .broken) (l .heads) (l .last) (l .last-key)
-    (l .left) (l .inv) (some in-loop) (good in-loop) (number .flow-number .result) (keyed .key-of .result) flow
-    (number .flow-number .ensures .1) first)
+    (flows-next _ _ _ _ _ _ _ _ _ _ (l .inv) (some in-loop) (good in-loop) (number .flow-number .result)
+    (keyed .key-of .result) flow (number .flow-number .ensures .1) first)
 
 returns : tie.Need-returns Inv-loop μ-loop
 returns c =
-    let a = c .before .before .before .args in
     let l = c .before .loop in (
-      flows-end (a .bytes .now) (a .first) (a .listed) (a .mark) (l .marks) (l .broken) (l .heads) (l .last) (l .last-key)
-          (l .left) (l .inv) (c .loop-test .left),
+      flows-end _ _ _ _ _ _ _ _ _ _ (l .inv) (c .loop-test .left),
       (
-        flows-heads (a .bytes .now) (a .first) (a .listed) (a .mark) (l .marks) (l .broken) (l .heads) (l .last)
-            (l .last-key) (l .left) (l .inv) (c .loop-test .left),
+        flows-heads _ _ _ _ _ _ _ _ _ _ (l .inv) (c .loop-test .left),
         marked-below (l .inv .marked),
       ),
     )

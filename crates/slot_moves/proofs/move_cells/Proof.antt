@@ -13,7 +13,10 @@ abbrev before-straight : tie.After-held → tie.Start
 before-straight c = let lent = c .before .before .before .before .before in lent .before .before .before .before
 
 abbrev before-sending : tie.After-inputs2 → tie.After-go-straight
-before-sending c = let lent = c .before .before .before .before .before in let marked = lent .before .before .before .before in marked .before .before .before
+before-sending c =
+    let lent = c .before .before .before .before .before in
+    let marks = lent .before .before .before .before in
+    marks .before .before .before
 
 abbrev before-pulling : tie.After-outputs2 → tie.After-send-scheduled
 before-pulling c = let lent = c .before .before .before .before .before in lent .before .before .before
