@@ -31,7 +31,7 @@ use Rattle.model.specs.Sound.{together}
 use Rattle.layout.specs.Entry.{entryAt}
 use Rattle.layout.specs.Table.{tableSize, entryLimit}
 use Rattle.layout.specs.Code.{recordStart}
-use Rattle.slot_check.specs.Code.{inRange, entriesIn, breaksFlow, MarksBelow, isHead, headsIn}
+use Rattle.slot_check.specs.Code.{inRange, entriesIn, breaksFlow, MarksBelow, isFirstOfFlow, headsIn}
 use Rattle.layout_table.specs.CodeEntries.{flowNumber}
 use Rattle.slot_check.specs.Handed.{isFirst}
 use Rattle.layout.proofs.Records.{entryAt-input, entryAt-slot}
@@ -197,9 +197,9 @@ passed-none q set passed left v some =
 pub heads-set : (bs : List ℕ) (first n : ℕ) → n ≤ sectionRoom → _≡_ {A = ℕ} (first % sectionRoom) 0
     → headsIn bs first (setFrom (λ k. isListed (entryAt bs k .place)) first n)
     ≡ setFrom (isFirst bs (first / sectionRoom)) first n
-unfolding headsIn isFirst isHead between upTo
+unfolding headsIn isFirst isFirstOfFlow between upTo
 heads-set bs first n few start =
-    sym (setOf-is (isHead bs first listed) (setFrom (isFirst bs (first / sectionRoom)) first n)
+    sym (setOf-is (isFirstOfFlow bs first listed) (setFrom (isFirst bs (first / sectionRoom)) first n)
     (setFrom-fits (isFirst bs (first / sectionRoom)) first n few)
     (λ j h. has-setFrom (isFirst bs (first / sectionRoom)) first n j
     ∙ split (ltb j n) (isIn (first + j)) _ _ (λ t. front j (ltb-true j n t))
@@ -250,14 +250,14 @@ pub record Flows (bs : List ℕ) (first set mark : ℕ) (marks : List ℕ) (brok
   pub visited : Visited set passed left
   pub stand : not broken ≡ together (entriesAt bs first passed)
   pub few : heads < 2 ^ positions
-  pub gathered : (j : ℕ) → j < positions → has heads j ≡ (not (has left j) && isHead bs first set j)
+  pub gathered : (j : ℕ) → j < positions → has heads j ≡ (not (has left j) && isFirstOfFlow bs first set j)
   pub marked : Marked mark marks (λ n. some? (flowIs n) (entriesAt bs first passed))
   pub ends : Ends (entriesAt bs first passed) flow number
 
 module _ (bs : List ℕ) (first chosen mark : ℕ) (marks : List ℕ) where
   pub flows-start : chosen < 2 ^ positions → MarksBelow mark marks → (number : ℕ)
       → Flows bs first chosen mark marks false 0 128 number chosen
-  unfolding together some? isHead
+  unfolding together some? isFirstOfFlow
   flows-start fits below number =
       record {
         passed = [];
@@ -282,9 +282,9 @@ module _ (bs : List ℕ) (first chosen mark : ℕ) (marks : List ℕ) where
     pub flows-heads : left ≡ 0 → heads ≡ headsIn bs first chosen
     unfolding headsIn
     flows-heads done =
-        setOf-is (isHead bs first chosen) heads (w .few)
+        setOf-is (isFirstOfFlow bs first chosen) heads (w .few)
         (λ j h. w .gathered j h
-        ∙ ap (λ b. not b && isHead bs first chosen j)
+        ∙ ap (λ b. not b && isFirstOfFlow bs first chosen j)
         (ap (λ s. has s j) done ∙ has-past 0 0 j (omega arith) (omega arith)))
 
     -- the entry at hand
@@ -358,8 +358,8 @@ module _ (bs : List ℕ) (first chosen mark : ℕ) (marks : List ℕ) where
                 ∙ ap (λ l. together l && joins f this l) (sym is-last))
 
         -- it is a head unless its flow was met
-        head : isHead bs first chosen (firstOf left) ≡ not (eqb (getD marks n 0) mark)
-        unfolding isHead
+        head : isFirstOfFlow bs first chosen (firstOf left) ≡ not (eqb (getD marks n 0) mark)
+        unfolding isFirstOfFlow
         head =
             ap (λ b. b && none? (λ a. has chosen a && ofFlow (entryAt bs (first + a)) this) (upTo (firstOf left)))
             (in-members chosen (visited-member (w .visited) some) .1)
@@ -368,17 +368,17 @@ module _ (bs : List ℕ) (first chosen mark : ℕ) (marks : List ℕ) where
             ∙ none?-not-some? (λ x. ofFlow x this) before
             ∙ ap not (sym met)
 
-        heads-next : (new : Bool) → isHead bs first chosen (firstOf left) ≡ new → (j : ℕ) → j < positions
+        heads-next : (new : Bool) → isFirstOfFlow bs first chosen (firstOf left) ≡ new → (j : ℕ) → j < positions
             → has (cond new (withOne heads (firstOf left)) heads) j
-            ≡ (not (has (restOf left) j) && isHead bs first chosen j)
+            ≡ (not (has (restOf left) j) && isFirstOfFlow bs first chosen j)
         unfolding restOf
         heads-next new is-head j h =
             with-if new
             ∙ ap (λ b. b || (eqb j (firstOf left) && new)) (w .gathered j h)
-            ∙ go (eqb j (firstOf left)) (has left j) (isHead bs first chosen j) new
+            ∙ go (eqb j (firstOf left)) (has left j) (isFirstOfFlow bs first chosen j) new
             (λ t. ap (has left) (eqb-true j (firstOf left) t) ∙ first-member left some (w .visited .fits))
-            (λ t. ap (isHead bs first chosen) (eqb-true j (firstOf left) t) ∙ is-head)
-            ∙ ap (λ b. not b && isHead bs first chosen j) (sym (has-withoutOne left (firstOf left) j h))
+            (λ t. ap (isFirstOfFlow bs first chosen) (eqb-true j (firstOf left) t) ∙ is-head)
+            ∙ ap (λ b. not b && isFirstOfFlow bs first chosen j) (sym (has-withoutOne left (firstOf left) j h))
           where
             with-if : (b : Bool)
                 → has (cond b (withOne heads (firstOf left)) heads) j ≡ (has heads j || (eqb j (firstOf left) && b))

@@ -104,10 +104,10 @@ pub record Sorts (bs : List ℕ) (input n listed heads crossed buffered : ℕ) :
   pub buffered-is : buffered ≡ setFrom (λ k. isBuffered (entryAt bs k .place)) (sectionRoom * input) n
 
 -- of the entries at a set of positions of a section: one that none of its flow stands before
-unfoldable pub isHead : List ℕ → ℕ → ℕ → ℕ → Bool
-isHead bs first set j =
+unfoldable pub isFirstOfFlow : List ℕ → ℕ → ℕ → ℕ → Bool
+isFirstOfFlow bs first set j =
     has set j
     && none? (λ a. has set a && sameFlow (entryAt bs (first + a) .cell) (entryAt bs (first + j) .cell)) (upTo j)
 
 unfoldable pub headsIn : List ℕ → ℕ → ℕ → ℕ
-headsIn bs first set = setOf (isHead bs first set)
+headsIn bs first set = setOf (isFirstOfFlow bs first set)

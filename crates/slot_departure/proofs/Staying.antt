@@ -29,7 +29,7 @@ use Rattle.layout.specs.Table.{sectionBytes, entryLimit}
 use Rattle.layout.specs.Entry.{entryAt, countIn}
 use Rattle.layout.specs.Code.{recordStart, recordAt, put}
 use Rattle.layout.proofs.Table.{length-entryBytes, length-entriesBytes, entriesBytes-append}
-use Rattle.slot_departure.specs.Code.{waitsAt, stays, staying, freeAfter, closedOne, cleared, Removable, removed}
+use Rattle.slot_departure.specs.Code.{waitsAt, stays, staying, freeAfter, closedOne, clearedFrom, Removable, removed}
 use Rattle.layout.proofs.Put.{put-next, drop-put, length-put}
 use Rattle.layout_table.specs.CodeEntries.{nowhere}
 
@@ -44,14 +44,14 @@ zero-words = refl
 put-nil : (at : ℕ) (old : List ℕ) → take at old ++ ([] ++ drop (at + 0) old) ≡ old
 put-nil at old = ap (λ n. take at old ++ drop n old) (add-zero at) ∙ take-append-drop at old
 
-pub cleared-none : (table : List ℕ) (first : ℕ) → cleared table first 0 ≡ table
-unfolding cleared
+pub cleared-none : (table : List ℕ) (first : ℕ) → clearedFrom table first 0 ≡ table
+unfolding clearedFrom
 cleared-none table first = put-nil (recordStart first) table
 
 pub cleared-more : (table mid new : List ℕ) (first n : ℕ) → recordStart (first + n) + 16 ≤ length table
-    → mid ≡ cleared table first n → new ≡ put (recordStart (first + n)) 16 (replicate 16 0) mid
-    → new ≡ cleared table first (n + 1)
-unfolding cleared
+    → mid ≡ clearedFrom table first n → new ≡ put (recordStart (first + n)) 16 (replicate 16 0) mid
+    → new ≡ clearedFrom table first (n + 1)
+unfolding clearedFrom
 cleared-more table mid new first n room one two =
     let at : recordStart (first + n) ≡ recordStart first + entrySize * n = omega arith in
     let more : entrySize * n + 16 ≡ entrySize * (n + 1) = omega arith in
@@ -351,11 +351,11 @@ module _ (table numbers : List ℕ) {input from : ℕ} (r : Removable table numb
     pub closed-high : free ≤ sectionRoom * input + countIn table input
     closed-high = omega (arith, free-is, length-staying table numbers start entries)
 
-    closed-cleared : (new : List ℕ) → new ≡ cleared mid free (start + entries - free)
+    closed-cleared : (new : List ℕ) → new ≡ clearedFrom mid free (start + entries - free)
         → new
         ≡ put (recordStart start) (entrySize * entries)
         (entriesBytes left ++ replicate (entrySize * (entries - length left)) 0) table
-    unfolding cleared
+    unfolding clearedFrom
     closed-cleared new e =
         let m : ℕ = entries - length left in
         let few : length left ≤ entries = length-staying table numbers start entries in
@@ -372,7 +372,7 @@ module _ (table numbers : List ℕ) {input from : ℕ} (r : Removable table numb
         ∙ ap (λ w. put (recordStart start) w (entriesBytes left ++ replicate (entrySize * m) 0) table) whole
 
     -- with zeros up to the next section the bytes are the section's
-    pub removed-section : (new : List ℕ) → new ≡ cleared mid free (sectionRoom * input + countIn table input - free)
+    pub removed-section : (new : List ℕ) → new ≡ clearedFrom mid free (sectionRoom * input + countIn table input - free)
         → set new (16 + input) (free - sectionRoom * input) ≡ removed table numbers input
     unfolding removed sectionBytes
     removed-section new e =
@@ -402,4 +402,4 @@ module _ (table numbers : List ℕ) {input from : ℕ} (r : Removable table numb
       sym (set-getD table (16 + input) 0)
       ∙ ap (set table (16 + input)) (sym count)
       ∙ removed-section (closing-all table numbers r h) table
-      (sym (ap (cleared table end) none ∙ cleared-none table end))
+      (sym (ap (clearedFrom table end) none ∙ cleared-none table end))

@@ -75,8 +75,8 @@ closedOne table numbers k free =
     table
 
 -- n records are cleared
-unfoldable pub cleared : List ℕ → ℕ → ℕ → List ℕ
-cleared table first n =
+unfoldable pub clearedFrom : List ℕ → ℕ → ℕ → List ℕ
+clearedFrom table first n =
     take (recordStart first) table
     ++ (replicate (entrySize * n) 0 ++ drop (recordStart first + entrySize * n) table)
 

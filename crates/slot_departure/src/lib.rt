@@ -19,7 +19,7 @@ ghost use Rattle.layout.specs.Entry.{entryAt};
 ghost use Rattle.slot_view.specs.CodeView.{placesIn};
 ghost use Rattle.slot_view.specs.CodeViewed.{BestBuffered};
 ghost use Rattle.slot_departure.specs.Code.{departed, departureAt, Firsts, freeAfter, closedOne};
-ghost use Rattle.slot_departure.specs.Code.{cleared, Removable, removed};
+ghost use Rattle.slot_departure.specs.Code.{clearedFrom, Removable, removed};
 
 // Fills the departures of the answer, and takes the cells that leave out of the table. `best` has the best buffered
 // cell of each output.
@@ -147,7 +147,7 @@ fn close_one(table: &mut [u8], best: &[u16; PORTS], k: usize, free: usize) -> us
 // Clears the records from one up to another.
 fn clear(table: &mut [u8], from: usize, to: usize)
     requires { ⌜ (length (now table) ≡ tableSize) × (from ≤ to) × (to ≤ entryLimit) ⌝ }
-    ensures { λ _. ⌜ now (table .exit) ≡ cleared (now (table .entry)) from (to - from) ⌝ }
+    ensures { λ _. ⌜ now (table .exit) ≡ clearedFrom (now (table .entry)) from (to - from) ⌝ }
 {
     let mut k = from;
     while k < to {

@@ -24,12 +24,12 @@ use Rattle.layout.specs.Entry.{entryAt}
 use Rattle.layout.specs.Table.{placeOf, IsTable, entryLimit}
 use Rattle.layout.specs.Code.{portsIn}
 use Rattle.layout_table.specs.CodeEntries.{nowhere}
-use Rattle.slot_view.specs.CodeView.{waitingAt, waitingIn, InTable, crosspointAt, placesIn}
+use Rattle.slot_view.specs.CodeView.{waitingAt, waitingIn, InTable, crosspointAt, crossWith, placesIn}
 use Rattle.slot_view.specs.CodeScan.{Readable}
 use Rattle.slot_view.specs.CodeViewed.{noKey, keyAt, crossedSet}
 use Rattle.slot_view.proofs.Keys.{keyAt-cell, keyAt-none}
 use Rattle.slot_view.proofs.Own.{table-readable, waitingIn-single}
-use Rattle.slot_view.proofs.Squares.{put, put-square, put-same, put-other, uniform-square, uniform-at}
+use Rattle.slot_view.proofs.Squares.{square-with, cross-same, cross-other, uniform-square, uniform-at}
 use Rattle.slot_view.proofs.Window.{inTable-i, inTable-below, waitingAt-input}
 use Rattle.slot_loading.specs.Code.{Crossed, CrossedBelow}
 use Rattle.slot_loading.proofs.Walk.{Passing, passing-start, passing-end, passing-this, passing-below, passing-next}
@@ -123,20 +123,20 @@ module _ (table : List ℕ) (good : IsTable table) where
         go (equal l) (equal d) = here l d
 
     new : List (List ℕ)
-    new = put cross input output k
+    new = crossWith cross input output k
 
     new-keys : List (List ℕ)
-    new-keys = put keys output input number
+    new-keys = crossWith keys output input number
 
-    pub crossed-put : CrossedBelow table (placesIn table) (k + 1) (put cross (k / sectionRoom) output k)
-        (put keys output (k / sectionRoom) number)
+    pub crossed-put : CrossedBelow table (placesIn table) (k + 1) (crossWith cross (k / sectionRoom) output k)
+        (crossWith keys output (k / sectionRoom) number)
     unfolding input new new-keys crosspointAt
     crossed-put =
         record {
-          square = put-square cross (c .square) input output k;
+          square = square-with cross (c .square) input output k;
           keyed =
               record {
-                square = put-square keys (c .keyed .square) output input number;
+                square = square-with keys (c .keyed .square) output input number;
                 at = λ i o li lo. keyed i o li lo (at i o);
               };
           filled = λ j l g. filled j l g (compare j k);
@@ -146,25 +146,25 @@ module _ (table : List ℕ) (good : IsTable table) where
         keyed : (i o : ℕ) → i < 16 → o < 16 → At i o → crosspointAt new-keys o i ≡ keyAt table (crosspointAt new i o)
         keyed i o li lo (here p q) =
             ap₂ (λ i o. crosspointAt new-keys o i) p q
-            ∙ put-same keys (c .keyed .square) output input number column port
+            ∙ cross-same keys (c .keyed .square) output input number column port
             ∙ named
             ∙ sym (keyAt-cell table k small)
-            ∙ ap (keyAt table) (sym (put-same cross (c .square) input output k port column))
+            ∙ ap (keyAt table) (sym (cross-same cross (c .square) input output k port column))
             ∙ ap₂ (λ i o. keyAt table (crosspointAt new i o)) (sym p) (sym q)
         keyed i o li lo (elsewhere d) =
-            put-other keys (c .keyed .square) output input number column o i (λ q p. d p q)
+            cross-other keys (c .keyed .square) output input number o i column (λ q p. d p q)
             ∙ c .keyed .at i o li lo
-            ∙ ap (keyAt table) (sym (put-other cross (c .square) input output k port i o d))
+            ∙ ap (keyAt table) (sym (cross-other cross (c .square) input output k i o port d))
 
         filled : (j : ℕ) → j < k + 1 → Crossed table (placesIn table) j → Compared j k
             → crosspointAt new (j / sectionRoom) (entryAt table j .cell .output) ≡ j
         filled j l g (below d) =
-            put-other cross (c .square) input output k port (j / sectionRoom) (entryAt table j .cell .output)
+            cross-other cross (c .square) input output k (j / sectionRoom) (entryAt table j .cell .output) port
             (λ p q. omega (arith, crossed-once j k g h p (q ∙ own)))
             ∙ c .filled j d g
         filled j l g (equal d) =
             ap₂ (crosspointAt new) (ap (λ n. n / sectionRoom) d) (ap (λ n. entryAt table n .cell .output) d ∙ sym own)
-            ∙ put-same cross (c .square) input output k port column
+            ∙ cross-same cross (c .square) input output k port column
             ∙ sym d
         filled j l g (above d) = absurd (omega arith)
 
@@ -175,10 +175,10 @@ module _ (table : List ℕ) (good : IsTable table) where
         real : (i o : ℕ) → i < 16 → o < 16 → At i o → crosspointAt new i o < entryLimit → Real i o (crosspointAt new i o)
         real i o li lo (here p q) l =
             subst (Real i o)
-            (sym (ap₂ (crosspointAt new) p q ∙ put-same cross (c .square) input output k port column))
+            (sym (ap₂ (crosspointAt new) p q ∙ cross-same cross (c .square) input output k port column))
             (h, sym p, sym own ∙ sym q)
         real i o li lo (elsewhere d) l =
-            let kept = put-other cross (c .square) input output k port i o d in
+            let kept = cross-other cross (c .square) input output k i o port d in
             subst (Real i o) (sym kept) (c .real i o li lo (subst (λ n. n < entryLimit) kept l))
 
 ------------------------------------------------------------------------

@@ -15,10 +15,10 @@ use Rattle.model.specs.State.{isCrossed}
 use Rattle.layout.specs.Entry.{entryAt}
 use Rattle.layout.specs.Table.{placeOf, entryOf, entryLimit}
 use Rattle.layout_table.specs.CodeEntries.{nowhere}
-use Rattle.slot_view.specs.CodeView.{waitingAt, crosspointAt, InTable, Agrees, Square}
+use Rattle.slot_view.specs.CodeView.{crossWith, waitingAt, crosspointAt, InTable, Agrees, Square}
 use Rattle.slot_view.specs.CodeScan.{Readable}
-use Rattle.slot_moves.specs.CodeMoves.{written, put, sending, pulling}
-use Rattle.slot_view.proofs.Squares as squares
+use Rattle.slot_moves.specs.CodeMoves.{written, sending, pulling}
+use Rattle.slot_view.proofs.Squares.{square-with, cross-same, cross-row, cross-other}
 use Rattle.slot_view.proofs.Window.{inTable-e, inTable-i, inTable-below}
 use Rattle.slot_moves.proofs.Written.{hit, hit-miss, length-written, written-hit, written-miss}
 
@@ -33,33 +33,17 @@ crossedAt places k = isCrossed (placeOf (getD places k 0))
 -- a crosspoint after a write
 
 module _ (cross : List (List ℕ)) (square : Square cross) where
-  pub put-same : (i o k : ℕ) → i < 16 → o < 16 → crosspointAt (put cross i o k) i o ≡ k
-  unfolding put
-  put-same i o k = squares.put-same cross square i o k
-
-  pub put-row : (i o k j p : ℕ) → j ≢ i → crosspointAt (put cross i o k) j p ≡ crosspointAt cross j p
-  unfolding put
-  put-row i o k = squares.put-row cross square i o k
-
-  pub put-other : (i o k j p : ℕ) → i < 16 → (j ≡ i → p ≡ o → ⊥) → crosspointAt (put cross i o k) j p ≡ crosspointAt cross j p
-  unfolding put
-  put-other i o k j p row = squares.put-other cross square i o k row j p
-
-  pub put-column : (i o k j p : ℕ) → i < 16 → p ≢ o → crosspointAt (put cross i o k) j p ≡ crosspointAt cross j p
-  put-column i o k j p row d = put-other i o k j p row (λ _. d)
-
-  pub square-put : (i o k : ℕ) → Square (put cross i o k)
-  unfolding put
-  square-put i o k = squares.put-square cross square i o k
+  pub cross-column : (i o k j p : ℕ) → i < 16 → p ≢ o → crosspointAt (crossWith cross i o k) j p ≡ crosspointAt cross j p
+  cross-column i o k j p row d = cross-other cross square i o k j p row (λ _. d)
 
   -- a number that no entry has changes nothing
-  pub put-nowhere : (i o k : ℕ) → 16 ≤ i → put cross i o k ≡ cross
-  unfolding put
-  put-nowhere i o k h = set-out cross i (set (getD cross i []) o k) (let s = square .rows in omega arith)
+  pub cross-nowhere : (i o k : ℕ) → 16 ≤ i → crossWith cross i o k ≡ cross
+  unfolding crossWith
+  cross-nowhere i o k h = set-out cross i (set (getD cross i []) o k) (let s = square .rows in omega arith)
 
-  pub put-past : (i o k : ℕ) → 16 ≤ o → put cross i o k ≡ cross
-  unfolding put
-  put-past i o k h = go (either (ltb i 16))
+  pub cross-past : (i o k : ℕ) → 16 ≤ o → crossWith cross i o k ≡ cross
+  unfolding crossWith
+  cross-past i o k h = go (either (ltb i 16))
     where
       go : (ltb i 16 ≡ true) ⊎ (ltb i 16 ≡ false) → set cross i (set (getD cross i []) o k) ≡ cross
       go (inl t) =
@@ -77,14 +61,14 @@ module _ (table : List ℕ) (f : ℕ → ℕ) (cross : List (List ℕ)) (square 
   unfolding sending
   square-sending zero = square
   square-sending (suc n) =
-      square-put (sending table f n cross) (square-sending n) (f n / sectionRoom) (outputAt table (f n)) (f n)
+      square-with (sending table f n cross) (square-sending n) (f n / sectionRoom) (outputAt table (f n)) (f n)
 
   sending-row : (n i o : ℕ) → ((j : ℕ) → j < n → f j / sectionRoom ≢ i)
       → crosspointAt (sending table f n cross) i o ≡ crosspointAt cross i o
   unfolding sending
   sending-row zero i o h = refl
   sending-row (suc n) i o h =
-      put-row (sending table f n cross) (square-sending n) (f n / sectionRoom) (outputAt table (f n)) (f n) i o
+      cross-row (sending table f n cross) (square-sending n) (f n / sectionRoom) (outputAt table (f n)) (f n) i o
       (λ e. h n (omega arith) (sym e))
       ∙ sending-row n i o (λ j l. h j (omega arith))
 
@@ -92,7 +76,7 @@ module _ (f : ℕ → ℕ) (cross : List (List ℕ)) (square : Square cross) whe
   pub square-pulling : (n : ℕ) → Square (pulling f n cross)
   unfolding pulling
   square-pulling zero = square
-  square-pulling (suc n) = square-put (pulling f n cross) (square-pulling n) (f n / sectionRoom) n nowhere
+  square-pulling (suc n) = square-with (pulling f n cross) (square-pulling n) (f n / sectionRoom) n nowhere
 
 ------------------------------------------------------------------------
 -- agreement, by numbers
@@ -206,74 +190,74 @@ module _ {table : List ℕ} (r : Readable table) where
     row = let b = r .ports in let c = entry .input in omega arith
 
     pub agrees-send : crossedAt places k ≡ false → nowhere ≤ crosspointAt cross i o
-        → Agrees table (set places k 2) (put cross i o k)
-    agrees-send out empty = agrees-i r (set places k 2) (put cross i o k) filled real
+        → Agrees table (set places k 2) (crossWith cross i o k)
+    agrees-send out empty = agrees-i r (set places k 2) (crossWith cross i o k) filled real
       where
-        filled : Filled r (set places k 2) (put cross i o k)
+        filled : Filled r (set places k 2) (crossWith cross i o k)
         filled j e h = go (either (eqb j k))
           where
-            go : (eqb j k ≡ true) ⊎ (eqb j k ≡ false) → crosspointAt (put cross i o k) (j / sectionRoom) (outputAt table j) ≡ j
-            go (inl s) = rw (eqb-true j k s) (put-same cross square i o k row (output-small entry))
+            go : (eqb j k ≡ true) ⊎ (eqb j k ≡ false) → crosspointAt (crossWith cross i o k) (j / sectionRoom) (outputAt table j) ≡ j
+            go (inl s) = rw (eqb-true j k s) (cross-same cross square i o k row (output-small entry))
             go (inr s) =
                 let old : crosspointAt cross (j / sectionRoom) (outputAt table j) ≡ j =
                 agrees-filled r places cross a j e (sym (crossed-other places k 2 j (eqb-false j k s)) ∙ h) in
-                put-other cross square i o k (j / sectionRoom) (outputAt table j) row
+                cross-other cross square i o k (j / sectionRoom) (outputAt table j) row
                 (λ p q.
                 let same : crosspointAt cross i o ≡ j = (rw (p, q) at old) in
                 let small : j < entryLimit = inTable-below r e in
                 omega arith)
                 ∙ old
 
-        real : Real r (set places k 2) (put cross i o k)
+        real : Real r (set places k 2) (crossWith cross i o k)
         real x y p q h = go (either (eqb x i)) (either (eqb y o))
           where
-            elsewhere : (x ≡ i → y ≡ o → ⊥) → Stands table (set places k 2) x y (crosspointAt (put cross i o k) x y)
+            elsewhere : (x ≡ i → y ≡ o → ⊥) → Stands table (set places k 2) x y (crosspointAt (crossWith cross i o k) x y)
             elsewhere n =
-                let same : crosspointAt (put cross i o k) x y ≡ crosspointAt cross x y = put-other cross square i o k x y row n in
+                let same : crosspointAt (crossWith cross i o k) x y ≡ crosspointAt cross x y = cross-other cross square i o k x y row n in
                 let w : Stands table places x y (crosspointAt cross x y) = agrees-real r places cross a x y p q (rw same at h) in
                 let apart : crosspointAt cross x y ≢ k = λ e. clash (w .1) (ap (crossedAt places) e ∙ out) in
                 rw same
                 (w .0, crossed-other places k 2 (crosspointAt cross x y) apart ∙ w .1, w .2, w .3)
 
             go : (eqb x i ≡ true) ⊎ (eqb x i ≡ false) → (eqb y o ≡ true) ⊎ (eqb y o ≡ false)
-                → Stands table (set places k 2) x y (crosspointAt (put cross i o k) x y)
+                → Stands table (set places k 2) x y (crosspointAt (crossWith cross i o k) x y)
             go (inl e) (inl f) =
-                let same : crosspointAt (put cross i o k) x y ≡ k =
-                ap₂ (crosspointAt (put cross i o k)) (eqb-true x i e) (eqb-true y o f)
-                ∙ put-same cross square i o k row (output-small entry) in
+                let same : crosspointAt (crossWith cross i o k) x y ≡ k =
+                ap₂ (crosspointAt (crossWith cross i o k)) (eqb-true x i e) (eqb-true y o f)
+                ∙ cross-same cross square i o k row (output-small entry) in
                 rw same
                 (entry, crossed-same places k 2 inside ∙ crossed-byte, sym (eqb-true x i e), sym (eqb-true y o f))
             go (inl e) (inr f) = elsewhere (λ g. eqb-false y o f)
             go (inr e) f = elsewhere (λ g. absurd (eqb-false x i e g))
 
     -- a cell that its output takes from its crosspoint
-    pub agrees-pull : crossedAt places k ≡ true → Agrees table (set places k 3) (put cross i o nowhere)
-    agrees-pull there = agrees-i r (set places k 3) (put cross i o nowhere) filled real
+    pub agrees-pull : crossedAt places k ≡ true → Agrees table (set places k 3) (crossWith cross i o nowhere)
+    agrees-pull there = agrees-i r (set places k 3) (crossWith cross i o nowhere) filled real
       where
-        filled : Filled r (set places k 3) (put cross i o nowhere)
+        filled : Filled r (set places k 3) (crossWith cross i o nowhere)
         filled j e h = go (either (eqb j k))
           where
             go : (eqb j k ≡ true) ⊎ (eqb j k ≡ false)
-                → crosspointAt (put cross i o nowhere) (j / sectionRoom) (outputAt table j) ≡ j
+                → crosspointAt (crossWith cross i o nowhere) (j / sectionRoom) (outputAt table j) ≡ j
             go (inl s) =
                 absurd (clash h
                 (ap (crossedAt (set places k 3)) (eqb-true j k s) ∙ crossed-same places k 3 inside ∙ buffered-byte))
             go (inr s) =
                 let old : crosspointAt cross (j / sectionRoom) (outputAt table j) ≡ j =
                 agrees-filled r places cross a j e (sym (crossed-other places k 3 j (eqb-false j k s)) ∙ h) in
-                put-other cross square i o nowhere (j / sectionRoom) (outputAt table j) row
+                cross-other cross square i o nowhere (j / sectionRoom) (outputAt table j) row
                 (λ p q.
                 eqb-false j k s
                 (sym (rw (p, q) at old) ∙ agrees-filled r places cross a k entry there))
                 ∙ old
 
-        real : Real r (set places k 3) (put cross i o nowhere)
+        real : Real r (set places k 3) (crossWith cross i o nowhere)
         real x y p q h = go (either (eqb x i)) (either (eqb y o))
           where
-            elsewhere : (x ≡ i → y ≡ o → ⊥) → Stands table (set places k 3) x y (crosspointAt (put cross i o nowhere) x y)
+            elsewhere : (x ≡ i → y ≡ o → ⊥) → Stands table (set places k 3) x y (crosspointAt (crossWith cross i o nowhere) x y)
             elsewhere n =
-                let same : crosspointAt (put cross i o nowhere) x y ≡ crosspointAt cross x y =
-                put-other cross square i o nowhere x y row n in
+                let same : crosspointAt (crossWith cross i o nowhere) x y ≡ crosspointAt cross x y =
+                cross-other cross square i o nowhere x y row n in
                 let w : Stands table places x y (crosspointAt cross x y) = agrees-real r places cross a x y p q (rw same at h) in
                 let apart : crosspointAt cross x y ≢ k =
                 λ e. n (sym (w .2) ∙ ap (λ z. z / sectionRoom) e) (sym (w .3) ∙ ap (outputAt table) e) in
@@ -281,11 +265,11 @@ module _ {table : List ℕ} (r : Readable table) where
                 (w .0, crossed-other places k 3 (crosspointAt cross x y) apart ∙ w .1, w .2, w .3)
 
             go : (eqb x i ≡ true) ⊎ (eqb x i ≡ false) → (eqb y o ≡ true) ⊎ (eqb y o ≡ false)
-                → Stands table (set places k 3) x y (crosspointAt (put cross i o nowhere) x y)
+                → Stands table (set places k 3) x y (crosspointAt (crossWith cross i o nowhere) x y)
             go (inl e) (inl f) =
-                let same : crosspointAt (put cross i o nowhere) x y ≡ nowhere =
-                ap₂ (crosspointAt (put cross i o nowhere)) (eqb-true x i e) (eqb-true y o f)
-                ∙ put-same cross square i o nowhere row (output-small entry) in
+                let same : crosspointAt (crossWith cross i o nowhere) x y ≡ nowhere =
+                ap₂ (crosspointAt (crossWith cross i o nowhere)) (eqb-true x i e) (eqb-true y o f)
+                ∙ cross-same cross square i o nowhere row (output-small entry) in
                 absurd (omega arith)
             go (inl e) (inr f) = elsewhere (λ g. eqb-false y o f)
             go (inr e) f = elsewhere (λ g. absurd (eqb-false x i e g))
@@ -340,7 +324,7 @@ module _ {table : List ℕ} (r : Readable table) where
         go : (ltb (f n) entryLimit ≡ true) ⊎ (ltb (f n) entryLimit ≡ false)
             → Agrees table (written f 2 n places) (sending table f n cross)
             → Agrees table (set (written f 2 n places) (f n) 2)
-            (put (sending table f n cross) (f n / sectionRoom) (outputAt table (f n)) (f n))
+            (crossWith (sending table f n cross) (f n / sectionRoom) (outputAt table (f n)) (f n))
         go (inl t) rec =
             agrees-send (written f 2 n places) (sending table f n cross) (length-now 2 n)
             (square-sending table f cross square n) rec
@@ -363,7 +347,7 @@ module _ {table : List ℕ} (r : Readable table) where
             let beyond : 16 ≤ f n / sectionRoom = omega arith in
             rw (
               set-out (written f 2 n places) (f n) 2 end,
-              put-nowhere (sending table f n cross) (square-sending table f cross square n) (f n / sectionRoom) (outputAt table (f n)) (f n) beyond,
+              cross-nowhere (sending table f n cross) (square-sending table f cross square n) (f n / sectionRoom) (outputAt table (f n)) (f n) beyond,
             )
             rec
 
@@ -375,9 +359,9 @@ module _ {table : List ℕ} (r : Readable table) where
       where
         go : (ltb (f n) entryLimit ≡ true) ⊎ (ltb (f n) entryLimit ≡ false)
             → Agrees table (written f 3 n places) (pulling f n cross)
-            → Agrees table (set (written f 3 n places) (f n) 3) (put (pulling f n cross) (f n / sectionRoom) n nowhere)
+            → Agrees table (set (written f 3 n places) (f n) 3) (crossWith (pulling f n cross) (f n / sectionRoom) n nowhere)
         go (inl t) rec =
-            subst (λ o. Agrees table (set (written f 3 n places) (f n) 3) (put (pulling f n cross) (f n / sectionRoom) o nowhere))
+            subst (λ o. Agrees table (set (written f 3 n places) (f n) 3) (crossWith (pulling f n cross) (f n / sectionRoom) o nowhere))
             (w .2)
             (agrees-pull (written f 3 n places) (pulling f n cross) (length-now 3 n) (square-pulling f cross square n) rec
             (w .0) (crossed-miss f 3 n places (f n) miss ∙ w .1))
@@ -398,6 +382,6 @@ module _ {table : List ℕ} (r : Readable table) where
             let beyond : 16 ≤ f n / sectionRoom = omega arith in
             rw (
               set-out (written f 3 n places) (f n) 3 end,
-              put-nowhere (pulling f n cross) (square-pulling f cross square n) (f n / sectionRoom) n nowhere beyond,
+              cross-nowhere (pulling f n cross) (square-pulling f cross square n) (f n / sectionRoom) n nowhere beyond,
             )
             rec

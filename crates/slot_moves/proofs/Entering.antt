@@ -22,14 +22,15 @@ use Rattle.layout.specs.Code.{portsIn}
 use Rattle.layout.specs.Table.{entryLimit}
 use Rattle.layout_table.specs.CodeEntries.{nowhere, betterOf}
 use Rattle.layout_table.proofs.Better.{better-none}
-use Rattle.slot_view.specs.CodeView.{inTable, crosspointAt, InTable, Agrees, Square}
+use Rattle.slot_view.specs.CodeView.{crossWith, inTable, crosspointAt, InTable, Agrees, Square}
 use Rattle.slot_view.specs.CodeScan.{Readable, Bests}
 use Rattle.slot_view.proofs.Choices.{Ordered, best-same, best-more}
 use Rattle.slot_view.proofs.Window.{agrees-holds, inTable-below}
 use Rattle.slot_choice.proofs.Best.{Crossed, BestUpTo, of-best}
-use Rattle.slot_moves.specs.CodeMoves.{written, put, sending, entered, entering}
+use Rattle.slot_moves.specs.CodeMoves.{written, sending, entered, entering}
 use Rattle.slot_moves.proofs.Agreeing.{outputAt, agrees-real, agrees-sending, output-small, Sendable}
-use Rattle.slot_moves.proofs.Agreeing.{put-same, put-row, put-column, put-nowhere, square-sending, sent-empty}
+use Rattle.slot_view.proofs.Squares.{cross-same, cross-row}
+use Rattle.slot_moves.proofs.Agreeing.{cross-column, cross-nowhere, square-sending, sent-empty}
 
 ------------------------------------------------------------------------
 -- the column
@@ -94,7 +95,7 @@ module _ {table : List ℕ} (r : Readable table) where
     ports = portsIn table
 
     abbrev cross′ : List (List ℕ)
-    cross′ = put cross i o k
+    cross′ = crossWith cross i o k
 
     row : i < 16
     row = omega (arith, entry .input, r .ports)
@@ -109,7 +110,7 @@ module _ {table : List ℕ} (r : Readable table) where
           some = c .some;
           holder = c .holder;
           early = c .early;
-          held = put-row cross square i o k (c .holder) o (apart j c) ∙ c .held;
+          held = cross-row cross square i o k (c .holder) o (apart j c) ∙ c .held;
         }
 
     earlier : (j : ℕ) → Crossed cross′ o ports j → Crossed cross o ports j ⊎ (j ≡ k)
@@ -118,13 +119,13 @@ module _ {table : List ℕ} (r : Readable table) where
         go : (eqb (c .holder) i ≡ true) ⊎ (eqb (c .holder) i ≡ false) → Crossed cross o ports j ⊎ (j ≡ k)
         go (inl e) =
             inr (sym (c .held) ∙ ap (λ h. crosspointAt cross′ h o) (eqb-true _ _ e)
-            ∙ put-same cross square i o k row (output-small r entry))
+            ∙ cross-same cross square i o k row (output-small r entry))
         go (inr e) =
             inl (record {
               some = c .some;
               holder = c .holder;
               early = c .early;
-              held = sym (put-row cross square i o k (c .holder) o (eqb-false _ _ e)) ∙ c .held;
+              held = sym (cross-row cross square i o k (c .holder) o (eqb-false _ _ e)) ∙ c .held;
             })
 
     -- the cell that stands at a crosspoint is of its input
@@ -151,7 +152,7 @@ module _ {table : List ℕ} (r : Readable table) where
               some = inTable-below r entry;
               holder = i;
               early = entry .input;
-              held = put-same cross square i o k row (output-small r entry);
+              held = cross-same cross square i o k row (output-small r entry);
             })
             earlier (ordered (getD best o 0)) (b o (output-small r entry)))
         go (inr e) =
@@ -175,7 +176,7 @@ module _ {table : List ℕ} (r : Readable table) where
             (b p l))
           where
             same : (h : ℕ) → crosspointAt cross′ h p ≡ crosspointAt cross h p
-            same h = put-column cross square i o k h p row (eqb-false p o e)
+            same h = cross-column cross square i o k h p row (eqb-false p o e)
 
   ------------------------------------------------------------------------
   -- input after input
@@ -190,7 +191,7 @@ module _ {table : List ℕ} (r : Readable table) where
       where
         go : (ltb (f n) entryLimit ≡ true) ⊎ (ltb (f n) entryLimit ≡ false)
             → BestOfEach table (sending table f n cross) (entering table f n best)
-            → BestOfEach table (put (sending table f n cross) (f n / sectionRoom) (outputAt table (f n)) (f n))
+            → BestOfEach table (crossWith (sending table f n cross) (f n / sectionRoom) (outputAt table (f n)) (f n))
             (entered table (entering table f n best) (f n))
         go (inl t) rec =
             best-entered (written f 2 n places) (sending table f n cross) (square-sending table f cross square n)
@@ -202,6 +203,6 @@ module _ {table : List ℕ} (r : Readable table) where
             let past : nowhere ≤ f n = ltb-false _ _ t in
             rw (
               entered-none table (entering table f n best) (f n) past,
-              put-nowhere (sending table f n cross) (square-sending table f cross square n) (f n / sectionRoom) (outputAt table (f n)) (f n) (omega arith),
+              cross-nowhere (sending table f n cross) (square-sending table f cross square n) (f n / sectionRoom) (outputAt table (f n)) (f n) (omega arith),
             )
             rec

@@ -12,10 +12,11 @@ use Rattle.cell.specs.Limits.{sectionRoom}
 use Rattle.cell.specs.Order.{key}
 use Rattle.layout.specs.Entry.{entryAt}
 use Rattle.layout_table.specs.CodeEntries.{nowhere}
-use Rattle.slot_view.specs.CodeView.{crosspointAt, Square}
+use Rattle.slot_view.specs.CodeView.{crossWith, crosspointAt, Square}
 use Rattle.slot_view.specs.CodeViewed.{noKey, keyAt, Keyed}
-use Rattle.slot_moves.specs.CodeMoves.{put, sending, keying, pulling, unkeying, Bound}
-use Rattle.slot_moves.proofs.Agreeing.{put-same, put-other, put-nowhere, put-past, square-put, square-sending, square-pulling}
+use Rattle.slot_moves.specs.CodeMoves.{sending, keying, pulling, unkeying, Bound}
+use Rattle.slot_view.proofs.Squares.{cross-same, cross-other, square-with}
+use Rattle.slot_moves.proofs.Agreeing.{cross-nowhere, cross-past, square-sending, square-pulling}
 
 keyAt-nowhere : (table : List ℕ) → keyAt table nowhere ≡ noKey
 unfolding keyAt
@@ -25,27 +26,27 @@ keyAt-nowhere table =
 module _ (table : List ℕ) where
   -- what stands at a crosspoint changes, and its key with it
   keyed-put : (cross keys : List (List ℕ)) → Square cross → Keyed table cross keys → (i o k v : ℕ) → i < 16 → o < 16
-      → v ≡ keyAt table k → Keyed table (put cross i o k) (put keys o i v)
+      → v ≡ keyAt table k → Keyed table (crossWith cross i o k) (crossWith keys o i v)
   unfolding crosspointAt
   keyed-put cross keys square keyed i o k v a b e =
       record {
-        square = square-put keys (keyed .square) o i v;
+        square = square-with keys (keyed .square) o i v;
         at = λ x y p q. one x y p q (either (eqb x i)) (either (eqb y o));
       }
     where
       elsewhere : (x y : ℕ) → x < 16 → y < 16 → (x ≡ i → y ≡ o → ⊥)
-          → crosspointAt (put keys o i v) y x ≡ keyAt table (crosspointAt (put cross i o k) x y)
+          → crosspointAt (crossWith keys o i v) y x ≡ keyAt table (crosspointAt (crossWith cross i o k) x y)
       elsewhere x y p q n =
-          put-other keys (keyed .square) o i v y x b (λ f g. n g f)
+          cross-other keys (keyed .square) o i v y x b (λ f g. n g f)
           ∙ keyed .at x y p q
-          ∙ ap (keyAt table) (sym (put-other cross square i o k x y a n))
+          ∙ ap (keyAt table) (sym (cross-other cross square i o k x y a n))
 
       one : (x y : ℕ) → x < 16 → y < 16 → (eqb x i ≡ true) ⊎ (eqb x i ≡ false) → (eqb y o ≡ true) ⊎ (eqb y o ≡ false)
-          → crosspointAt (put keys o i v) y x ≡ keyAt table (crosspointAt (put cross i o k) x y)
+          → crosspointAt (crossWith keys o i v) y x ≡ keyAt table (crosspointAt (crossWith cross i o k) x y)
       one x y p q (inl s) (inl t) =
           rw (eqb-true x i s, eqb-true y o t)
-          (put-same keys (keyed .square) o i v b a ∙ e
-          ∙ ap (keyAt table) (sym (put-same cross square i o k a b)))
+          (cross-same keys (keyed .square) o i v b a ∙ e
+          ∙ ap (keyAt table) (sym (cross-same cross square i o k a b)))
       one x y p q (inl s) (inr t) = elsewhere x y p q (λ f. eqb-false y o t)
       one x y p q (inr s) t = elsewhere x y p q (λ f. absurd (eqb-false x i s f))
 
@@ -66,7 +67,7 @@ module _ (table : List ℕ) where
         o = entryAt table (f n) .cell .output
 
         go : (ltb (f n) nowhere ≡ true) ⊎ (ltb (f n) nowhere ≡ false) → Keyed table cross′ keys′
-            → Keyed table (put cross′ (f n / sectionRoom) o (f n)) (put keys′ o (f n / sectionRoom) (keyAt table (f n)))
+            → Keyed table (crossWith cross′ (f n / sectionRoom) o (f n)) (crossWith keys′ o (f n / sectionRoom) (keyAt table (f n)))
         go (inl t) rec =
             let small : f n < nowhere = ltb-true _ _ t in
             keyed-put cross′ keys′ (square-sending table f cross square n) rec (f n / sectionRoom) o (f n) (keyAt table (f n))
@@ -74,8 +75,8 @@ module _ (table : List ℕ) where
         go (inr t) rec =
             let past : nowhere ≤ f n = ltb-false _ _ t in
             rw (
-              put-nowhere cross′ (square-sending table f cross square n) (f n / sectionRoom) o (f n) (omega arith),
-              put-past keys′ (rec .square) o (f n / sectionRoom) (keyAt table (f n)) (omega arith),
+              cross-nowhere cross′ (square-sending table f cross square n) (f n / sectionRoom) o (f n) (omega arith),
+              cross-past keys′ (rec .square) o (f n / sectionRoom) (keyAt table (f n)) (omega arith),
             )
             rec
 
@@ -91,7 +92,7 @@ module _ (table : List ℕ) where
         keys′ = unkeying f n keys
 
         go : (ltb (f n) nowhere ≡ true) ⊎ (ltb (f n) nowhere ≡ false) → Keyed table cross′ keys′
-            → Keyed table (put cross′ (f n / sectionRoom) n nowhere) (put keys′ n (f n / sectionRoom) noKey)
+            → Keyed table (crossWith cross′ (f n / sectionRoom) n nowhere) (crossWith keys′ n (f n / sectionRoom) noKey)
         go (inl t) rec =
             let small : f n < nowhere = ltb-true _ _ t in
             keyed-put cross′ keys′ (square-pulling f cross square n) rec (f n / sectionRoom) n nowhere noKey (omega arith)
@@ -99,7 +100,7 @@ module _ (table : List ℕ) where
         go (inr t) rec =
             let past : nowhere ≤ f n = ltb-false _ _ t in
             rw (
-              put-nowhere cross′ (square-pulling f cross square n) (f n / sectionRoom) n nowhere (omega arith),
-              put-past keys′ (rec .square) n (f n / sectionRoom) noKey (omega arith),
+              cross-nowhere cross′ (square-pulling f cross square n) (f n / sectionRoom) n nowhere (omega arith),
+              cross-past keys′ (rec .square) n (f n / sectionRoom) noKey (omega arith),
             )
             rec

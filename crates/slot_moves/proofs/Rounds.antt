@@ -11,14 +11,15 @@ use Rattle.cell.specs.Limits.{sectionRoom, portLimit}
 use Rattle.layout.specs.Entry.{entryAt}
 use Rattle.layout.specs.Table.{tableSize}
 use Rattle.layout_table.specs.CodeEntries.{nowhere}
-use Rattle.slot_view.specs.CodeView.{Square, placesIn}
+use Rattle.slot_view.specs.CodeView.{crossWith, Square, placesIn}
 use Rattle.slot_view.specs.CodeViewed.{noKey, keyAt}
 use Rattle.slot_view.proofs.Placing.{Kept, kept-same, kept-trans, placed-kept, placesIn-placed, kept-key}
-use Rattle.slot_moves.specs.CodeMoves.{written, placeAt, placing, left, leftHeads, leaving, leavingHeads, put, sending}
+use Rattle.slot_moves.specs.CodeMoves.{written, placeAt, placing, left, leftHeads, leaving, leavingHeads, sending}
 use Rattle.slot_moves.specs.CodeMoves.{keying, pulling, unkeying, entered, entering, markOf, Bound}
 use Rattle.slot_moves.specs.CodeMoves.{Straight, Crossed, Taken, Straightened, Sent, Pulled}
 use Rattle.slot_moves.proofs.Written.{length-written}
-use Rattle.slot_moves.proofs.Agreeing.{square-put, square-sending, square-pulling}
+use Rattle.slot_view.proofs.Squares.{square-with}
+use Rattle.slot_moves.proofs.Agreeing.{square-sending, square-pulling}
 use Rattle.slot_moves.proofs.Entering.{length-entering}
 use Rattle.slot_moves.proofs.Steps.{entered-kept, leftHeads-kept}
 
@@ -147,7 +148,7 @@ square-keying : (table : List ℕ) (f : ℕ → ℕ) (keys : List (List ℕ)) �
 unfolding keying
 square-keying table f keys h zero = h
 square-keying table f keys h (suc n) =
-    square-put (keying table f n keys) (square-keying table f keys h n) (entryAt table (f n) .cell .output)
+    square-with (keying table f n keys) (square-keying table f keys h n) (entryAt table (f n) .cell .output)
     (f n / sectionRoom) (keyAt table (f n))
 
 pub sent-none : (f : ℕ → ℕ) (table listed heads : List ℕ) (cross keys : List (List ℕ)) (best : List ℕ)
@@ -169,21 +170,21 @@ module _ {f : ℕ → ℕ} {n : ℕ} {table table′ listed listed′ heads head
   kept-sent = kept-by f 2 n (s .to-crosspoints)
 
   sending-more : {k : ℕ} {cross″ : List (List ℕ)} → k ≡ f n
-      → cross″ ≡ put cross′ (k / sectionRoom) (entryAt table′ k .cell .output) k → cross″ ≡ sending table f (n + 1) cross
+      → cross″ ≡ crossWith cross′ (k / sectionRoom) (entryAt table′ k .cell .output) k → cross″ ≡ sending table f (n + 1) cross
   unfolding sending
   sending-more {k} e q =
       rw (add-one n, ← s .filled, ← e)
-      (q ∙ ap (λ c. put cross′ (k / sectionRoom) (c .output) k) (kept-sent .cells k))
+      (q ∙ ap (λ c. crossWith cross′ (k / sectionRoom) (c .output) k) (kept-sent .cells k))
 
   keying-more : {k : ℕ} {keys″ : List (List ℕ)} → k ≡ f n
-      → keys″ ≡ put keys′ (entryAt table′ k .cell .output) (k / sectionRoom) (keyAt table′ k)
+      → keys″ ≡ crossWith keys′ (entryAt table′ k .cell .output) (k / sectionRoom) (keyAt table′ k)
       → keys″ ≡ keying table f (n + 1) keys
   unfolding keying
   keying-more {k} e q =
       rw (add-one n, ← s .keyed, ← e)
       (q
-      ∙ ap (λ c. put keys′ (c .output) (k / sectionRoom) (keyAt table′ k)) (kept-sent .cells k)
-      ∙ ap (put keys′ (entryAt table k .cell .output) (k / sectionRoom)) (kept-key kept-sent k))
+      ∙ ap (λ c. crossWith keys′ (c .output) (k / sectionRoom) (keyAt table′ k)) (kept-sent .cells k)
+      ∙ ap (crossWith keys′ (entryAt table k .cell .output) (k / sectionRoom)) (kept-key kept-sent k))
 
   pub sent-more : {k : ℕ} {table″ listed″ heads″ : List ℕ} {cross″ keys″ : List (List ℕ)} {best″ : List ℕ} → k ≡ f n
       → Crossed table′ k table″ listed′ listed″ heads′ heads″ cross′ cross″ keys′ keys″ best′ best″
@@ -220,7 +221,7 @@ square-unkeying : (f : ℕ → ℕ) (keys : List (List ℕ)) → Square keys →
 unfolding unkeying
 square-unkeying f keys h zero = h
 square-unkeying f keys h (suc n) =
-    square-put (unkeying f n keys) (square-unkeying f keys h n) n (f n / sectionRoom) noKey
+    square-with (unkeying f n keys) (square-unkeying f keys h n) n (f n / sectionRoom) noKey
 
 pub pulled-none : (f : ℕ → ℕ) (table : List ℕ) (cross keys : List (List ℕ)) (best : List ℕ)
     → Pulled f 0 table table cross cross keys keys best best
@@ -232,12 +233,12 @@ module _ {f : ℕ → ℕ} {n : ℕ} {table table′ : List ℕ} {cross cross′
   pub kept-pulled : Kept table table′
   kept-pulled = kept-by f 3 n (s .to-buffers)
 
-  pulling-more : {k : ℕ} {cross″ : List (List ℕ)} → k ≡ f n → cross″ ≡ put cross′ (k / sectionRoom) n nowhere
+  pulling-more : {k : ℕ} {cross″ : List (List ℕ)} → k ≡ f n → cross″ ≡ crossWith cross′ (k / sectionRoom) n nowhere
       → cross″ ≡ pulling f (n + 1) cross
   unfolding pulling
   pulling-more e q = rw (add-one n, ← s .emptied, ← e) q
 
-  unkeying-more : {k : ℕ} {keys″ : List (List ℕ)} → k ≡ f n → keys″ ≡ put keys′ n (k / sectionRoom) noKey
+  unkeying-more : {k : ℕ} {keys″ : List (List ℕ)} → k ≡ f n → keys″ ≡ crossWith keys′ n (k / sectionRoom) noKey
       → keys″ ≡ unkeying f (n + 1) keys
   unfolding unkeying
   unkeying-more e q = rw (add-one n, ← s .unkeyed, ← e) q
@@ -277,15 +278,15 @@ module _ {old new : List ℕ} (kept : Kept old new) (f : ℕ → ℕ) where
   unfolding sending
   sending-kept zero cross = refl
   sending-kept (suc n) cross =
-      ap (λ c. put (sending new f n cross) (f n / sectionRoom) (c .output) (f n)) (kept .cells (f n))
-      ∙ ap (λ x. put x (f n / sectionRoom) (entryAt old (f n) .cell .output) (f n)) (sending-kept n cross)
+      ap (λ c. crossWith (sending new f n cross) (f n / sectionRoom) (c .output) (f n)) (kept .cells (f n))
+      ∙ ap (λ x. crossWith x (f n / sectionRoom) (entryAt old (f n) .cell .output) (f n)) (sending-kept n cross)
 
   pub keying-kept : (n : ℕ) (keys : List (List ℕ)) → keying new f n keys ≡ keying old f n keys
   unfolding keying
   keying-kept zero keys = refl
   keying-kept (suc n) keys =
-      ap (λ c. put (keying new f n keys) (c .output) (f n / sectionRoom) (keyAt new (f n))) (kept .cells (f n))
-      ∙ ap₂ (λ x y. put x (entryAt old (f n) .cell .output) (f n / sectionRoom) y) (keying-kept n keys) (kept-key kept (f n))
+      ap (λ c. crossWith (keying new f n keys) (c .output) (f n / sectionRoom) (keyAt new (f n))) (kept .cells (f n))
+      ∙ ap₂ (λ x y. crossWith x (entryAt old (f n) .cell .output) (f n / sectionRoom) y) (keying-kept n keys) (kept-key kept (f n))
 
   pub entering-kept : (n : ℕ) (best : List ℕ) → entering new f n best ≡ entering old f n best
   unfolding entering

@@ -14,7 +14,7 @@ use Rattle.slot_view.specs.CodeView.{Square}
 use Rattle.slot_view.specs.CodeViewed.{noKey, keyAt}
 use Rattle.slot_view.proofs.Placing.{Kept, placed-past}
 use Rattle.slot_moves.specs.CodeMoves.{left, headsLeft, leftHeads, entered, markOf, Straight, Crossed, Taken}
-use Rattle.slot_moves.proofs.Agreeing.{put-nowhere, put-past}
+use Rattle.slot_moves.proofs.Agreeing.{cross-nowhere, cross-past}
 use Rattle.slot_moves.proofs.Entering.{entered-none}
 use Rattle.slot_moves.proofs.Rules.{mark-none}
 
@@ -56,8 +56,8 @@ module _ (k : ℕ) (none : nowhere ≤ k) where
             to-crosspoint = sym (placed-past table k 2 size none);
             left-list = sym (left-none listed l);
             left-heads = sym (leftHeads-none table listed heads h);
-            filled = sym (put-nowhere cross square (k / sectionRoom) _ k (omega arith));
-            keyed = sym (put-past keys keyed _ (k / sectionRoom) (keyAt table k) (omega arith));
+            filled = sym (cross-nowhere cross square (k / sectionRoom) _ k (omega arith));
+            keyed = sym (cross-past keys keyed _ (k / sectionRoom) (keyAt table k) (omega arith));
             best-in = sym (entered-none table best k none);
           }
 
@@ -65,8 +65,8 @@ module _ (k : ℕ) (none : nowhere ≤ k) where
       taken-none output =
           record {
             to-buffer = sym (placed-past table k 3 size none);
-            emptied = sym (put-nowhere cross square (k / sectionRoom) output nowhere (omega arith));
-            unkeyed = sym (put-past keys keyed output (k / sectionRoom) noKey (omega arith));
+            emptied = sym (cross-nowhere cross square (k / sectionRoom) output nowhere (omega arith));
+            unkeyed = sym (cross-past keys keyed output (k / sectionRoom) noKey (omega arith));
             best-in = sym (entered-none table best k none);
           }
 

@@ -22,6 +22,7 @@ use Rattle.model.specs.Phase.{Phase}
 use Rattle.layout.specs.Entry.{entryAt}
 use Rattle.layout.specs.Code.{recordStart}
 use Rattle.layout_table.specs.CodeEntries.{flowWord, nowhere, betterOf}
+use Rattle.slot_view.specs.CodeView.{crossWith}
 use Rattle.slot_view.specs.CodeChoices.{numberOf, ofInput, toOutput}
 use Rattle.slot_view.specs.CodeViewed.{noKey, keyAt}
 
@@ -77,25 +78,22 @@ leavingHeads table f (suc n) listed heads =
 ------------------------------------------------------------------------
 -- crosspoints
 
-unfoldable pub put : List (List ℕ) → ℕ → ℕ → ℕ → List (List ℕ)
-put cross input output k = set cross input (set (getD cross input []) output k)
-
 unfoldable pub sending : List ℕ → (ℕ → ℕ) → ℕ → List (List ℕ) → List (List ℕ)
 sending table f zero cross = cross
-sending table f (suc n) cross = put (sending table f n cross) (f n / sectionRoom) (entryAt table (f n) .cell .output) (f n)
+sending table f (suc n) cross = crossWith (sending table f n cross) (f n / sectionRoom) (entryAt table (f n) .cell .output) (f n)
 
 unfoldable pub keying : List ℕ → (ℕ → ℕ) → ℕ → List (List ℕ) → List (List ℕ)
 keying table f zero keys = keys
 keying table f (suc n) keys =
-    put (keying table f n keys) (entryAt table (f n) .cell .output) (f n / sectionRoom) (keyAt table (f n))
+    crossWith (keying table f n keys) (entryAt table (f n) .cell .output) (f n / sectionRoom) (keyAt table (f n))
 
 unfoldable pub pulling : (ℕ → ℕ) → ℕ → List (List ℕ) → List (List ℕ)
 pulling f zero cross = cross
-pulling f (suc n) cross = put (pulling f n cross) (f n / sectionRoom) n nowhere
+pulling f (suc n) cross = crossWith (pulling f n cross) (f n / sectionRoom) n nowhere
 
 unfoldable pub unkeying : (ℕ → ℕ) → ℕ → List (List ℕ) → List (List ℕ)
 unkeying f zero keys = keys
-unkeying f (suc n) keys = put (unkeying f n keys) n (f n / sectionRoom) noKey
+unkeying f (suc n) keys = crossWith (unkeying f n keys) n (f n / sectionRoom) noKey
 
 ------------------------------------------------------------------------
 -- the best of each output
@@ -171,16 +169,16 @@ pub record Crossed (table : List ℕ) (k : ℕ) (table′ listed listed′ heads
   pub to-crosspoint : table′ ≡ set table (placeAt k) 2
   pub left-list : listed′ ≡ left listed k
   pub left-heads : heads′ ≡ leftHeads table listed heads k
-  pub filled : cross′ ≡ put cross (k / sectionRoom) (entryAt table k .cell .output) k
-  pub keyed : keys′ ≡ put keys (entryAt table k .cell .output) (k / sectionRoom) (keyAt table k)
+  pub filled : cross′ ≡ crossWith cross (k / sectionRoom) (entryAt table k .cell .output) k
+  pub keyed : keys′ ≡ crossWith keys (entryAt table k .cell .output) (k / sectionRoom) (keyAt table k)
   pub best-in : best′ ≡ entered table best k
 
 -- from its crosspoint to the buffer of its output
 pub record Taken (table : List ℕ) (k output : ℕ) (table′ : List ℕ) (cross cross′ keys keys′ : List (List ℕ))
     (best best′ : List ℕ) : Type 0 where
   pub to-buffer : table′ ≡ set table (placeAt k) 3
-  pub emptied : cross′ ≡ put cross (k / sectionRoom) output nowhere
-  pub unkeyed : keys′ ≡ put keys output (k / sectionRoom) noKey
+  pub emptied : cross′ ≡ crossWith cross (k / sectionRoom) output nowhere
+  pub unkeyed : keys′ ≡ crossWith keys output (k / sectionRoom) noKey
   pub best-in : best′ ≡ entered table best k
 
 ------------------------------------------------------------------------

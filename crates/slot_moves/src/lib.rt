@@ -23,10 +23,10 @@ ghost use Rattle.layout.specs.Table.{tableSize, encode, stateOf, IsTable, entry
 ghost use Rattle.layout.specs.Code.{HasEntry};
 ghost use Rattle.layout_table.specs.CodeEntries.{nowhere};
 ghost use Rattle.slot_view.specs.CodeScan.{Bests};
-ghost use Rattle.slot_view.specs.CodeView.{Square};
+ghost use Rattle.slot_view.specs.CodeView.{crossWith, Square};
 ghost use Rattle.slot_view.specs.CodeViewed.{Viewed};
 ghost use Rattle.slot_moves.specs.CodeMoved.{afterPhase, Settled};
-ghost use Rattle.slot_moves.specs.CodeMoves.{put, entered, left, leftHeads, headsLeft, straightTo, sendOf};
+ghost use Rattle.slot_moves.specs.CodeMoves.{entered, left, leftHeads, headsLeft, straightTo, sendOf};
 ghost use Rattle.slot_moves.specs.CodeMoves.{takeOf, Bound, AllBound, Straight, Crossed, Taken, Straightened};
 ghost use Rattle.slot_moves.specs.CodeMoves.{Sent, Pulled};
 
@@ -296,8 +296,8 @@ fn fill(
     key: u64,
 )
     requires { ⌜ Square (now cross) × Square (now keys) × (input < portLimit) × (output < portLimit) ⌝ }
-    ensures { λ _. ⌜ now (cross .exit) ≡ put (now (cross .entry)) input output number ⌝ }
-    ensures { λ _. ⌜ now (keys .exit) ≡ put (now (keys .entry)) output input key ⌝ }
+    ensures { λ _. ⌜ now (cross .exit) ≡ crossWith (now (cross .entry)) input output number ⌝ }
+    ensures { λ _. ⌜ now (keys .exit) ≡ crossWith (now (keys .entry)) output input key ⌝ }
 {
     cross[input][output] = number;
     keys[output][input] = key;

@@ -5,7 +5,7 @@ use Prim.Native.Nat.{ℕ, _*_, _<_, _≤_, _/_, _+_}
 use mathlib.Core.List.{List, [], map, flatten, List·Memᴰ}
 use mathlib.Core.Bool.{true}
 use mathlib.Core.Path.{_≡_}
-use lib.ListN.{length, getD}
+use lib.ListN.{length, getD, set}
 use Rattle.laws.specs.Lists.{numbersFrom, upTo}
 use Rattle.cell.specs.Limits.{sectionRoom, portLimit}
 use Rattle.model.specs.Phase.{Waiting}
@@ -30,6 +30,10 @@ inTable table places =
 -- what stands at a crosspoint
 unfoldable pub crosspointAt : List (List ℕ) → ℕ → ℕ → ℕ
 crosspointAt cross input output = getD (getD cross input []) output 0
+
+-- with another number there
+unfoldable pub crossWith : List (List ℕ) → ℕ → ℕ → ℕ → List (List ℕ)
+crossWith cross input output k = set cross input (set (getD cross input []) output k)
 
 -- sixteen rows of sixteen places
 pub record Square (cross : List (List ℕ)) : Type 0 where

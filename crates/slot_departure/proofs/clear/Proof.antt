@@ -5,14 +5,14 @@ use mathlib.Core.Path.{_≡_, refl, sym, _∙_, ap}
 use borrow.Author.Needs.{needs}
 use lib.ListN.{length, replicate}
 use Rattle.layout.specs.Code.{recordStart, put}
-use Rattle.slot_departure.specs.Code.{cleared}
+use Rattle.slot_departure.specs.Code.{clearedFrom}
 use Rattle.slot_departure.proofs.Staying.{cleared-none, cleared-more}
 use Rattle.slot_departure.proofs.clear.Statement.{statement}
 use Rattle.slot_departure.proofs.clear.Tie as tie
 
 abbrev Inv-loop : tie.InvT-loop
 Inv-loop table₀ from to k₀ table k =
-    (from ≤ k) × (k ≤ to) × (length table ≡ length table₀) × (table ≡ cleared table₀ from (k - from))
+    (from ≤ k) × (k ≤ to) × (length table ≡ length table₀) × (table ≡ clearedFrom table₀ from (k - from))
 
 abbrev μ-loop : tie.MeasureT-loop
 μ-loop table₀ from to k₀ table k = to - k
@@ -25,7 +25,7 @@ loop-holds c =
       omega arith,
       omega (arith, start .pre .1),
       refl,
-      sym (ap (cleared old (start .args .from)) none ∙ cleared-none old (start .args .from)),
+      sym (ap (clearedFrom old (start .args .from)) none ∙ cleared-none old (start .args .from)),
     )
 
 clear-one-requires : tie.Need-clear-one-requires Inv-loop μ-loop
@@ -56,7 +56,7 @@ loop-again c =
       cleared-more old (loop .table) (one .last .0) from (loop .k - from)
           (omega (arith, test .loop-test .taken, start .pre .0, start .pre .2)) (loop .inv .3)
           (one .ensures ∙ ap (λ k. put (recordStart k) 16 (replicate 16 0) (loop .table)) at)
-          ∙ ap (cleared old from) more,
+          ∙ ap (clearedFrom old from) more,
     )
 
 same-length : tie.Need-same-length Inv-loop μ-loop
@@ -67,7 +67,7 @@ returns c =
     let start = c .before .before .before in
     let loop = c .before .loop in
     let last : loop .k ≡ start .args .to = omega (arith, c .loop-test .left, loop .inv .1) in
-    loop .inv .3 ∙ ap (λ k. cleared (start .args .table .now) (start .args .from) (k - start .args .from)) last
+    loop .inv .3 ∙ ap (λ k. clearedFrom (start .args .table .now) (start .args .from) (k - start .args .from)) last
 
 pub clear-spec : {M : Type 1} → statement M
 clear-spec =

@@ -5,7 +5,7 @@ use mathlib.Core.Path.{_≡_, refl, _∙_, ap, subst}
 use borrow.Author.Needs.{needs}
 use lib.ListN.{length}
 use Rattle.layout.specs.Entry.{countIn}
-use Rattle.slot_departure.specs.Code.{cleared}
+use Rattle.slot_departure.specs.Code.{clearedFrom}
 use Rattle.slot_departure.proofs.Staying.{Closing, closing-from, closing-free, closing-number, closing-size}
 use Rattle.slot_departure.proofs.Staying.{closing-output, closing-more, closed-low, closed-high, removed-section, removed-none}
 use Rattle.slot_departure.proofs.remove_from.Statement.{statement}
@@ -122,7 +122,7 @@ returns-2 c =
     written .write-count .ensures
     ∙ removed-section _ _ (start-of (t .before) .pre) (closed t) (clear .clear .last .0)
     (clear .clear .ensures
-    ∙ ap (λ n. cleared (t .before .loop .table) (t .before .loop .free) (n - t .before .loop .free)) end)
+    ∙ ap (λ n. clearedFrom (t .before .loop .table) (t .before .loop .free) (n - t .before .loop .free)) end)
 
 pub remove-from-spec : {M : Type 1} → statement M
 remove-from-spec =

@@ -2,6 +2,7 @@
 use Prim.Native.Nat.{_<_}
 use native.Mathlib.Omega.{arith}
 use borrow.Author.Needs.{needs}
+use Rattle.slot_view.specs.CodeView.{crossWith}
 use Rattle.layout.specs.Table.{entryLimit}
 use Rattle.slot_view.specs.CodeScan.{Readable}
 use Rattle.slot_view.proofs.Own.{table-readable}
@@ -59,6 +60,7 @@ index-2-keys : tie.Need-index-2-keys
 index-2-keys c = omega (arith, small (c .before .before .before), column (c .before))
 
 returns : tie.Need-returns
+unfolding crossWith
 returns c =
     let output = c .before .output-of in
     let start = c .before .before .before in

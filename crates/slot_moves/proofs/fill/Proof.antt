@@ -1,7 +1,7 @@
 -- The number and the key are written at the crosspoint.
 use mathlib.Core.Path.{refl}
-use Rattle.slot_moves.specs.CodeMoves.{put}
 use borrow.Author.Needs.{needs}
+use Rattle.slot_view.specs.CodeView.{crossWith}
 use Rattle.slot_moves.proofs.fill.Statement.{statement}
 use Rattle.slot_moves.proofs.fill.Tie as tie
 
@@ -30,7 +30,7 @@ index-2-keys : tie.Need-index-2-keys
 index-2-keys c = search needs
 
 returns : tie.Need-returns
-unfolding put
+unfolding crossWith
 returns c = (refl, refl)
 
 pub fill-spec : {M : Type 1} → statement M

@@ -2,7 +2,7 @@
 use Prim.Native.Nat.{_/_}
 use native.Mathlib.Omega.{arith}
 use mathlib.Core.Path.{sym, _∙_, ap, ap₂}
-use Rattle.slot_moves.specs.CodeMoves.{put}
+use Rattle.slot_view.specs.CodeView.{crossWith}
 use Rattle.slot_view.proofs.Keys.{keyAt-cell}
 use Rattle.slot_moves.proofs.Steps.{crossed-none}
 use borrow.Author.Needs.{needs}
@@ -66,8 +66,8 @@ returns-2 c =
       to-crosspoint = placed .write-place .ensures;
       left-list = left .leave-list .ensures .0;
       left-heads = left .leave-list .ensures .1;
-      filled = filled .fill .ensures .0 ∙ ap (λ o. put (a .cross .now) (a .number / 64) o (a .number)) goes;
-      keyed = filled .fill .ensures .1 ∙ ap₂ (λ o k. put (a .keys .now) o (a .number / 64) k) goes key;
+      filled = filled .fill .ensures .0 ∙ ap (λ o. crossWith (a .cross .now) (a .number / 64) o (a .number)) goes;
+      keyed = filled .fill .ensures .1 ∙ ap₂ (λ o k. crossWith (a .keys .now) o (a .number / 64) k) goes key;
       best-in = entered .enter .ensures;
     }
 
