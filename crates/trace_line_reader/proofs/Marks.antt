@@ -4,7 +4,7 @@
 --     beginsWith-none, -some, -false, -true  whether a text begins with a prefix
 use Prim.Native.Nat.{ℕ, suc, _+_, _≤_, _<_}
 use native.Mathlib.Omega.{arith}
-use mathlib.Core.Bool.{Bool, true, false}
+use mathlib.Core.Bool.{true, false}
 use mathlib.Core.List.{List, _∷_, _++_}
 use mathlib.Core.Logic.{_≢_}
 use mathlib.Core.Option.{Option, none, some}
@@ -13,9 +13,7 @@ use borrow.Author.Tests.{eq-eqb}
 use lib.ListN.{length, getD, drop, length-append, drop-of-length-le, List·getD-append}
 use lib.Seq.{drop-cons, drop-at}
 use Rattle.laws.proofs.Tests.{clash}
-use Rattle.trace.specs.declared.Key.{Key}
-use Rattle.trace.specs.Line.{keyText, after}
-use Rattle.trace.specs.Reader.{begins}
+use Rattle.trace.specs.Line.{after}
 use Rattle.trace.proofs.Line.{after-exact}
 use Rattle.trace_line_reader.specs.Code.{wordAt, beginsWith}
 

@@ -13,14 +13,11 @@ use borrow.Author.Tests.{leb-true, leb-false, le-leb, lt-leb}
 use lib.Dec.{leb}
 use lib.ListN.{length, length-append, getD, take, drop, set, length-set}
 use lib.Seq.{take-suc, set-comm, sets, length-sets, sets-eq}
+use Rattle.trace.proofs.Flat.{sets-append}
 use Rattle.trace_line_writer.specs.Writing.{lastPlace, placeAfter, withText, Ends, Put}
 use Rattle.trace_line_writer.specs.Code.{Tried, Written}
 
 -- stores
-
-pub sets-append : (l : List ℕ) (i : ℕ) (s t : List ℕ) → sets l i (s ++ t) ≡ sets (sets l i s) (i + length s) t
-sets-append l i [] t = rw add-zero
-sets-append l i (a ∷ s) t = sets-append (set l i a) (suc i) s t ∙ rw (suc-add, add-suc)
 
 -- a store before the others may come after them
 sets-set : (l : List ℕ) (i j : ℕ) (a : ℕ) (t : List ℕ) → i < j → sets (set l i a) j t ≡ set (sets l j t) i a

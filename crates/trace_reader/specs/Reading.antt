@@ -1,10 +1,9 @@
 -- What the functions of the reader answer, by what the definitions read:
 --     verdictOf o     a whole text
 --     numbersAfter    the numbers lent to the block reader
-use Prim.Native.Nat.{ℕ, zero, suc, _-_}
+use Prim.Native.Nat.{ℕ, zero, suc}
 use mathlib.Core.Bool.{true, false}
 use mathlib.Core.List.{List, [], _∷_}
-use mathlib.Core.Option.{Option, none, some}
 use lib.ListN.{length}
 use lib.Seq.{sets}
 use Rattle.cell.specs.declared.Arrival.{Arrival}
