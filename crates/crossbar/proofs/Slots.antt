@@ -17,8 +17,7 @@ use Rattle.layout.specs.Host.{resultOf, slotCall, tableAfter, answerAfter, tall
 use Rattle.layout.specs.TallyBytes.{tallyOf, tallyBytes, tallySize}
 use Rattle.layout.proofs.Host.{slotCall-tally, tallyBytesAfter-broken}
 use Rattle.cell.specs.declared.Fault.{Fault}
-use Rattle.slot_call.specs.CodeLent.{lentSlot}
-use Rattle.slot_call.proofs.FromBytes.{Answered}
+use Rattle.slot_call.specs.CodeLent.{lentSlot, LentLeaves}
 use Rattle.crossbar.specs.Code.{faultResult}
 
 -- a call with a tally of the right length comes to the slot on lent bytes
@@ -57,7 +56,8 @@ module _ (table arrivals answer tally : List ℕ) where
     tally-counts o = rw (eq-eqb (length tally) tallySize size, tallyBytesAfter)
 
     pub slot-called : (fault : Fault) (table′ answer′ tally′ : List ℕ)
-        → Answered table arrivals answer tally fault table′ answer′ tally′ → (result : ℕ) → result ≡ faultResult fault
+        → LentLeaves (lentSlot table arrivals (length answer)) table arrivals answer tally fault table′ answer′ tally′
+        → (result : ℕ) → result ≡ faultResult fault
         → Answers table arrivals answer tally result table′ answer′ tally′
     slot-called fault table′ answer′ tally′ left result r =
         rw (call-lent table arrivals answer tally size) (

@@ -25,11 +25,11 @@ use Rattle.layout.specs.Table.{IsTable, stateOf, encode}
 use Rattle.layout.proofs.Host.{tableAfter-refused}
 use Rattle.layout.proofs.Limits.{Goes, goes}
 use Rattle.layout.proofs.Table.{decode-sound}
-use Rattle.slot_call.proofs.Looking.{lent-slot}
+use Rattle.slot_records.proofs.Looking.{lent-slot}
 use Rattle.player_turns.specs.declared.Played.{Played}
 use Rattle.player_turns.specs.declared.Played.the-variants.{Ran, Stopped}
 use Rattle.player_text.specs.Player.{lineOf}
-use Rattle.slot_call.specs.Records.{recordsSlot}
+use Rattle.slot_records.specs.Records.{recordsSlot}
 use Rattle.player_turns.specs.Turns.{Wrote}
 use Rattle.player_turns.proofs.Sent.{departures-filled}
 use Rattle.player_turns.specs.Code.{slotText, playedOf, SlotPlayed}

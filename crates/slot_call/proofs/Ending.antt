@@ -29,9 +29,9 @@ use Rattle.slot_course.specs.Code.{courseOf}
 use Rattle.slot_call.specs.declared.running.Ended.{Ended}
 use Rattle.layout_tally.specs.Counted.{countedAs}
 use Rattle.slot_call.specs.CodeEnded.{takenOutcome, endedOf, RunLeaves}
-use Rattle.slot_call.specs.CodeTaken.{Taken}
+use Rattle.slot_records.specs.CodeTaken.{Taken}
 use Rattle.layout_answer.proofs.Departures.{sent-filled}
-use Rattle.slot_call.specs.Records.{recordsSlot}
+use Rattle.slot_records.specs.Records.{recordsSlot}
 
 ------------------------------------------------------------------------
 -- the code
@@ -102,10 +102,5 @@ module _ (table : List ℕ) (records : List Arrival) (answer : List ℕ) (f : Fa
       → RunLeaves (recordsSlot table (length answer) records) table answer ended table′ answer′
   taken-ended ended table′ answer′ (e, (t, a)) =
       let same : takenOutcome new f ≡ recordsSlot table (length answer) records =
-      taken-outcome table (length answer) records f new h in (
-        e ∙ ap endedOf same,
-        (
-          t ∙ ap (tableAfter new) same ∙ taken-table table (length answer) records f new h,
-          a ∙ ap (answerAfter answer) same,
-        ),
-      )
+      taken-outcome table (length answer) records f new h in
+      (e ∙ ap endedOf same, (t ∙ ap (tableAfter new) same ∙ taken-table table (length answer) records f new h, a ∙ ap (answerAfter answer) same))

@@ -5,14 +5,12 @@
 use Prim.Native.Nat.{ℕ, zero, suc, _+_, _*_, _/_, _%_, _≤_, _<_, min}
 use native.Mathlib.Omega.{arith}
 use native.Mathlib.Numerals.{add-one}
-use mathlib.Core.Bool.{Bool, true, false}
+use mathlib.Core.Bool.{false}
 use mathlib.Core.List.{List, [], _∷_, _++_}
 use mathlib.Core.Option.{Option, none, some}
 use mathlib.Core.Path.{_≡_, refl, sym, ap, ap₂, _∙_}
-use borrow.Author.Tests.{ltb-true, ltb-false}
-use lib.Dec.{ltb}
 use lib.ListN.{length, take, drop, set, length-take}
-use lib.Seq.{take-suc-set, take-all, drop-drop}
+use lib.Seq.{take-suc-set, drop-drop}
 use Rattle.cell.specs.declared.Arrival.{Arrival}
 use Rattle.cell.specs.declared.Refusal.the-variants.{BrokenTable}
 use Rattle.cell.specs.declared.Tally.{Tally}
@@ -29,9 +27,9 @@ use Rattle.layout.proofs.Records.{numberAt-part}
 use Rattle.cell.specs.declared.Fault.{Fault}
 use Rattle.cell.specs.declared.Fault.the-variants.{At}
 use Rattle.layout_tally.specs.Counted.{countedAs}
-use Rattle.slot_call.specs.CodeLent.{lentSlot, arrivalAt}
-use Rattle.slot_call.proofs.Looking.{lent-first, tally-first}
-use Rattle.slot_call.specs.Records.{recordsSlot}
+use Rattle.slot_call.specs.CodeLent.{lentSlot, arrivalAt, LentLeaves}
+use Rattle.slot_records.proofs.Looking.{first-seventeen, lent-first, tally-first}
+use Rattle.slot_records.specs.Records.{recordsSlot}
 
 ------------------------------------------------------------------------
 -- the bytes
@@ -93,15 +91,6 @@ arrivalsOf-take (suc k) (suc n) bs h =
 ------------------------------------------------------------------------
 -- a slot on bytes
 
--- what the code answers, and the table, the answer and the tally that it leaves
-abbrev pub Answered : List ℕ → List ℕ → List ℕ → List ℕ → Fault → List ℕ → List ℕ → List ℕ → Type 0
-Answered table arrivals answer tally fault table′ answer′ tally′ =
-    let o = lentSlot table arrivals (length answer) in
-    (fault ≡ refusalOf o)
-    × ((table′ ≡ tableAfter table o)
-    × ((answer′ ≡ answerAfter answer o)
-    × (tally′ ≡ tallyBytes (tallyAfter (arrivalCount (recordsOf arrivals)) o (tallyOf tally)))))
-
 module _ (table arrivals : List ℕ) (room : ℕ) where
   lent-broken : recordsOf arrivals ≡ none → lentSlot table arrivals room ≡ refused BrokenTable 0
   unfolding lentSlot slotOf
@@ -118,24 +107,16 @@ module _ (table arrivals : List ℕ) (room : ℕ) where
 
 -- the first records of the bytes, by their number
 first-records : (n : ℕ) (bs : List ℕ) → arrivalsOf (min n 17) bs ≡ take 17 (arrivalsOf n bs)
-first-records n bs = go (ltb n 17) refl
-  where
-    go : (b : Bool) → ltb n 17 ≡ b → arrivalsOf (min n 17) bs ≡ take 17 (arrivalsOf n bs)
-    go true e =
-        let few : n < 17 = ltb-true n 17 e in
-        let all : min n 17 ≡ n = omega arith in
-        let size : length (arrivalsOf n bs) ≤ 17 = omega (arith, length-arrivalsOf n bs) in
-        ap (λ k. arrivalsOf k bs) all ∙ sym (take-all 17 (arrivalsOf n bs) size)
-    go false e =
-        let many : 17 ≤ n = ltb-false n 17 e in
-        let some : min n 17 ≡ 17 = omega arith in
-        ap (λ k. arrivalsOf k bs) some ∙ arrivalsOf-take 17 n bs many
+first-records n bs =
+    arrivalsOf-take (min n 17) n bs (omega arith)
+    ∙ ap (λ k. take (min k 17) (arrivalsOf n bs)) (sym (length-arrivalsOf n bs))
+    ∙ first-seventeen (arrivalsOf n bs)
 
 module _ (table arrivals answer tally : List ℕ) where
   -- no whole number of records
   pub lent-torn : (length arrivals % arrivalSize ≡ 0 → ⊥) → (before after : Tally) (tally′ : List ℕ) → before ≡ tallyOf tally
       → after ≡ countedAs false 0 0 before → tally′ ≡ tallyBytes after
-      → Answered table arrivals answer tally (At BrokenTable 0) table answer tally′
+      → LentLeaves (lentSlot table arrivals (length answer)) table arrivals answer tally (At BrokenTable 0) table answer tally′
   unfolding refusalOf tableAfter answerAfter tallyAfter countedAs
   lent-torn torn before after tally′ b c d =
       let outcome : lentSlot table arrivals (length answer) ≡ refused BrokenTable 0 =
@@ -173,11 +154,8 @@ module _ (table arrivals answer tally : List ℕ) where
         → after ≡ tallyAfter many (recordsSlot table (length answer) (take many records)) before
         → table′ ≡ tableAfter table (recordsSlot table (length answer) (take many records))
         → answer′ ≡ answerAfter answer (recordsSlot table (length answer) (take many records)) → tally′ ≡ tallyBytes after
-        → Answered table arrivals answer tally fault table′ answer′ tally′
+        → LentLeaves (lentSlot table arrivals (length answer)) table arrivals answer tally fault table′ answer′ tally′
     lent-called fault before after table′ answer′ tally′ b e₁ e₂ e₃ e₄ e₅ = (
       e₁ ∙ ap refusalOf outcome,
-      (
-        e₃ ∙ ap (tableAfter table) outcome,
-        (e₄ ∙ ap (answerAfter answer) outcome, e₅ ∙ ap tallyBytes (e₂ ∙ counted-all before ∙ ap (tallyAfter _ _) b)),
-      ),
+      (e₃ ∙ ap (tableAfter table) outcome, (e₄ ∙ ap (answerAfter answer) outcome, e₅ ∙ ap tallyBytes (e₂ ∙ counted-all before ∙ ap (tallyAfter _ _) b))),
     )

@@ -4,7 +4,7 @@ use mathlib.Core.Bool.{true, false}
 use mathlib.Core.List.{List}
 use mathlib.Core.Path.{_≡_}
 use Rattle.laws.specs.Lists.{count}
-use Rattle.model.specs.Checks.{Outcome, done, refused}
+use Rattle.model.specs.Checks.{Outcome, done, refused, refusalOf}
 use Rattle.model.specs.Crossbar.{Course}
 use Rattle.model.specs.Tally.{isSent}
 use Rattle.layout.specs.Host.{tableAfter, answerAfter}
@@ -28,3 +28,8 @@ endedOf (refused r place) = record { fault = At r place; ran = false; departures
 abbrev pub RunLeaves : Outcome Course → List ℕ → List ℕ → Ended → List ℕ → List ℕ → Type 0
 RunLeaves o table answer ended table′ answer′ =
     (ended ≡ endedOf o) × ((table′ ≡ tableAfter table o) × (answer′ ≡ answerAfter answer o))
+
+-- the same where nothing is counted: its refusal, the table and the answer's buffer
+abbrev pub SoundLeaves : Outcome Course → List ℕ → List ℕ → Fault → List ℕ → List ℕ → Type 0
+SoundLeaves o table answer fault table′ answer′ =
+    (fault ≡ refusalOf o) × ((table′ ≡ tableAfter table o) × (answer′ ≡ answerAfter answer o))

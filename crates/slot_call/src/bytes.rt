@@ -1,5 +1,5 @@
 // The same slot for a caller that lends the arrivals and the tally as bytes.
-use crate::records::few;
+use crate::few;
 use crate::slot_of;
 use cell::Arrival;
 use cell::Fault;
@@ -15,7 +15,7 @@ ghost use lib.ListN.{length, take};
 ghost use Rattle.layout.specs.Arrivals.{arrivalSize, arrivalsOf};
 ghost use Rattle.layout.specs.TallyBytes.{tallySize};
 ghost use Rattle.slot_call.specs.CodeLent.{lentSlot, arrivalAt, LentLeaves};
-ghost use Rattle.slot_call.specs.CodeLooked.{heldLimit};
+ghost use Rattle.slot_records.specs.CodeLooked.{heldLimit};
 
 // Takes a slot as `slot` of this crate does. Bytes that are no whole number of records are refused with 2.
 pub fn slot(table: &mut [u8], arrivals: &[u8], answer: &mut [u8], tally: &mut [u8]) -> Fault

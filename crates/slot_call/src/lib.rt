@@ -1,23 +1,18 @@
 // A slot on what it is lent: the arrivals are lent as a slice of records, and the tally is lent to be changed in place.
-mod arriving;
 pub mod bytes;
-mod records;
 mod running;
 
-use arriving::take_held;
 use cell::Arrival;
 use cell::Fault;
 use cell::Tally;
 use layout::HELD;
 use layout::PORTS;
 use layout_tally::count;
-use records::before_records;
-use records::clock_refusal;
-use records::few;
-use records::none_checked;
 use running::Ended;
 use running::run_taken;
 use slot_loading::fill_sets;
+use slot_records::take_records;
+use slot_records::take_sound;
 ghost use mathlib.Core.Path.{_≡_};
 ghost use Prim.Native.Nat.{_≤_, min};
 ghost use lib.ListN.{length, take};
@@ -26,9 +21,9 @@ ghost use Rattle.layout.specs.Table.{IsTable};
 ghost use Rattle.model.specs.Tally.{tallyAfter};
 ghost use Rattle.model.specs.Checks.{refusalOf};
 ghost use Rattle.layout.specs.Host.{tableAfter, answerAfter};
-ghost use Rattle.slot_call.specs.CodeEnded.{endedOf};
-ghost use Rattle.slot_call.specs.CodeLooked.{SoundLeaves, heldLimit};
-ghost use Rattle.slot_call.specs.Records.{recordsSlot};
+ghost use Rattle.slot_call.specs.CodeEnded.{endedOf, SoundLeaves};
+ghost use Rattle.slot_records.specs.CodeLooked.{heldLimit};
+ghost use Rattle.slot_records.specs.Records.{recordsSlot};
 
 // Takes a slot on the lent table with the lent records. The table is then the one after the slot, the first bytes of
 // the answer's buffer are its answer, and the tally counts it. A refusal is the first one of: 2, the table is broken;
@@ -75,6 +70,17 @@ fn hold(records: &[Arrival]) -> [Arrival; HELD]
     held
 }
 
+// How many of so many records are looked at. Inputs rise and are below 16, so that the seventeenth record, if there is
+// one, has a fault or stands behind one.
+pub(crate) fn few(count: usize) -> usize
+    ensures { λ r. ⌜ r ≡ min count heldLimit ⌝ }
+{
+    if count < HELD {
+        return count;
+    }
+    HELD
+}
+
 // The slot with the first of the held records, and what came of it; the tally is not counted in.
 fn run_held(table: &mut [u8], held: [Arrival; HELD], number: usize, answer: &mut [u8]) -> Ended
     requires { ⌜ number ≤ heldLimit ⌝ }
@@ -89,21 +95,13 @@ fn run_held(table: &mut [u8], held: [Arrival; HELD], number: usize, answer: &mut
     let mut heads = [0u64; PORTS];
     let mut crossed = [0u64; PORTS];
     let mut buffered = [0u64; PORTS];
-    let before = before_records(
+    let taken = take_records(
         table,
         answer.len(),
         &mut listed,
         &mut heads,
         &mut crossed,
         &mut buffered,
-    );
-    let taken = take_held(
-        table,
-        &mut listed,
-        &mut heads,
-        &mut crossed,
-        &mut buffered,
-        before,
         held,
         number,
     );
@@ -169,14 +167,12 @@ pub fn sound_slot(
     let mut crossed = [0u64; PORTS];
     let mut buffered = [0u64; PORTS];
     fill_sets(table, &mut listed, &mut heads, &mut crossed, &mut buffered);
-    let before = none_checked(clock_refusal(table));
-    let taken = take_held(
+    let taken = take_sound(
         table,
         &mut listed,
         &mut heads,
         &mut crossed,
         &mut buffered,
-        before,
         records,
         many,
     );

@@ -8,7 +8,7 @@ ghost use lib.ListN.{length};
 ghost use Rattle.layout.specs.Answer.{answerSize};
 ghost use Rattle.layout.specs.Table.{IsTable};
 ghost use Rattle.cell.specs.declared.Fault.the-variants.{Clear};
-ghost use Rattle.slot_call.specs.CodeTaken.{SetsIf};
+ghost use Rattle.slot_records.specs.CodeTaken.{SetsIf};
 ghost use Rattle.slot_call.specs.CodeEnded.{takenOutcome, RunLeaves};
 
 // What came of a slot: its refusal if it is turned back, and its departures if it ran.

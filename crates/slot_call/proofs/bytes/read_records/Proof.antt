@@ -56,15 +56,5 @@ returns c =
 pub read-records-spec : {M : Type 1} → statement M
 read-records-spec =
     tie.close
-    (tie.spec
-    Inv-loop
-    μ-loop
-    few-requires
-    loop-holds
-    record-at-requires
-    mul-records
-    array-set-from-records
-    add-n
-    loop-less
-    loop-again
-    returns)
+    (tie.spec Inv-loop μ-loop few-requires loop-holds record-at-requires mul-records array-set-from-records add-n
+    loop-less loop-again returns)

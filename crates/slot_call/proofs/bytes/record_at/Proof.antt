@@ -44,15 +44,5 @@ returns c =
 pub record-at-spec : {M : Type 1} → statement M
 record-at-spec =
     tie.close
-    (tie.spec
-    mul-at
-    read-u32-requires
-    add-read-u32
-    read-u32-requires-2
-    add-read-u32-2
-    read-u32-requires-3
-    add-read-u32-3
-    read-u32-requires-4
-    add-read-u32-4
-    read-u32-requires-5
-    returns)
+    (tie.spec mul-at read-u32-requires add-read-u32 read-u32-requires-2 add-read-u32-2 read-u32-requires-3
+    add-read-u32-3 read-u32-requires-4 add-read-u32-4 read-u32-requires-5 returns)

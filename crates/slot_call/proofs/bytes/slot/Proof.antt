@@ -63,17 +63,5 @@ returns-2 c =
 pub slot-spec : {M : Type 1} → statement M
 slot-spec =
     tie.close
-    (tie.spec
-    read-requires
-    counted-requires
-    write-requires
-    same-length
-    returns
-    read-records-requires
-    few-requires
-    slot-of-requires
-    write-requires-2
-    same-length-2
-    same-length-3
-    same-length-4
-    returns-2)
+    (tie.spec read-requires counted-requires write-requires same-length returns read-records-requires few-requires
+    slot-of-requires write-requires-2 same-length-2 same-length-3 same-length-4 returns-2)

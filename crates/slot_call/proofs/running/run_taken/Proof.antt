@@ -49,12 +49,4 @@ returns-2 c =
 pub run-taken-spec : {M : Type 1} → statement M
 run-taken-spec =
     tie.close
-    (tie.spec
-    enum-told
-    enum-told-2
-    returns
-    run-requires
-    departures-in-requires
-    same-length
-    same-length-2
-    returns-2)
+    (tie.spec enum-told enum-told-2 returns run-requires departures-in-requires same-length same-length-2 returns-2)

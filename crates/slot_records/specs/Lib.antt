@@ -1,0 +1,3 @@
+pub mod CodeLooked
+pub mod CodeTaken
+pub mod Records
