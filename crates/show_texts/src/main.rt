@@ -96,7 +96,16 @@ fn long_texts() {
     read(b"four thousand digits", &digits);
     read(
         b"a 17th arrival",
-        b"ports=1\nfirst=0\nslot=0\nin=0\nout=0\nflow=0\nrank=0\ntag=0\nin=0\nout=0\nflow=0\nrank=0\ntag=0\nin=0\nout=0\nflow=0\nrank=0\ntag=0\nin=0\nout=0\nflow=0\nrank=0\ntag=0\nin=0\nout=0\nflow=0\nrank=0\ntag=0\nin=0\nout=0\nflow=0\nrank=0\ntag=0\nin=0\nout=0\nflow=0\nrank=0\ntag=0\nin=0\nout=0\nflow=0\nrank=0\ntag=0\nin=0\nout=0\nflow=0\nrank=0\ntag=0\nin=0\nout=0\nflow=0\nrank=0\ntag=0\nin=0\nout=0\nflow=0\nrank=0\ntag=0\nin=0\nout=0\nflow=0\nrank=0\ntag=0\nin=0\nout=0\nflow=0\nrank=0\ntag=0\nin=0\nout=0\nflow=0\nrank=0\ntag=0\nin=0\nout=0\nflow=0\nrank=0\ntag=0\nin=0\nout=0\nflow=0\nrank=0\ntag=0\nin=0\nout=0\nflow=0\nrank=0\ntag=0\nend=1\n",
+        b"ports=1\nfirst=0\nslot=0\n\
+        in=0\nout=0\nflow=0\nrank=0\ntag=0\nin=0\nout=0\nflow=0\nrank=0\ntag=0\n\
+        in=0\nout=0\nflow=0\nrank=0\ntag=0\nin=0\nout=0\nflow=0\nrank=0\ntag=0\n\
+        in=0\nout=0\nflow=0\nrank=0\ntag=0\nin=0\nout=0\nflow=0\nrank=0\ntag=0\n\
+        in=0\nout=0\nflow=0\nrank=0\ntag=0\nin=0\nout=0\nflow=0\nrank=0\ntag=0\n\
+        in=0\nout=0\nflow=0\nrank=0\ntag=0\nin=0\nout=0\nflow=0\nrank=0\ntag=0\n\
+        in=0\nout=0\nflow=0\nrank=0\ntag=0\nin=0\nout=0\nflow=0\nrank=0\ntag=0\n\
+        in=0\nout=0\nflow=0\nrank=0\ntag=0\nin=0\nout=0\nflow=0\nrank=0\ntag=0\n\
+        in=0\nout=0\nflow=0\nrank=0\ntag=0\nin=0\nout=0\nflow=0\nrank=0\ntag=0\n\
+        in=0\nout=0\nflow=0\nrank=0\ntag=0\nend=1\n",
     );
 }
 

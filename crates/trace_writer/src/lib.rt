@@ -1,5 +1,5 @@
-// The writer, scope 7.6: from contents to text. The `pour_..` put line after line, and answer the place after the text; a
-// text poured into no bytes is measured. No function has a `requires`.
+// The writer, scope 7.6: from contents to text. The `pour_..` put line after line, and answer the place after the text;
+// a text poured into no bytes is measured. No function has a `requires`.
 use cell::Arrival;
 use cell::Refusal;
 use cell::Switch;
