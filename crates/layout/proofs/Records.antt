@@ -2,7 +2,7 @@
 --     drop-take, numberAt-part     a part of the bytes
 --     entryAt-.., placeByteAt-byte  the fields of an entry are the bytes from its record's start on
 --     between-nil, -cons, -mem      the numbers from one up to another
---     entriesOf-records, sectionsOf-records, stateOf-section   the entries of a state by their numbers
+--     entriesBetween-, stateOf-     the entries of a state by their numbers
 use Prim.Native.Nat.{ℕ, zero, suc, _+_, _*_, _-_, _/_, _≤_, _<_}
 use mathlib.Core.Bool.{Bool, true, false, _&&_}
 use mathlib.Core.Path.{_≡_, refl, sym, _∙_, ap, ap₂, subst}

@@ -6,7 +6,7 @@
 --     own-flow                         the flow of an entry of the record's input, by the numbers of the flows
 --     outranks-by                      7 of one entry
 --     Fallen                           7 by a pass over the section of the record's input
---     full-section                     8 by the count of the record's input
+--     full-count                       8 by the count of the record's input
 --     fault-none                       all five
 --     clear-not                        a fault is not `Clear`
 use Prim.Native.Nat.{ℕ, suc, _+_, _*_, _-_, _/_, _≤_, _<_}

@@ -1,6 +1,6 @@
 -- The records of a slot come one by one.
 --     faultFrom-take, arrive-append     the first n records, and one after the other
---     after-sound, after-table          the switch when the first n have come is sound, and its bytes are a table
+--     after-sound                       the switch when the first n have come is sound
 --     clock-raised                      the table with the clock of the next slot
 --     Came                              the first n have come
 --     came-none, came-may, came-next, came-all     none have, the next one may, it has, all have

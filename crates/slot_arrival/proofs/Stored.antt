@@ -1,5 +1,5 @@
 -- What the bytes of a table hold.
---     is-table, table-sound, -encode, -length, -ports, -clock    what it is to be a table
+--     table-sound, -encode, -length, -ports, -clock    what it is to be a table
 --     section-length, section-entry                    a section, its entries by their numbers
 use Prim.Native.Nat.{ℕ, _+_, _*_, _≤_, _<_}
 use mathlib.Core.Bool.{true}

@@ -3,7 +3,6 @@
 --     written f v n l           the column l with v at f 0, f 1, .. f (n - 1); a number past its end changes nothing
 --     left, leftHeads           the lists and the heads without a head
 --     leaving, leavingHeads     the same for f 0, .. f (n - 1)
---     put cross i o k           the crosspoints with k at that of input i and output o
 --     sending, keying           the crosspoints and their keys after f 0, .. f (n - 1) were sent to theirs
 --     entered table best k      the best of each output, where k may be a better one
 --     entering table f n best   the same for f 0, .. f (n - 1)

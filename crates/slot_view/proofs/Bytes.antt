@@ -1,8 +1,8 @@
 -- Where the records of a state stand among the bytes of its table.
---     sectionsBytes-drop, countsBytes-drop   the bytes of the sections from one on
---     encode-from                            the bytes of the table from a section on
---     recordAt-encode                        the record of an entry
---     encode-rest                            behind the entries of a section come zeros and the next section
+--     sectionsBytes-drop     the bytes of the sections from one on
+--     encode-from            the bytes of the table from a section on
+--     recordAt-encode        the record of an entry
+--     encode-rest            behind the entries of a section come zeros and the next section
 use Prim.Native.Nat.{ℕ, zero, suc, _+_, _*_, _-_, _≤_, _<_}
 use native.Mathlib.Nat.{zero-add, suc-add}
 use native.Mathlib.Omega.{arith}

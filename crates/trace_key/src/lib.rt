@@ -1,7 +1,8 @@
 // The text of a key, for the reader and the writer of a line.
 use trace::Key;
 ghost use mathlib.Core.Path.{_≡_};
-ghost use lib.ListN.{length, take};
+ghost use Prim.Native.Nat.{_-_};
+ghost use lib.ListN.{length, take, drop, replicate};
 ghost use Rattle.trace.specs.Line.{keyText};
 
 // A key and `=`, filled up with blanks, and how many bytes they have.
@@ -11,6 +12,7 @@ pub struct KeyText(pub [u8; 8], pub usize);
 pub fn key_text(key: Key) -> KeyText
     ensures { λ r. ⌜ take (r .1) (r .0) ≡ keyText key ⌝ }
     ensures { λ r. ⌜ r .1 ≡ length (keyText key) ⌝ }
+    ensures { λ r. ⌜ drop (r .1) (r .0) ≡ replicate (8 - r .1) 32 ⌝ }
 {
     match key {
         Key::Ports => KeyText(*b"ports=  ", 6),

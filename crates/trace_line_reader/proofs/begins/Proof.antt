@@ -15,12 +15,12 @@ key-text-requires c κs = search needs
 array-share-prefix-bytes : tie.Need-array-share-prefix-bytes
 array-share-prefix-bytes c =
     let k = c .before .key-text in
-    omega (arith, k .ensures .1, ap length (k .ensures .0), length-take (k .result .1) (k .result .0))
+    omega (arith, k .ensures .1 .0, ap length (k .ensures .0), length-take (k .result .1) (k .result .0))
 
 slice-aggregate-starts-with : tie.Need-slice-aggregate-starts-with
 slice-aggregate-starts-with c =
     let k = c .before .before .key-text .ensures in
-    k .1 ∙ sym (ap length (k .0))
+    k .1 .0 ∙ sym (ap length (k .0))
 
 starts-with-requires : tie.Need-starts-with-requires
 starts-with-requires c κs = search needs

@@ -15,7 +15,7 @@ key-text-requires : tie.Need-key-text-requires
 key-text-requires c κs = search needs
 
 returns : tie.Need-returns
-returns c = sym (lineOf-none _ (readLine-short _ _ (omega (arith, c .before .before .key-text .ensures .1))))
+returns c = sym (lineOf-none _ (readLine-short _ _ (omega (arith, c .before .before .key-text .ensures .1 .0))))
 
 begins-requires : tie.Need-begins-requires
 begins-requires c κs = search needs
@@ -33,7 +33,7 @@ returns-3 c =
     let a = key .before .before .args in
     let t = now (a .text) in
     let b = readLine-before (a .key) t (sym (begins .begins .ensures) ∙ not-false _ (c .before .if2 .left)) in
-    c .read-number .ensures ∙ ap (λ n. lineOf t (readBody (drop n t))) (key .key-text .ensures .1) ∙ ap (lineOf t) (sym b)
+    c .read-number .ensures ∙ ap (λ n. lineOf t (readBody (drop n t))) (key .key-text .ensures .1 .0) ∙ ap (lineOf t) (sym b)
 
 pub read-line-spec : {M : Type 1} → statement M
 read-line-spec =

@@ -13,12 +13,12 @@ key-text-requires c κs = search needs
 array-share-prefix-bytes : tie.Need-array-share-prefix-bytes
 array-share-prefix-bytes c =
     let k = c .before .before .key-text in
-    omega (arith, k .ensures .1, ap length (k .ensures .0), length-take (k .result .1) (k .result .0))
+    omega (arith, k .ensures .1 .0, ap length (k .ensures .0), length-take (k .result .1) (k .result .0))
 
 slice-aggregate-write-text : tie.Need-slice-aggregate-write-text
 slice-aggregate-write-text c =
     let k = c .before .before .before .key-text .ensures in
-    k .1 ∙ sym (ap length (k .0))
+    k .1 .0 ∙ sym (ap length (k .0))
 
 write-text-requires : tie.Need-write-text-requires
 write-text-requires c κs = omega (arith, ap length (c .before .before .before .key-text .ensures .0))
