@@ -6,6 +6,7 @@
 --     -append, -map, -keep        of l ++ m, map f l, keep p l
 --     find                        some member passes, or none does
 --     keep-mem, mem-keep          the members of a kept list
+--     first-mem, first-of         the first element
 --     getD-mem, getD-any          the element at a place
 use Prim.Native.Nat.{ℕ, zero, suc, _<_}
 use native.Mathlib.Omega.{arith}
@@ -14,9 +15,10 @@ use mathlib.Core.Path.{_≡_, refl, sym, _∙_, ap, ap₂}
 use mathlib.Core.Logic.{_⊎_, inl, inr}
 use mathlib.Core.List.{List, [], _∷_, _++_, map, List·Memᴰ, List·Memᴰ·head, List·Memᴰ·tail, List·Memᴰ·not-nil}
 use mathlib.Core.List.{List·Memᴰ·cases-cons, flatten, append-assoc}
+use mathlib.Core.Option.{some}
 use borrow.Author.Tests.{not-true, not-false}
 use lib.ListN.{length, getD}
-use Rattle.laws.specs.Lists.{keep, some?, none?, all?}
+use Rattle.laws.specs.Lists.{keep, some?, none?, all?, first?}
 use Rattle.laws.proofs.Tests.{clash, by-fail, same, and-i, and-l, and-r, or-l, or-r, or-cases}
 use Rattle.laws.proofs.Tests.{not-i, not-or}
 
@@ -334,6 +336,20 @@ module _ {A B : Type 0} (p : B → Bool) (f : A → B) where
       go : (b : Bool) → cond b (f x ∷ map f k) (map f k) ≡ map f (cond b (x ∷ k) k)
       go true = refl
       go false = refl
+
+------------------------------------------------------------------------
+-- the first
+
+pub first-mem : {A : Type 0} (l : List A) (b : A) → first? l ≡ some b → List·Memᴰ b l
+unfolding first?
+first-mem [] b h = absurd (let z : _≡_ {A = ℕ} 0 1 = cc in omega arith)
+first-mem (x ∷ l) b h = let e : b ≡ x = cc in List·Memᴰ·head e
+
+-- where all members are one, it is the first
+pub first-of : {A : Type 0} (l : List A) {e : A} → List·Memᴰ e l → ((f : A) → List·Memᴰ f l → f ≡ e) → first? l ≡ some e
+unfolding first?
+first-of [] m h = absurd (List·Memᴰ·not-nil m)
+first-of (x ∷ l) m h = ap some (h x (List·Memᴰ·head refl))
 
 ------------------------------------------------------------------------
 -- elements by their places

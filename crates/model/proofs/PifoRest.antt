@@ -16,7 +16,7 @@ use borrow.Author.Tests.{eqb-true, eqb-false, eq-eqb, ne-eqb, ltb-true, not-true
 use Rattle.laws.specs.Lists.{keep, some?, count, least, first?}
 use Rattle.laws.specs.Order.{Strict}
 use Rattle.laws.proofs.Tests.{clash, either, same, by-fail, and-i, and-l, and-r, and-false-r, not-i}
-use Rattle.laws.proofs.Lists.{some?-i, some?-e, none?-i, keep-ext}
+use Rattle.laws.proofs.Lists.{some?-i, some?-e, none?-i, keep-ext, first-mem}
 use Rattle.laws.proofs.Count.{count-nil, count-le, count-lt, count-pos, count-zero, count-keep-le}
 use Rattle.laws.proofs.Least.{least-below, mem-least-in, mem-least-first}
 use Rattle.laws.proofs.Pairwise.{pairwise-mono, pairwise-le-one}
@@ -56,11 +56,6 @@ Distinct q = (input slot : ℕ) → count (cameIn input slot) q ≤ 1
 
 ------------------------------------------------------------------------
 -- a queue in which no two cells share input and slot
-
-first-mem : {A : Type 0} (l : List A) (b : A) → first? l ≡ some b → List·Memᴰ b l
-unfolding first?
-first-mem [] b h = absurd (let z : _≡_ {A = ℕ} 0 1 = cc in omega arith)
-first-mem (x ∷ l) b h = let e : b ≡ x = cc in List·Memᴰ·head e
 
 first-none : {A : Type 0} (l : List A) → first? l ≡ none → l ≡ []
 unfolding first?

@@ -10,7 +10,7 @@ use native.Mathlib.Omega.{arith}
 use mathlib.Core.Bool.{Bool, true}
 use mathlib.Core.Path.{_≡_, refl, sym, _∙_, ap, ap₂, subst}
 use mathlib.Core.Logic.{_⊎_, inl, inr}
-use mathlib.Core.List.{List, [], _∷_, _++_, map, List·Memᴰ, List·Memᴰ·head, List·Memᴰ·not-nil, Memᴰ·cast}
+use mathlib.Core.List.{List, [], _∷_, _++_, map, List·Memᴰ, List·Memᴰ·head, Memᴰ·cast}
 use mathlib.Core.Option.{Option, none, some, Option·map}
 use borrow.Author.Tests.{eqb-true, eq-eqb, le-leb, lt-leb}
 use lib.Dec.{eqb}
@@ -18,7 +18,7 @@ use lib.ListN.{length, getD, take, drop, length-map, List·getD-map, List·getD-
 use lib.Seq.{take-add, take-at, take-all, drop-at, drop-drop, getD-drop, length-take-le}
 use Rattle.laws.specs.Lists.{keep, first?, upTo}
 use Rattle.laws.proofs.Tests.{clash, by-fail, same}
-use Rattle.laws.proofs.Lists.{none?-i, keep-mem, mem-keep-in, mem-keep-passes, getD-any}
+use Rattle.laws.proofs.Lists.{none?-i, keep-mem, mem-keep-in, mem-keep-passes, first-of, getD-any}
 use Rattle.laws.proofs.Least.{least-mem}
 use Rattle.laws.proofs.Numbers.{numbersFrom-at}
 use Rattle.cell.specs.declared.Cell.{Cell}
@@ -254,13 +254,6 @@ module _ (ds : List (Option Cell)) (old : List ℕ) (room : departuresSize ≤ l
 pub getD-map : {A B : Type 0} (f : A → B) (l : List A) (i : ℕ) (d : A) (e : B) → i < length l
     → getD (map f l) i e ≡ f (getD l i d)
 getD-map f l i d e h = getD-any (map f l) i e (f d) (omega (arith, length-map l f)) ∙ List·getD-map f l i d
-
--- where all members are one cell, it is the first
-first-of : (l : List Waiting) {e : Waiting} → List·Memᴰ e l → ((f : Waiting) → List·Memᴰ f l → f ≡ e)
-    → first? l ≡ some e
-unfolding first?
-first-of [] m h = absurd (List·Memᴰ·not-nil m)
-first-of (x ∷ l) m h = ap some (h x (List·Memᴰ·head refl))
 
 first-none : (l : List Waiting) → ((f : Waiting) → List·Memᴰ f l → ⊥) → first? l ≡ none
 unfolding first?
