@@ -1,4 +1,4 @@
-/* A host of the crossbar: starts a switch, runs a short show on it and prints what departs.
+/* A host of the crossbar: starts a switch, runs a short show on it and prints what departs and how crowded it was.
 
      cc -Iinclude examples/host.c target/staticlib/libcrossbar.a -o target/host && target/host
 
@@ -68,14 +68,17 @@ static size_t leave_out(uint8_t *arrivals, size_t bytes, uint64_t place) {
 static void print_answer(uint32_t number, const uint8_t *answer) {
     printf("slot %" PRIu32 ":", number);
     for (uint32_t output = 0; output < CROSSBAR_PORTS; output++) {
-        const uint8_t *d = answer + output * CROSSBAR_DEPARTURE_BYTES;
-        if (get32(d) == 0) continue; /* this output sends none */
+        const uint8_t *d = answer + CROSSBAR_DEPARTURE_AT(output);
+        if (get32(d) == 0) continue; /* this output sends none, and its crosspoints were empty */
         uint32_t input = get32(d + 4), rank = get32(d + 16), tag = get32(d + 20);
-        printf(" output %" PRIu32 " sends tag %" PRIu32 " of input %" PRIu32 ", rank %" PRIu32 ";", output, tag, input,
+        uint32_t first = get32(answer + CROSSBAR_OCCUPANCY_AT(0, output));
+        uint32_t second = get32(answer + CROSSBAR_OCCUPANCY_AT(1, output));
+        printf(" output %" PRIu32 " sends tag %" PRIu32 " of input %" PRIu32 ", rank %" PRIu32 ", ", output, tag, input,
                rank);
+        printf("occupancies %" PRIu32 " and %" PRIu32 ";", first, second);
     }
-    const uint8_t *proposals = answer + CROSSBAR_PORTS * CROSSBAR_DEPARTURE_BYTES;
-    printf(" proposals %" PRIu32 " and %" PRIu32 "\n", get32(proposals), get32(proposals + 4));
+    uint32_t first = get32(answer + CROSSBAR_PROPOSALS_AT(0)), second = get32(answer + CROSSBAR_PROPOSALS_AT(1));
+    printf(" proposals %" PRIu32 " and %" PRIu32 "\n", first, second);
 }
 
 static void print_tally(const uint8_t *tally) {

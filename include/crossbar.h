@@ -18,7 +18,7 @@ extern "C" {
 
 /* The version of this header and of the library that it describes, and the number of the table's layout, with which
    every table begins. */
-#define CROSSBAR_VERSION "1.0.0"
+#define CROSSBAR_VERSION "2.0.0"
 #define CROSSBAR_LAYOUT 1u
 
 /* Limits. */
@@ -30,7 +30,7 @@ extern "C" {
 #define CROSSBAR_TABLE_BYTES 16416u
 #define CROSSBAR_ARRIVAL_BYTES 20u    /* input, output, flow, rank, tag: 32 bits each */
 #define CROSSBAR_DEPARTURE_BYTES 28u  /* 1 and input, output, flow, rank, tag, slot; or zeros */
-#define CROSSBAR_ANSWER_BYTES 456u    /* 16 departures, then the proposals of both phases */
+#define CROSSBAR_ANSWER_BYTES 584u    /* 16 departures, then the proposals and the occupancies of both phases */
 #define CROSSBAR_TALLY_BYTES 32u      /* slots run, slots refused, cells in, cells out: 64 bits each */
 
 /* Refusals. 0 is done. */
@@ -49,6 +49,12 @@ extern "C" {
 #define CROSSBAR_REFUSAL(result) ((uint32_t)((result) & 255u)) /* 0, or a refusal */
 #define CROSSBAR_PLACE(result) ((uint64_t)(result) >> 8)       /* of the refused record, from 1; 0 for 2, 3 and 10 */
 
+/* An answer, taken apart: the byte at which each part begins. The first phase is 0, the second 1. A count has 32
+   bits. */
+#define CROSSBAR_DEPARTURE_AT(output) (CROSSBAR_DEPARTURE_BYTES * (output))
+#define CROSSBAR_PROPOSALS_AT(phase) (448u + 4u * (phase))
+#define CROSSBAR_OCCUPANCY_AT(phase, output) (456u + 64u * (phase) + 4u * (output))
+
 /* Writes the table of a fresh switch into the first CROSSBAR_TABLE_BYTES of table, with ports from 1 to 16, no cells
    and any first slot; bytes past it are kept. Returns 0, or, changing nothing, CROSSBAR_BAD_SIZE, then
    CROSSBAR_SHORT_BUFFER. */
@@ -60,11 +66,16 @@ uint32_t check(const uint8_t *table, size_t table_bytes);
 /* Runs one slot. arrivals are records of CROSSBAR_ARRIVAL_BYTES, a cell each; an empty slot has none.
 
    Done, the result is 0. table is the switch after the slot, its clock one up. The first CROSSBAR_ANSWER_BYTES of
-   answer are the departures, output 0 first, then the proposals of both phases; bytes past them are kept. tally counts
-   one slot run, the cells that arrived and those that departed; a count at its top stays there. On a table that came
-   from start by slot calls alone, the departures are those of a PIFO output-queued switch: each output sends, of all
-   cells for it in the switch, the one of the smallest rank; for equal ranks that of the smaller slot, then of the
-   smaller input.
+   answer are the departures, output 0 first, then the proposals of both phases, then for each phase the occupancies,
+   output 0 first; bytes past them are kept. tally counts one slot run, the cells that arrived and those that departed;
+   a count at its top stays there. On a table that came from start by slot calls alone, the departures are those of a
+   PIFO output-queued switch: each output sends, of all cells for it in the switch, the one of the smallest rank; for
+   equal ranks that of the smaller slot, then of the smaller input.
+
+   An occupancy says how crowded an output is: how many of its crosspoints hold a cell when it chooses among them, from
+   0 to the number of ports. Cells just sent there are counted, and so is the cell that it takes. Where a cell came to
+   it straight it takes none, and those that wait are counted just the same. It is 0 at outputs that the switch does not
+   have.
 
    A refusal is the first fault in this order:
      CROSSBAR_BROKEN_TABLE  table is not sound or not CROSSBAR_TABLE_BYTES long, arrivals_bytes is no multiple of
@@ -73,9 +84,10 @@ uint32_t check(const uint8_t *table, size_t table_bytes);
      CROSSBAR_CLOCK_END
      record by record: CROSSBAR_NO_SUCH_PORT, CROSSBAR_NO_SUCH_FLOW, CROSSBAR_INPUT_ORDER, CROSSBAR_RANK_ORDER,
                        CROSSBAR_FULL, the last two by the cells in the switch before the slot
-   A refused slot has no departures and proposal counts 0, and nothing of that is written: answer keeps its bytes, so
-   read it only where the result is 0. A refusal changes nothing but the tally's count of refused slots, and not even
-   that where tally_bytes is wrong. So the host can mend the arrivals and call again. */
+   The answer of a refused slot is no departures, proposals 0 and occupancies 0, and nothing of that is written: answer
+   keeps its bytes, so read the result first, and answer only where it is 0. A refusal changes nothing but the tally's
+   count of refused slots, and not even that where tally_bytes is wrong. So the host can mend the arrivals and call
+   again. */
 uint64_t slot(uint8_t *table, size_t table_bytes, const uint8_t *arrivals, size_t arrivals_bytes, uint8_t *answer,
               size_t answer_bytes, uint8_t *tally, size_t tally_bytes);
 

@@ -5,7 +5,7 @@ pub const PORTS: usize = 16;
 pub const TABLE_BYTES: usize = 16416;
 pub const ARRIVAL_BYTES: usize = 20;
 pub const DEPARTURE_BYTES: usize = 28;
-pub const ANSWER_BYTES: usize = 456;
+pub const ANSWER_BYTES: usize = 584;
 pub const TALLY_BYTES: usize = 32;
 
 mod raw {
@@ -122,11 +122,13 @@ pub struct Cell {
     pub slot: u32,
 }
 
-/// For each output the cell that it sends, and the proposals of both phases.
+/// For each output the cell that it sends, the proposals of both phases, and for both phases the occupancy of each output:
+/// how many of its crosspoints held a cell when it chose.
 #[derive(Clone, Debug, PartialEq, Eq)]
 pub struct Answer {
     pub departures: Vec<Option<Cell>>,
     pub proposals: [u32; 2],
+    pub occupancies: [Vec<u32>; 2],
 }
 
 #[derive(Clone, Copy, Debug, Default, PartialEq, Eq)]
@@ -199,5 +201,10 @@ pub fn read_answer(bytes: &[u8], ports: usize) -> Answer {
         let at = |field: usize| word(bytes, DEPARTURE_BYTES * output + 4 * field);
         (at(0) != 0).then(|| Cell { input: at(1), output: at(2), flow: at(3), rank: at(4), tag: at(5), slot: at(6) })
     };
-    Answer { departures: (0..ports).map(departure).collect(), proposals: [word(bytes, 448), word(bytes, 452)] }
+    let occupancies = |first: usize| (0..ports).map(|output| word(bytes, first + 4 * output)).collect();
+    Answer {
+        departures: (0..ports).map(departure).collect(),
+        proposals: [word(bytes, 448), word(bytes, 452)],
+        occupancies: [occupancies(456), occupancies(520)],
+    }
 }

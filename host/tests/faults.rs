@@ -26,6 +26,15 @@ const AGAINST_DEMAND_3: [Fault; 9] = [
     Fault::PifoBySlotBeforeRank,
 ];
 
+/// What demand 3 does not see. No other departure comes of them (of another order of proposals, none was ever found), so they
+/// are told from the right rules by the rest of the answer.
+const AGAINST_THE_ANSWER: [Fault; 4] = [
+    Fault::SmallestCushionProposedFirst,
+    Fault::OccupancyBeforeCellsAreSent,
+    Fault::OccupancyAfterCellsAreTaken,
+    Fault::NoOccupancyWhereACellCameStraight,
+];
+
 /// How many cells of a place each port has, the port being the cell's input or its output.
 fn counts(s: &Crossbar, place: Place, port: fn(&Cell) -> u32) -> Vec<usize> {
     let of = |p: u32| s.sections.iter().flatten().filter(|e| e.place == place && port(&e.cell) == p).count();
@@ -118,15 +127,15 @@ fn wrong_rules_are_noticed() {
     }
 }
 
-/// The smallest cushion first (scope 10.1) is another order of proposals. No other departure was ever found, so it is told from
-/// the right rule by the answer, which has their number.
 #[test]
-fn another_order_of_proposals_is_noticed() {
-    let calls = noticed(MOST, |ports, first| {
-        let mut right = Crossbar::fresh(ports, first);
-        let mut wrong = right.clone().with_fault(Fault::SmallestCushionProposedFirst);
-        move |records: &[Record]| right.slot(records) == wrong.slot(records)
-    });
-    println!("{:?}: {calls:?}", Fault::SmallestCushionProposedFirst);
-    assert!(calls.is_some(), "the order of the proposals goes unnoticed");
+fn wrong_counts_are_noticed() {
+    for fault in AGAINST_THE_ANSWER {
+        let calls = noticed(MOST, |ports, first| {
+            let mut right = Crossbar::fresh(ports, first);
+            let mut wrong = right.clone().with_fault(fault);
+            move |records: &[Record]| right.slot(records) == wrong.slot(records)
+        });
+        println!("{fault:?}: {calls:?}");
+        assert!(calls.is_some(), "{fault:?} goes unnoticed");
+    }
 }

@@ -1,5 +1,6 @@
 //! Long random lists of slot calls on the proved switch, every byte of table, answer and tally compared with the reference
-//! after every call, and the PIFO switch beside them where the list began with a fresh switch.
+//! after every call, and the PIFO switch beside them where the list began with a fresh switch. Then occupancies worked out
+//! by hand, and what a refused slot keeps.
 //!
 //! SLOTS=n and SEED=n in the environment run longer or another list.
 
@@ -28,6 +29,11 @@ fn answer_bytes(a: &Answer) -> Vec<u8> {
     }
     out[448..452].copy_from_slice(&a.proposals[0].to_le_bytes());
     out[452..456].copy_from_slice(&a.proposals[1].to_le_bytes());
+    for (first, occupancies) in [456, 520].into_iter().zip(&a.occupancies) {
+        for (o, n) in occupancies.iter().enumerate() {
+            out[first + 4 * o..][..4].copy_from_slice(&n.to_le_bytes());
+        }
+    }
     out
 }
 
@@ -166,7 +172,7 @@ fn damaged(r: &mut Random, table: &[u8]) {
 fn from_a_fresh_switch() {
     let slots = setting("SLOTS", 500_000);
     let mut r = Random(setting("SEED", 1) * 2 + 88172645463325252);
-    let (mut done, mut proposals, mut refused) = (0, 0u64, [0u64; 11]);
+    let (mut done, mut proposals, mut refused, mut crowd) = (0, 0u64, [0u64; 11], 0);
     while done < slots {
         let ports = 1 + r.below(16) as u32;
         let first = r.pick(&[0, 1, 77, 4_000_000_000, CLOCK_END - 40, CLOCK_END]);
@@ -185,6 +191,7 @@ fn from_a_fresh_switch() {
             match &got {
                 Ok(a) => {
                     proposals += (a.proposals[0] + a.proposals[1]) as u64;
+                    crowd = a.occupancies.iter().flatten().copied().fold(crowd, u32::max);
                     assert_eq!(Ok(a.departures.clone()), pifo.slot(&records), "the PIFO switch parts");
                 }
                 Err((n, place)) => {
@@ -200,15 +207,16 @@ fn from_a_fresh_switch() {
             }
         }
     }
-    println!("fresh: {done} slots, {proposals} proposals, refused {refused:?}");
-    assert!(proposals > 0 && (2..=10).filter(|&n| n != 9).all(|n| refused[n] > 0), "some refusal never came: {refused:?}");
+    println!("fresh: {done} slots, {proposals} proposals, at most {crowd} cells before an output, refused {refused:?}");
+    assert!(proposals > 0 && crowd == 16, "nothing was matched, or no output had all its crosspoints filled");
+    assert!((2..=10).filter(|&n| n != 9).all(|n| refused[n] > 0), "some refusal never came: {refused:?}");
 }
 
 #[test]
 fn from_any_sound_table() {
     let slots = setting("SLOTS", 500_000);
     let mut r = Random(setting("SEED", 1) * 2 + 1442695040888963407);
-    let (mut done, mut proposals) = (0, 0u64);
+    let (mut done, mut proposals, mut crowd) = (0, 0u64, 0);
     while done < slots {
         let ports = 1 + r.below(16) as u32;
         let most = r.pick(&[3, 10, 30, 64]);
@@ -220,10 +228,77 @@ fn from_any_sound_table() {
             let records = traffic.records(&mut r, &s);
             if let Ok(a) = call(&mut r, &mut table, &mut s, &records, "any") {
                 proposals += (a.proposals[0] + a.proposals[1]) as u64;
+                crowd = a.occupancies.iter().flatten().copied().fold(crowd, u32::max);
             }
             done += 1;
         }
     }
-    println!("any sound table: {done} slots, {proposals} proposals");
-    assert!(proposals > 0);
+    println!("any sound table: {done} slots, {proposals} proposals, at most {crowd} cells before an output");
+    assert!(proposals > 0 && crowd == 16, "nothing was matched, or no output had all its crosspoints filled");
+}
+
+/// Plays a slot on the table, and the occupancies in the answer must be these, (output, [first phase, second]), and 0 at all
+/// other outputs.
+fn occupied(table: &mut [u8], records: &[Record], want: &[(usize, [u32; 2])]) {
+    let (mut answer, mut tally) = ([9; ANSWER_BYTES], [0; TALLY_BYTES]);
+    assert_eq!(slot_bytes(table, &bytes_of(records), &mut answer, &mut tally), 0);
+    let mut words = [[0; 16]; 2];
+    for &(output, [first, second]) in want {
+        (words[0][output], words[1][output]) = (first, second);
+    }
+    let wanted: Vec<u8> = words.iter().flatten().flat_map(|n| n.to_le_bytes()).collect();
+    assert_eq!(answer[456..584], wanted, "after {records:?}");
+}
+
+#[test]
+fn occupancies_by_hand() {
+    let mut table = vec![0; TABLE_BYTES];
+
+    // The show of scope 9.3. In slot 1 rank 0 goes straight while rank 9 stays, so that none is read before phase two.
+    assert_eq!(start_bytes(3, 0, &mut table), 0);
+    occupied(&mut table, &[[0, 0, 0, 9, 1], [1, 0, 0, 1, 2], [2, 0, 0, 2, 3]], &[(0, [3, 2])]);
+    occupied(&mut table, &[[0, 0, 1, 0, 4]], &[(0, [1, 1])]);
+    occupied(&mut table, &[], &[]);
+
+    // All inputs send to one output, which then takes two cells a slot.
+    assert_eq!(start_bytes(16, 7, &mut table), 0);
+    let all: Vec<Record> = (0..16).map(|input| [input, 15, 0, 0, 0]).collect();
+    occupied(&mut table, &all, &[(15, [16, 15])]);
+    for slot in 1..8 {
+        occupied(&mut table, &[], &[(15, [16 - 2 * slot, 15 - 2 * slot])]);
+    }
+    occupied(&mut table, &[], &[]);
+
+    // Each output has its own: three inputs send to output 3, input 1 and then input 0 to output 1.
+    assert_eq!(start_bytes(4, 0, &mut table), 0);
+    let records = [[0, 3, 0, 5, 0], [1, 1, 0, 5, 0], [2, 3, 0, 5, 0], [3, 3, 0, 5, 0]];
+    occupied(&mut table, &records, &[(1, [1, 0]), (3, [3, 2])]);
+    occupied(&mut table, &[[0, 1, 0, 5, 0]], &[(1, [1, 0]), (3, [1, 0])]);
+}
+
+/// A refusal, with its record's place, changes the tally alone.
+fn refused(table: &[u8], records: &[Record], answer_room: usize, number: u64, place: u64) {
+    let (mut t, mut answer, mut tally) = (table.to_vec(), vec![9; answer_room], [0; TALLY_BYTES]);
+    assert_eq!(slot_bytes(&mut t, &bytes_of(records), &mut answer, &mut tally), number + 256 * place);
+    let mut counted = [0; TALLY_BYTES];
+    counted[8] = 1;
+    assert!(t == table && answer == vec![9; answer_room] && tally == counted, "after refusal {number}");
+}
+
+#[test]
+fn a_refused_slot_keeps_its_bytes() {
+    let mut table = vec![0; TABLE_BYTES];
+    assert_eq!(start_bytes(3, CLOCK_END - 2, &mut table), 0);
+    occupied(&mut table, &[[0, 0, 0, 9, 1], [1, 0, 0, 1, 2], [2, 0, 0, 2, 3]], &[(0, [3, 2])]);
+    refused(&table, &[], ANSWER_BYTES - 1, 10, 0);
+    refused(&table, &[], 456, 10, 0);
+    refused(&table, &[], 0, 10, 0);
+    refused(&table, &[[0, 0, 1, 0, 4], [3, 0, 0, 0, 0]], ANSWER_BYTES, 4, 2);
+    refused(&table, &[[0, 0, 8, 0, 4]], ANSWER_BYTES, 5, 1);
+    refused(&table, &[[1, 0, 1, 0, 4], [1, 0, 2, 0, 4]], ANSWER_BYTES, 6, 2);
+    refused(&table, &[[0, 0, 0, 8, 4]], ANSWER_BYTES, 7, 1);
+    occupied(&mut table, &[[0, 0, 1, 0, 4]], &[(0, [1, 1])]);
+    refused(&table, &[], ANSWER_BYTES, 3, 0);
+    table[12] = 1;
+    refused(&table, &[], ANSWER_BYTES, 2, 0);
 }

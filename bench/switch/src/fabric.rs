@@ -36,6 +36,25 @@ fn offer(best: &mut Best, output: usize, cell: Cell) {
     best[output] = best[output].min(cell);
 }
 
+/// The cells in the crosspoints of each output: the best of them, and how many they are.
+struct Crossed {
+    best: Best,
+    counts: [u32; PORTS],
+}
+
+impl Crossed {
+    fn enter(&mut self, output: usize, cell: Cell) {
+        offer(&mut self.best, output, cell);
+        self.counts[output] += 1;
+    }
+}
+
+/// What a phase tells: its proposals, and how many crosspoints of each output are filled when it chooses.
+pub struct Phase {
+    pub proposals: u32,
+    pub occupancies: [u32; PORTS],
+}
+
 /// What the inputs may send in a phase: positions, and the inputs that have a scheduled cell.
 struct Choice {
     urgent: [u64; PORTS],
@@ -77,11 +96,11 @@ impl<'a> Fabric<'a> {
         self.rows[input].open(at);
     }
 
-    /// Both phases: their proposals, and then the best cell in each output's buffer.
-    pub fn run_phases(&mut self) -> ([u32; 2], Best) {
+    /// Both phases, and then the best cell in each output's buffer.
+    pub fn run_phases(&mut self) -> ([Phase; 2], Best) {
         let mut buffers = self.buffers();
-        let proposals = [self.run_phase(&mut buffers), self.run_phase(&mut buffers)];
-        (proposals, buffers)
+        let phases = [self.run_phase(&mut buffers), self.run_phase(&mut buffers)];
+        (phases, buffers)
     }
 
     /// The best cell in each output's buffer.
@@ -96,10 +115,10 @@ impl<'a> Fabric<'a> {
         best
     }
 
-    /// One phase: the number of proposals. The best cell in each output's buffer is kept up to date.
-    fn run_phase(&mut self, buffers: &mut Best) -> u32 {
-        let mut crossed = self.best_crossed();
-        let choice = self.choose(&crossed);
+    /// One phase. The best cell in each output's buffer is kept up to date.
+    fn run_phase(&mut self, buffers: &mut Best) -> Phase {
+        let mut crossed = self.crossed();
+        let choice = self.choose(&crossed.best);
         let mut straight = Straight::default();
         let mut proposals = 0;
         if choice.urgent.iter().any(|u| *u != 0) {
@@ -108,20 +127,19 @@ impl<'a> Fabric<'a> {
             straight = self.send_straight(&matched, &choice.urgent, buffers);
         }
         self.fill_crosspoints(&choice, straight.inputs, &mut crossed);
-        self.read_crosspoints(&crossed, straight.outputs, buffers);
-        proposals
+        self.read_crosspoints(&crossed.best, straight.outputs, buffers);
+        Phase { proposals, occupancies: crossed.counts }
     }
 
-    /// The best cell in the crosspoints of each output.
-    fn best_crossed(&self) -> Best {
-        let mut best = [NONE; PORTS];
+    fn crossed(&self) -> Crossed {
+        let mut crossed = Crossed { best: [NONE; PORTS], counts: [0; PORTS] };
         for (input, row) in self.rows[..self.ports].iter().enumerate() {
             for output in Members(row.filled as u64) {
                 let entry = CELLS * input + row.crossed[output] as usize;
-                offer(&mut best, output, cell_at(self.table, entry));
+                crossed.enter(output, cell_at(self.table, entry));
             }
         }
-        best
+        crossed
     }
 
     /// Scheduled and urgent cells. A head that is over every cell in the crosspoints of its output, its own
@@ -194,7 +212,7 @@ impl<'a> Fabric<'a> {
     }
 
     /// Every input that sent no straight cell sends its scheduled cell.
-    fn fill_crosspoints(&mut self, choice: &Choice, straight: u16, crossed: &mut Best) {
+    fn fill_crosspoints(&mut self, choice: &Choice, straight: u16, crossed: &mut Crossed) {
         for input in Members((choice.ready & !straight) as u64) {
             let at = choice.scheduled[input] as usize;
             let entry = CELLS * input + at;
@@ -202,7 +220,7 @@ impl<'a> Fabric<'a> {
             self.leave_list(input, at, CROSSED);
             self.rows[input].filled |= 1 << output;
             self.rows[input].crossed[output] = at as u8;
-            offer(crossed, output, cell_at(self.table, entry));
+            crossed.enter(output, cell_at(self.table, entry));
         }
     }
 

@@ -11,8 +11,10 @@ use table::{count, entries, rows, word, Row, CELLS};
 pub use table::{Table, PORTS, TABLE_BYTES};
 pub const ARRIVAL_BYTES: usize = 20;
 pub const DEPARTURE_BYTES: usize = 28;
-pub const ANSWER_BYTES: usize = PORTS * DEPARTURE_BYTES + 8;
+pub const ANSWER_BYTES: usize = PORTS * DEPARTURE_BYTES + PROPOSALS_BYTES + 2 * PORTS * 4;
 pub const TALLY_BYTES: usize = 32;
+
+const PROPOSALS_BYTES: usize = 2 * 4;
 
 type Arrival = [u8; ARRIVAL_BYTES];
 type Departure = [u8; DEPARTURE_BYTES];
@@ -105,12 +107,20 @@ fn run<const TRUSTED: bool>(
     for (r, at) in records.iter().zip(positions) {
         fabric.arrive(r, at);
     }
-    let (proposals, buffers) = fabric.run_phases();
-    answer.fill(0);
-    answer[448..452].copy_from_slice(&proposals[0].to_le_bytes());
-    answer[452..].copy_from_slice(&proposals[1].to_le_bytes());
-    let departed = fabric.depart(&buffers, answer.as_chunks_mut().0);
+    let ([first, second], buffers) = fabric.run_phases();
+    let (departures, counts) = answer.split_at_mut(PORTS * DEPARTURE_BYTES);
+    let (proposals, occupancies) = counts.split_at_mut(PROPOSALS_BYTES);
+    write_words(proposals, &[first.proposals, second.proposals]);
+    write_words(occupancies, [first.occupancies, second.occupancies].as_flattened());
+    departures.fill(0);
+    let departed = fabric.depart(&buffers, departures.as_chunks_mut().0);
     Ok((records.len() as u64, departed))
+}
+
+fn write_words(bytes: &mut [u8], words: &[u32]) {
+    for (bytes, word) in bytes.as_chunks_mut().0.iter_mut().zip(words) {
+        *bytes = word.to_le_bytes();
+    }
 }
 
 /// The position in its input's section that each record's cell takes; or the first refusal. Inputs rise, so at most

@@ -3,7 +3,7 @@
 -- PIFO switch.
 use Prim.Native.Nat.{ℕ, _-_, _≤_}
 use mathlib.Core.Bool.{true, _&&_}
-use mathlib.Core.List.{List, [], _∷_, _++_, append-assoc}
+use mathlib.Core.List.{List, [], _∷_, _++_}
 use mathlib.Core.Option.{Option, none, some}
 use mathlib.Core.Path.{_≡_, refl, sym, ap, subst, _∙_}
 use lib.Dec.{ltb, leb, eqb}
@@ -27,11 +27,10 @@ use Rattle.model.proofs.Related.{related-same-waiting}
 use Rattle.model.proofs.SoundSlot.{after-ports}
 use Rattle.layout.specs.Answer.{departuresBytes, answerBytes, answerSize, departuresSize}
 use Rattle.layout.specs.Arrivals.{recordsOf}
-use Rattle.layout.specs.Number.{bytesOf}
 use Rattle.layout.specs.Host.{resultOf, startCall, bufferAfter, tableAfter, answerAfter, filled}
 use Rattle.layout.specs.Table.{decode, encode, tableSize}
 use Rattle.layout.specs.TallyBytes.{tallySize}
-use Rattle.layout.proofs.Answer.{length-departuresBytes}
+use Rattle.layout.proofs.Answer.{length-departuresBytes, answer-parts}
 use Rattle.layout.proofs.Arrivals.{recordsOf-fits}
 use Rattle.layout.proofs.Number.{isByte, bytes?}
 use Rattle.layout.proofs.Host.{startCall-done, slotCall-arrivals, slotCall-slot, take-filled, result-refused}
@@ -73,12 +72,10 @@ call-lent c h = go (recordsOf (c .arrivals)) refl
 
 -- the answer's departures are those of the slot
 answer-departures : (answer : List ℕ) (c : Course) → take departuresSize (answerAfter answer (done c)) ≡ departuresBytes portLimit (c .departures)
-unfolding answerAfter answerBytes answerOf filled
+unfolding answerAfter answerOf filled
 answer-departures answer c =
-    let ds : List ℕ = departuresBytes portLimit (c .departures) in
-    let ps : List ℕ = bytesOf 4 (c .one .proposals) ++ bytesOf 4 (c .two .proposals) in
-    ap (take departuresSize) (append-assoc ds ps (drop (length (ds ++ ps)) answer))
-    ∙ take-at ds (ps ++ drop (length (ds ++ ps)) answer) departuresSize (length-departuresBytes 16 (c .departures))
+    ap (take departuresSize) (answer-parts (answerOf c) (drop (length (answerBytes (answerOf c))) answer))
+    ∙ take-at (departuresBytes portLimit (c .departures)) _ departuresSize (length-departuresBytes portLimit (c .departures))
 
 -- the table after the call is that of the switch after it
 decode-after : (table : List ℕ) (s : Switch) (o : Outcome Course) → decode table ≡ some s → sound (switchAfter s o) ≡ true

@@ -1,27 +1,28 @@
--- The course of a slot that runs: a departure for each output, of numbers of 32 bits, proposals of 32 bits, and a sound
--- switch one slot on.
+-- The course of a slot that runs: a departure for each output, of numbers of 32 bits, proposals of 32 bits, for each
+-- output and phase an occupancy of 32 bits, and a sound switch one slot on.
 use Prim.Native.Nat.{ℕ, _+_, _≤_, _<_}
 use native.Mathlib.Omega.{arith}
 use mathlib.Core.Bool.{true, false}
 use mathlib.Core.List.{List, [], _∷_, map, List·Memᴰ, List·Memᴰ·head}
 use mathlib.Core.Option.{none, some, Option·map}
 use mathlib.Core.Path.{_≡_, refl, sym, _∙_}
-use borrow.Author.Tests.{ltb-true}
-use lib.Dec.{eqb}
+use borrow.Author.Tests.{leb-true, ltb-true}
+use lib.Dec.{eqb, leb}
 use lib.ListN.{length, length-map}
 use Rattle.cell.specs.declared.Arrival.{Arrival}
 use Rattle.cell.specs.Cell.{accepted, arrivalFits}
 use Rattle.cell.specs.Limits.{clockEnd, fits32, flowLimit, portLimit}
 use Rattle.laws.specs.Lists.{keep, all?, first?, upTo}
 use Rattle.laws.proofs.Least.{mem-least-in}
-use Rattle.laws.proofs.Lists.{all?-i, all?-map, mem-keep-in}
+use Rattle.laws.proofs.Lists.{all?-i, all?-map, all?-mono, mem-keep-in}
 use Rattle.laws.proofs.Tests.{and-i}
 use Rattle.model.specs.State.{Switch, cells, Entry}
 use Rattle.model.specs.Checks.{done, firstFault}
-use Rattle.model.specs.Crossbar.{Course, run, slot, leaving, departuresOf}
-use Rattle.model.specs.Phase.{Waiting, waiting, phase}
+use Rattle.model.specs.Crossbar.{Course, run, slot, leaving, departuresOf, occupancies}
+use Rattle.model.specs.Phase.{Waiting, waiting, Phase, phase}
 use Rattle.model.specs.Sound.{sound, soundSections}
 use Rattle.model.proofs.Numbering.{entryOf, length-moved, length-without, mem-waiting, stands-entry, waiting-few}
+use Rattle.model.proofs.OutputChoice.{length-occupancies, occupancies-few}
 use Rattle.model.proofs.PhaseMatching.{candidates-few, phase-proposals}
 use Rattle.model.proofs.SoundLaws.{SoundEntry}
 use Rattle.model.proofs.SoundOrderly.{sound-section, sound-short}
@@ -38,6 +39,10 @@ pub record Goes (s : Switch) (c : Course) : Type 0 where
   pub fit : all? departureFits (c .departures) ≡ true
   pub first : fits32 (c .one .proposals) ≡ true
   pub second : fits32 (c .two .proposals) ≡ true
+  pub outputsOne : length (occupancies (c .switch .ports) (c .one)) ≡ length (c .departures)
+  pub heldOne : all? fits32 (occupancies (c .switch .ports) (c .one)) ≡ true
+  pub outputsTwo : length (occupancies (c .switch .ports) (c .two)) ≡ length (c .departures)
+  pub heldTwo : all? fits32 (occupancies (c .switch .ports) (c .two)) ≡ true
   pub good : sound (c .switch) ≡ true
   pub clock : c .switch .clock ≡ s .clock + 1
 
@@ -95,6 +100,12 @@ module _ (ports clock : ℕ) (sections : List (List Entry)) (h : soundSections p
         waiting-few sections (sound-short ports clock sections h),
       ))
 
+-- an output has a crosspoint for each input
+occupancies-fit : (ports : ℕ) (p : Phase) → ports ≤ portLimit → all? fits32 (occupancies ports p) ≡ true
+occupancies-fit ports p few =
+    all?-mono (λ n. leb n ports) fits32 (occupancies ports p)
+    (λ n _ h. below-fits32 n (omega (arith, leb-true n ports h))) (occupancies-few ports p)
+
 module _ (s : Switch) (records : List Arrival) (h : sound s ≡ true) (fits : all? arrivalFits records ≡ true) where
   abbrev ran : Course
   ran = run s (map (accepted (s .clock)) records)
@@ -123,6 +134,10 @@ module _ (s : Switch) (records : List Arrival) (h : sound s ≡ true) (fits : al
         second =
             proposals-fit (s .ports) (s .clock + 1) (ran .between) (between-sound s records h fits t f)
             (sound-ports s h) between clock;
+        outputsOne = length-occupancies (s .ports) (ran .one) ∙ sym outputs;
+        heldOne = occupancies-fit (s .ports) (ran .one) (sound-ports s h);
+        outputsTwo = length-occupancies (s .ports) (ran .two) ∙ sym outputs;
+        heldTwo = occupancies-fit (s .ports) (ran .two) (sound-ports s h);
         good = good;
         clock = refl;
       }

@@ -1,13 +1,14 @@
 -- Bytes put into a byte string.
 --     length-put, take-put, drop-put   the string then
+--     put-none                         no byte
 --     put-next                         a second run behind a first
 --     put-two, put-four, put-seven     so many numbers, one behind the other
 use Prim.Native.Nat.{ℕ, _+_, _-_, _≤_}
-use native.Mathlib.Nat.{add-assoc}
+use native.Mathlib.Nat.{add-assoc, add-zero}
 use native.Mathlib.Omega.{arith}
 use mathlib.Core.Path.{_≡_, refl, sym, _∙_, ap, ap₂}
-use mathlib.Core.List.{List, _++_, append-assoc}
-use lib.ListN.{length, take, drop, length-append, length-drop}
+use mathlib.Core.List.{List, [], _++_, append-assoc}
+use lib.ListN.{length, take, drop, take-append-drop, length-append, length-drop}
 use lib.Seq.{take-at, drop-at, drop-drop, length-take-le}
 use Rattle.layout.specs.Number.{bytesOf}
 use Rattle.layout.specs.Code.{put}
@@ -37,6 +38,10 @@ module _ (at n : ℕ) (xs old : List ℕ) (size : length xs ≡ n) (room : at + 
       ∙ length-append (take at old ++ xs) (drop (at + n) old)
       ∙ ap₂ _+_ front (length-drop (at + n) old)
       ∙ omega arith
+
+-- no byte
+pub put-none : (at : ℕ) (old : List ℕ) → old ≡ put at 0 [] old
+put-none at old = sym (ap (λ n. take at old ++ drop n old) (add-zero at) ∙ take-append-drop at old)
 
 -- a second run behind a first
 pub put-next : (at n m : ℕ) (xs ys old mid new : List ℕ) → length xs ≡ n → length ys ≡ m → at + (n + m) ≤ length old

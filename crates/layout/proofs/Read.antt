@@ -42,7 +42,8 @@ module _ (s : Switch) (a : Option (List Arrival)) (h : sound s ≡ true) (l : le
       let g = slot-goes c e in
       let rest : List ℕ = drop (length (answerBytes (answerOf c))) buffer in
       ap (λ n. answerIn n (answerBytes (answerOf c) ++ rest)) (sym (g .outputs))
-      ∙ answerIn-answerBytes (answerOf c) rest (g .few) (g .fit) (g .first) (g .second)
+      ∙ answerIn-answerBytes (answerOf c) rest (g .few) (g .fit) (g .first) (g .second) (g .outputsOne) (g .heldOne)
+      (g .outputsTwo) (g .heldTwo)
   answer-read buffer (refused r place) e = rw (ne-eqb _ 0 (result-refused r place), answerRead)
 
   pub outputs-read : (buffer : List ℕ) (c : Course) → slot s a ≡ done c

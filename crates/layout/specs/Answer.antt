@@ -1,5 +1,7 @@
 -- The bytes of a slot's answer: for each of sixteen outputs 1 and its departure's six fields, or seven zeros where it
--- sends none; then the proposals of the first phase and of the second. Every number has 32 bits.
+-- sends none; then the proposals of the first phase and of the second; then for each of sixteen outputs how many of its
+-- crosspoints held a cell in the first phase, and the same for the second, 0 at the outputs that the switch does not have.
+-- Every number has 32 bits.
 use Prim.Native.Nat.{ℕ, zero, suc, _+_, _*_}
 use mathlib.Core.List.{List, [], _∷_, _++_}
 use mathlib.Core.Option.{Option, none, some}
@@ -17,8 +19,18 @@ departureSize = 28
 abbrev pub departuresSize : ℕ
 departuresSize = portLimit * departureSize
 
+-- where the occupancies of the first phase stand and where those of the second
+abbrev pub firstOccupancy : ℕ
+firstOccupancy = departuresSize + 8
+
+abbrev pub occupanciesSize : ℕ
+occupanciesSize = portLimit * 4
+
+abbrev pub secondOccupancy : ℕ
+secondOccupancy = firstOccupancy + occupanciesSize
+
 abbrev pub answerSize : ℕ
-answerSize = departuresSize + 8
+answerSize = secondOccupancy + occupanciesSize
 
 -- a number and the six fields of a cell
 abbrev pub sevenBytes : ℕ → Cell → List ℕ
@@ -38,8 +50,17 @@ departuresBytes zero ds = []
 departuresBytes (suc n) [] = departureBytes none ++ departuresBytes n []
 departuresBytes (suc n) (d ∷ ds) = departureBytes d ++ departuresBytes n ds
 
+-- so many numbers, 0 at the outputs that the switch does not have
+unfoldable pub wordsBytes : ℕ → List ℕ → List ℕ
+wordsBytes zero ns = []
+wordsBytes (suc n) [] = bytesOf 4 0 ++ wordsBytes n []
+wordsBytes (suc n) (k ∷ ns) = bytesOf 4 k ++ wordsBytes n ns
+
 unfoldable pub answerBytes : Answer → List ℕ
-answerBytes a = departuresBytes portLimit (a .departures) ++ (bytesOf 4 (a .first) ++ bytesOf 4 (a .second))
+answerBytes a =
+    departuresBytes portLimit (a .departures)
+    ++ ((bytesOf 4 (a .first) ++ bytesOf 4 (a .second))
+    ++ (wordsBytes portLimit (a .occupancyOne) ++ wordsBytes portLimit (a .occupancyTwo)))
 
 -- the cell of a departure
 abbrev pub cellIn : List ℕ → Cell
@@ -60,9 +81,21 @@ unfoldable pub departuresIn : ℕ → List ℕ → List (Option Cell)
 departuresIn zero bs = []
 departuresIn (suc n) bs = departureIn (take departureSize bs) ∷ departuresIn n (drop departureSize bs)
 
+-- so many numbers, one behind the other
+unfoldable pub wordsIn : ℕ → List ℕ → List ℕ
+wordsIn zero bs = []
+wordsIn (suc n) bs = word bs 0 ∷ wordsIn n (drop 4 bs)
+
 -- the answer of a switch of so many ports that bytes stand for
 unfoldable pub answerIn : ℕ → List ℕ → Answer
-answerIn ports bs = record { departures = departuresIn ports bs; first = word bs departuresSize; second = word bs (departuresSize + 4) }
+answerIn ports bs =
+    record {
+      departures = departuresIn ports bs;
+      first = word bs departuresSize;
+      second = word bs (departuresSize + 4);
+      occupancyOne = wordsIn ports (drop firstOccupancy bs);
+      occupancyTwo = wordsIn ports (drop secondOccupancy bs);
+    }
 
 -- the answer that a host reads by the result of its slot call: from the bytes where it is 0; a refused slot's is not
 -- written

@@ -20,7 +20,8 @@ pub const ENTRY_BYTES: usize = 16;
 
 pub const TABLE_BYTES: usize = HEADER_BYTES + ENTRIES * ENTRY_BYTES;
 
-// The bytes of an answer: a departure for each output, then the proposals of both phases, where they stand.
+// The bytes of an answer: a departure for each output, then the proposals of both phases, then those phases'
+// occupancies, a number for each output, where they stand.
 pub const DEPARTURE_BYTES: usize = 28;
 
 pub const DEPARTURES_BYTES: usize = PORTS * DEPARTURE_BYTES;
@@ -29,7 +30,11 @@ pub const FIRST_PROPOSALS: usize = DEPARTURES_BYTES;
 
 pub const SECOND_PROPOSALS: usize = FIRST_PROPOSALS + 4;
 
-pub const ANSWER_BYTES: usize = SECOND_PROPOSALS + 4;
+pub const FIRST_OCCUPANCY: usize = SECOND_PROPOSALS + 4;
+
+pub const SECOND_OCCUPANCY: usize = FIRST_OCCUPANCY + PORTS * 4;
+
+pub const ANSWER_BYTES: usize = SECOND_OCCUPANCY + PORTS * 4;
 
 // The bytes of an arrival's record, and how many records are looked at: the inputs of a list rise, so that one more
 // than there are ports has a fault or stands behind one.

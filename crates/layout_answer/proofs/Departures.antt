@@ -3,7 +3,7 @@ use Prim.Native.Nat.{ℕ, zero, suc, _+_, _*_, _≤_}
 use native.Mathlib.Omega.{arith}
 use native.Mathlib.Numerals.{add-one}
 use mathlib.Core.Bool.{Bool, true, false, cond, not}
-use mathlib.Core.List.{List, [], _∷_, _++_, append-assoc}
+use mathlib.Core.List.{List, [], _∷_, _++_}
 use mathlib.Core.Option.{Option, none, some}
 use mathlib.Core.Path.{_≡_, refl, sym, ap, ap₂, _∙_}
 use borrow.Author.Tests.{eq-eqb, ne-eqb}
@@ -18,7 +18,7 @@ use Rattle.model.specs.Tally.{isSent}
 use Rattle.layout.specs.Answer.{departureSize, departureBytes, departuresBytes, answerBytes, departureIn, departuresIn}
 use Rattle.layout.specs.Host.{filled}
 use Rattle.layout.specs.Number.{bytesOf, numberOf, numberAt, word}
-use Rattle.layout.proofs.Answer.{length-departureBytes}
+use Rattle.layout.proofs.Answer.{length-departureBytes, answer-parts}
 use Rattle.layout.proofs.Number.{take-first, drop-first}
 use Rattle.layout_answer.specs.Code.{sentIn}
 
@@ -125,9 +125,7 @@ sent-departures (suc n) (d ∷ ds) rest room =
 -- an answer in its buffer has the departures of its slot
 pub sent-filled : (c : Course) (buffer : List ℕ) → length (c .departures) ≤ portLimit
     → sentIn (filled (answerBytes (answerOf c)) buffer) ≡ count isSent (c .departures)
-unfolding sentIn filled answerBytes answerOf
+unfolding sentIn filled answerOf
 sent-filled c buffer few =
-    let ds : List ℕ = departuresBytes portLimit (c .departures) in
-    let ps : List ℕ = bytesOf 4 (c .one .proposals) ++ bytesOf 4 (c .two .proposals) in
-    ap (sentBelow portLimit) (append-assoc ds ps (drop (length (ds ++ ps)) buffer))
-    ∙ sent-departures portLimit (c .departures) (ps ++ drop (length (ds ++ ps)) buffer) few
+    ap (sentBelow portLimit) (answer-parts (answerOf c) (drop (length (answerBytes (answerOf c))) buffer))
+    ∙ sent-departures portLimit (c .departures) _ few

@@ -1,5 +1,6 @@
 // The bytes of a slot's answer: a departure for each of sixteen outputs, 1 and the fields of its cell or zeros, then
-// the proposals of the two phases. A caller shows that the bytes are there.
+// the proposals of the two phases, then for each phase how many crosspoints of each output held a cell. A caller shows
+// that the bytes are there.
 use cell::Cell;
 use layout::DEPARTURE_BYTES;
 use layout::FIRST_PROPOSALS;
@@ -12,8 +13,10 @@ ghost use mathlib.Core.Path.{_≡_};
 ghost use Prim.Native.Nat.{_+_, _≤_};
 ghost use lib.Dec.{eqb};
 ghost use lib.ListN.{length};
+ghost use Rattle.cell.specs.Limits.{portLimit};
 ghost use Rattle.layout.specs.Number.{bytesOf, word};
-ghost use Rattle.layout.specs.Answer.{departureSize, departuresSize, answerSize, departureBytes, sevenBytes, cellIn};
+ghost use Rattle.layout.specs.Answer.{departureSize, departuresSize, occupanciesSize, answerSize, departureBytes};
+ghost use Rattle.layout.specs.Answer.{sevenBytes, wordsBytes, cellIn};
 ghost use Rattle.layout.specs.Code.{put};
 ghost use Rattle.layout_answer.specs.Code.{noCell, sentIn};
 
@@ -63,7 +66,7 @@ fn write_seven(answer: &mut [u8], at: usize, sent: u32, c: Cell)
     word::write_u32(answer, at + 24, c.slot);
 }
 
-// Puts the proposals of the two phases, the answer's last eight bytes.
+// Puts the proposals of the two phases, the eight bytes behind the departures.
 pub fn write_proposals(answer: &mut [u8], first: u32, second: u32)
     requires { ⌜ answerSize ≤ length (now answer) ⌝ }
     ensures { λ _. ⌜ now (answer .exit)
@@ -71,6 +74,27 @@ pub fn write_proposals(answer: &mut [u8], first: u32, second: u32)
 {
     word::write_u32(answer, FIRST_PROPOSALS, first);
     word::write_u32(answer, SECOND_PROPOSALS, second);
+}
+
+// Puts how many crosspoints of each output held a cell in a phase, a number for each of sixteen outputs.
+pub fn write_occupancies(answer: &mut [u8], at: usize, held: &[u16; PORTS])
+    requires { ⌜ at + occupanciesSize ≤ length (now answer) ⌝ }
+    ensures { λ _. ⌜ now (answer .exit)
+        ≡ put at occupanciesSize (wordsBytes portLimit (now (held .entry))) (now (answer .entry)) ⌝ }
+{
+    let mut output = 0;
+    while output < PORTS {
+        write_held(answer, at + 4 * output, held[output]);
+        output += 1;
+    }
+}
+
+// The number of one output.
+fn write_held(answer: &mut [u8], at: usize, n: u16)
+    requires { ⌜ at + 4 ≤ length (now answer) ⌝ }
+    ensures { λ _. ⌜ now (answer .exit) ≡ put at 4 (bytesOf 4 n) (now (answer .entry)) ⌝ }
+{
+    word::write_u32(answer, at, n as u32);
 }
 
 // How many departures an answer has.

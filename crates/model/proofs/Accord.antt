@@ -16,17 +16,17 @@ use Rattle.model.specs.Checks.{firstFault}
 use Rattle.model.specs.Phase.{numberFrom, numberSections, numbered, waiting, lists, crosspoints, sameInput}
 use Rattle.model.specs.Phase.{sameOutput, ahead, beats, among, sameCrosspoint, heads, blocked, crosspointEmpty}
 use Rattle.model.specs.Phase.{ready, scheduled, isUrgent, urgent, takesPart, candidates, straight, sent, pulled}
-use Rattle.model.specs.Phase.{phase, placeSent, placeAfter, placedBy, moved}
+use Rattle.model.specs.Phase.{atCrosspoint, occupancy, outputChoice, phase, placeSent, placeAfter, placedBy, moved}
 use Rattle.model.specs.Crossbar.{inListOf, newEntry, enterAfter, enter, arrive, leaving, departuresOf, without}
-use Rattle.model.specs.Crossbar.{run, slot, switchAfter}
+use Rattle.model.specs.Crossbar.{run, occupancies, answerOf, slot, switchAfter}
 use Rattle.model.specs.Emulation.{cellsAt}
 use Rattle.model.specs.Pifo.{freshPifo, queued, join, best, rest, runPifo, slotPifo, pifoAfter}
 use Rattle.model.specs.Sound.{soundEntry, together, otherSlot, otherCrosspoint, soundSection, soundSections}
 use Rattle.model.specs.Sound.{sound}
-use Rattle.model.specs.Calls.{sameDeparture, sameCells, stand, coursePasses, crossbarAnswers, pifoAnswers}
+use Rattle.model.specs.Calls.{sameDeparture, sameCells, stand, coursePasses, courseOccupies, crossbarAnswers, pifoAnswers}
 use Rattle.model.specs.Calls.{crossbarRuns, pifoRuns, bothRun, enterAt, sectionsFrom, switchWith, arrival}
 use Rattle.model.specs.Calls.{cell, call, tables}
-use Rattle.model.specs.Histories.{given, recordOf, runs, threeInputs, twoOfPair, behindScheduled, listOrder}
+use Rattle.model.specs.Histories.{given, recordOf, runs, crowded, threeInputs, twoOfPair, behindScheduled, listOrder}
 use Rattle.model.specs.Histories.{notOverAll, scheduledMatched, fullCrosspoint, straightAlone, arrivals}
 use Rattle.model.specs.Histories.{tieOfInputs, tieOfSlots, tieOfUrgent, fallingRanks, fullInput, orderOfChecks}
 use Rattle.model.specs.Histories.{lastSlot}
@@ -51,10 +51,10 @@ pub histories-given :
 unfolding flatten keep some? none? all? count least pairwise update first? numbersFrom upTo sameFlow fits32 portsInRange over accepted sameCell proposed
     round rounds settled matched proposals fresh isListed isCrossed isBuffered cells noSuchPort noSuchFlow outOfTurn fallingRank full fault faultFrom
     firstFault numberFrom numberSections numbered waiting lists crosspoints sameInput sameOutput ahead beats among sameCrosspoint heads blocked
-    crosspointEmpty ready scheduled isUrgent urgent takesPart candidates straight sent pulled phase placeSent placeAfter placedBy moved inListOf newEntry
-    enterAfter enter arrive leaving departuresOf without run slot switchAfter cellsAt freshPifo queued join best rest runPifo slotPifo pifoAfter soundEntry
-    together otherSlot otherCrosspoint soundSection soundSections sound sameDeparture sameList sameCells stand coursePasses crossbarAnswers pifoAnswers
-    crossbarRuns pifoRuns bothRun enterAt sectionsFrom switchWith arrival cell call tables given recordOf runs threeInputs twoOfPair behindScheduled
+    crosspointEmpty ready scheduled isUrgent urgent takesPart candidates straight sent pulled atCrosspoint occupancy outputChoice phase placeSent placeAfter placedBy moved inListOf newEntry
+    enterAfter enter arrive leaving departuresOf without run occupancies answerOf slot switchAfter cellsAt freshPifo queued join best rest runPifo slotPifo pifoAfter soundEntry
+    together otherSlot otherCrosspoint soundSection soundSections sound sameDeparture sameList sameCells stand coursePasses courseOccupies crossbarAnswers pifoAnswers
+    crossbarRuns pifoRuns bothRun enterAt sectionsFrom switchWith arrival cell call tables given recordOf runs crowded threeInputs twoOfPair behindScheduled
     listOrder notOverAll scheduledMatched fullCrosspoint straightAlone arrivals tieOfInputs tieOfSlots tieOfUrgent fallingRanks fullInput orderOfChecks
     lastSlot
 histories-given = (refl, refl, refl, refl, refl, refl, refl, refl, refl, refl, refl, refl, refl, refl, refl, refl)

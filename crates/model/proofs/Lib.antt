@@ -8,6 +8,7 @@ pub mod CourseLimits
 pub mod Demand3
 pub mod Enter
 pub mod Numbering
+pub mod OutputChoice
 pub mod PhaseFacts
 pub mod PhaseGain
 pub mod PhaseLimits

@@ -1,4 +1,4 @@
--- A refused slot of two ports, computed: the number and the record's place, no departures and proposal counts 0.
+-- A refused slot of two ports, computed: the number and the record's place, no departures and all counts 0.
 use Prim.Native.Nat.{ℕ}
 use mathlib.Core.List.{[], _∷_}
 use mathlib.Core.Option.{none, some}
@@ -13,7 +13,8 @@ module _ (r : Refusal) (place : ℕ) where
   unfolding refusal
   refused-with = refl
 
-  pub refused-answer : slotAnswer 2 (refused r place) ≡ record { departures = none ∷ none ∷ []; first = 0; second = 0 }
+  pub refused-answer : slotAnswer 2 (refused r place)
+      ≡ record { departures = none ∷ none ∷ []; first = 0; second = 0; occupancyOne = 0 ∷ 0 ∷ []; occupancyTwo = 0 ∷ 0 ∷ [] }
   unfolding slotAnswer refusedAnswer noDepartures
   refused-answer = refl
 

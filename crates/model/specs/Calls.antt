@@ -13,7 +13,7 @@ use Rattle.cell.specs.Refusal.{number}
 use Rattle.model.specs.State.{Place, listed, crossed, buffered, Entry, Switch, fresh, isListed, isCrossed}
 use Rattle.model.specs.State.{isBuffered}
 use Rattle.model.specs.Checks.{Outcome, done, refused}
-use Rattle.model.specs.Crossbar.{Course, slot, switchAfter}
+use Rattle.model.specs.Crossbar.{Course, answerOf, slot, switchAfter}
 use Rattle.model.specs.Emulation.{cellsAt}
 use Rattle.model.specs.Pifo.{Pifo, freshPifo, Sent, slotPifo, pifoAfter}
 
@@ -25,11 +25,13 @@ pub record Tables : Type 0 where
   pub buffers : List Cell
 
 -- What a slot call is to answer: the departures, output by output, with the proposals of both phases; or a refusal's
--- number and place. Before that, the tables after arrival, after phase one and after phase two, where they are said.
+-- number and place. Before that, where they are said: the tables after arrival, after phase one and after phase two; and
+-- how many crosspoints of each output held a cell, in phase one and in phase two.
 pub data Expected : Type 0 where
   sends : List (Option Cell) → ℕ → ℕ → Expected
   refuses : ℕ → ℕ → Expected
   passes : Tables → Tables → Tables → Expected → Expected
+  occupies : List ℕ → List ℕ → Expected → Expected
 
 pub record Call : Type 0 where
   pub arrivals : List Arrival
@@ -57,6 +59,12 @@ unfoldable pub coursePasses : Tables → Tables → Tables → Outcome Course �
 coursePasses a b s (done c) = stand a (c .arrived) && (stand b (c .between) && stand s (c .settled))
 coursePasses a b s (refused r place) = false
 
+-- so many crosspoints of each output hold a cell in the two phases
+unfoldable pub courseOccupies : List ℕ → List ℕ → Outcome Course → Bool
+courseOccupies one two (done c) =
+    sameList eqb (answerOf c .occupancyOne) one && sameList eqb (answerOf c .occupancyTwo) two
+courseOccupies one two (refused r place) = false
+
 -- the departures and proposals are these, or the refusal
 unfoldable pub crossbarAnswers : Expected → Outcome Course → Bool
 crossbarAnswers (sends ds one two) (done c) =
@@ -65,14 +73,16 @@ crossbarAnswers (sends ds one two) (refused r place) = false
 crossbarAnswers (refuses n p) (done c) = false
 crossbarAnswers (refuses n p) (refused r place) = eqb (number r) n && eqb place p
 crossbarAnswers (passes a b s e) o = coursePasses a b s o && crossbarAnswers e o
+crossbarAnswers (occupies one two e) o = courseOccupies one two o && crossbarAnswers e o
 
--- the PIFO switch has no tables and makes no proposals
+-- the PIFO switch has no tables and no crosspoints, and makes no proposals
 unfoldable pub pifoAnswers : Expected → Outcome Sent → Bool
 pifoAnswers (sends ds one two) (done c) = sameList sameDeparture (c .departures) ds
 pifoAnswers (sends ds one two) (refused r place) = false
 pifoAnswers (refuses n p) (done c) = false
 pifoAnswers (refuses n p) (refused r place) = eqb (number r) n && eqb place p
 pifoAnswers (passes a b s e) o = pifoAnswers e o
+pifoAnswers (occupies one two e) o = pifoAnswers e o
 
 -- call by call, each call getting the switch that the call before returned, or left in refusing; last the clock
 unfoldable pub crossbarRuns : Switch → List Call → ℕ → Bool

@@ -4,6 +4,7 @@ use mathlib.Core.Bool.{Bool, true, false, not, _&&_}
 use mathlib.Core.List.{List, [], _∷_, map}
 use mathlib.Core.Option.{Option, none, some, Option·map}
 use lib.Dec.{eqb}
+use lib.ListN.{replicate}
 use Rattle.laws.specs.Lists.{keep, some?, none?, least, update, first?, upTo}
 use Rattle.cell.specs.declared.Cell.{Cell}
 use Rattle.cell.specs.declared.Arrival.{Arrival}
@@ -13,7 +14,7 @@ use Rattle.cell.specs.Flow.{sameFlow}
 use Rattle.cell.specs.Limits.{clockEnd, portsInRange}
 use Rattle.model.specs.State.{listed, Entry, Switch, fresh, cells, isListed, isBuffered}
 use Rattle.model.specs.Checks.{Outcome, done, refused, noDepartures, firstFault}
-use Rattle.model.specs.Phase.{Waiting, numbered, waiting, beats, among, Phase, phase, moved}
+use Rattle.model.specs.Phase.{Waiting, numbered, waiting, beats, among, outputChoice, Phase, phase, moved}
 
 -- Arrival.
 unfoldable pub inListOf : Cell → Entry → Bool
@@ -79,18 +80,39 @@ run s cs =
       switch = record { ports = s .ports; clock = s .clock + 1; sections = without out settled };
     }
 
--- The answer holds for each output a cell or none, and for each phase the number of proposals made.
+-- The answer holds for each output a cell or none, and for each phase the number of proposals made and how many
+-- crosspoints of each output held a cell.
 pub record Answer : Type 0 where
   pub departures : List (Option Cell)
   pub first : ℕ
   pub second : ℕ
+  pub occupancyOne : List ℕ
+  pub occupancyTwo : List ℕ
+
+-- what the outputs' choices in a phase tell of their crosspoints, output by output
+unfoldable pub occupancies : ℕ → Phase → List ℕ
+occupancies ports p = map (λ o. outputChoice ports (p .filled) o .occupancy) (upTo ports)
 
 unfoldable pub answerOf : Course → Answer
-answerOf c = record { departures = c .departures; first = c .one .proposals; second = c .two .proposals }
+answerOf c =
+    record {
+      departures = c .departures;
+      first = c .one .proposals;
+      second = c .two .proposals;
+      occupancyOne = occupancies (c .switch .ports) (c .one);
+      occupancyTwo = occupancies (c .switch .ports) (c .two);
+    }
 
--- A refused slot has no departures and proposal counts 0.
+-- A refused slot has no departures and all counts 0.
 unfoldable pub refusedAnswer : ℕ → Answer
-refusedAnswer ports = record { departures = noDepartures ports; first = 0; second = 0 }
+refusedAnswer ports =
+    record {
+      departures = noDepartures ports;
+      first = 0;
+      second = 0;
+      occupancyOne = replicate ports 0;
+      occupancyTwo = replicate ports 0;
+    }
 
 -- the answer of a slot call of a switch of so many ports, whatever its outcome
 unfoldable pub slotAnswer : ℕ → Outcome Course → Answer

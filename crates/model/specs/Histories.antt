@@ -9,7 +9,7 @@ use mathlib.Core.Option.{Option, none, some}
 use Rattle.laws.specs.Lists.{upTo}
 use Rattle.cell.specs.declared.Arrival.{Arrival}
 use Rattle.cell.specs.declared.Cell.{Cell}
-use Rattle.model.specs.Calls.{Tables, tables, Call, call, sends, refuses, passes, crossbarRuns, bothRun}
+use Rattle.model.specs.Calls.{Tables, tables, Call, call, sends, refuses, passes, occupies, crossbarRuns, bothRun}
 use Rattle.model.specs.Calls.{switchWith, arrival, cell}
 use Rattle.model.specs.Sound.{sound}
 
@@ -35,9 +35,14 @@ unfoldable pub runs : List Cell → Tables → Tables → Tables → List (Optio
 runs cs arrived between settled departures one two =
     call (map recordOf cs) (passes arrived between settled (sends departures one two))
 
+-- a slot in which so many crosspoints of each output hold a cell when it chooses, in phase one and in phase two
+unfoldable pub crowded : List ℕ → List ℕ → Call → Call
+crowded one two c = call (c .arrivals) (occupies one two (c .expected))
+
 -- The show of scope 9.3. Slot 0: a, b, c are normal and scheduled, and none is urgent; output 0 takes b, the 1, then
 -- c, the 2. Slot 1: u is blocked by a and over it, so urgent, and alone it is matched by one proposal; output 0 reads
--- no crosspoint then, and takes a in phase two.
+-- no crosspoint then, and takes a in phase two. So output 0 has 3 filled crosspoints and then 2 in slot 0, and that of a
+-- in both phases of slot 1.
 unfoldable pub threeInputs : History
 threeInputs =
     let a = cell 0 0 0 9 1 0 in
@@ -45,16 +50,18 @@ threeInputs =
     let c = cell 2 0 0 2 3 0 in
     let u = cell 0 0 1 0 4 1 in
     fresh 3 0
+    (crowded (3 ∷ 0 ∷ 0 ∷ []) (2 ∷ 0 ∷ 0 ∷ [])
     (runs (a ∷ b ∷ c ∷ [])
     (tables ((a ∷ []) ∷ (b ∷ []) ∷ (c ∷ []) ∷ []) [] [])
     (tables ([] ∷ [] ∷ [] ∷ []) (a ∷ c ∷ []) (b ∷ []))
     (tables ([] ∷ [] ∷ [] ∷ []) (a ∷ []) (b ∷ c ∷ []))
-    (some b ∷ none ∷ none ∷ []) 0 0
-    ∷ runs (u ∷ [])
+    (some b ∷ none ∷ none ∷ []) 0 0)
+    ∷ crowded (1 ∷ 0 ∷ 0 ∷ []) (1 ∷ 0 ∷ 0 ∷ [])
+    (runs (u ∷ [])
     (tables ((u ∷ []) ∷ [] ∷ [] ∷ []) (a ∷ []) (c ∷ []))
     (tables ([] ∷ [] ∷ [] ∷ []) (a ∷ []) (c ∷ u ∷ []))
     (tables ([] ∷ [] ∷ [] ∷ []) [] (c ∷ u ∷ a ∷ []))
-    (some u ∷ none ∷ none ∷ []) 1 0
+    (some u ∷ none ∷ none ∷ []) 1 0)
     ∷ call [] (sends (some c ∷ none ∷ none ∷ []) 0 0)
     ∷ call [] (sends (some a ∷ none ∷ none ∷ []) 0 0)
     ∷ [])
@@ -169,7 +176,7 @@ notOverAll =
 -- u is blocked by z, stands first and is over z, so urgent. s, the 3, is scheduled and first in its list. x is normal,
 -- and its crosspoint holds p; so y is scheduled, but not first, and takes no part. Output 0 keeps s and refuses u:
 -- two proposals. s is not urgent and goes to its crosspoint, y to its own, and output 0 takes y, the 1. In phase two s
--- is over u, x is scheduled, and output 0 takes s.
+-- is over u, x is scheduled, and output 0 takes s. Output 0 has z, s and y and then z and s, output 1 p and then x.
 unfoldable pub scheduledMatched : History
 scheduledMatched =
     let z = cell 0 0 0 9 1 0 in
@@ -180,10 +187,11 @@ scheduledMatched =
     let y = cell 2 0 0 1 6 2 in
     let before = tables ((u ∷ []) ∷ (s ∷ []) ∷ (x ∷ y ∷ []) ∷ []) (z ∷ p ∷ []) [] in
     lent 3 3 before
+    (crowded (3 ∷ 1 ∷ 0 ∷ []) (2 ∷ 1 ∷ 0 ∷ [])
     (runs [] before
     (tables ((u ∷ []) ∷ [] ∷ (x ∷ []) ∷ []) (z ∷ s ∷ []) (y ∷ p ∷ []))
     (tables ((u ∷ []) ∷ [] ∷ [] ∷ []) (z ∷ []) (y ∷ p ∷ s ∷ x ∷ []))
-    (some y ∷ some p ∷ none ∷ []) 2 0
+    (some y ∷ some p ∷ none ∷ []) 2 0)
     ∷ [])
     4
 
@@ -205,7 +213,7 @@ fullCrosspoint =
 
 -- u goes to the front, before the scheduled s. It is blocked by z and over z and y: urgent, and alone in the matching,
 -- as s is not first. u goes straight, so input 0 does not send s, and output 0 takes neither z nor y. In phase two s is
--- sent, and output 0 takes y, the 8.
+-- sent, and output 0 takes y, the 8. Output 0 has z and y in both phases, output 1 none and then s.
 unfoldable pub straightAlone : History
 straightAlone =
     let z = cell 0 0 0 9 1 0 in
@@ -214,11 +222,12 @@ straightAlone =
     let u = cell 0 0 1 5 4 2 in
     lent 2 2
     (tables ((s ∷ []) ∷ [] ∷ []) (z ∷ y ∷ []) [])
+    (crowded (2 ∷ 0 ∷ []) (2 ∷ 1 ∷ [])
     (runs (u ∷ [])
     (tables ((u ∷ s ∷ []) ∷ [] ∷ []) (z ∷ y ∷ []) [])
     (tables ((s ∷ []) ∷ [] ∷ []) (z ∷ y ∷ []) (u ∷ []))
     (tables ([] ∷ [] ∷ []) (z ∷ []) (u ∷ s ∷ y ∷ []))
-    (some u ∷ some s ∷ []) 1 0
+    (some u ∷ some s ∷ []) 1 0)
     ∷ [])
     3
 

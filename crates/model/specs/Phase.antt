@@ -4,12 +4,13 @@
 --     lists, crosspoints   the cells in the lists and at the crosspoints as the phase starts
 --     heads, scheduled, urgent, candidates, matched   rules 1 to 4
 --     straight, sent       rule 5
---     pulled               rule 6
+--     filled, pulled       rule 6
 use Prim.Native.Nat.{ℕ, _+_, _*_}
 use mathlib.Core.Bool.{Bool, cond, not, _&&_, _||_}
 use mathlib.Core.List.{List, [], _∷_, _++_, map, flatten}
+use mathlib.Core.Option.{Option}
 use lib.Dec.{ltb, eqb}
-use Rattle.laws.specs.Lists.{keep, some?, none?, all?, least}
+use Rattle.laws.specs.Lists.{keep, some?, none?, all?, count, least, first?, upTo}
 use Rattle.cell.specs.declared.Cell.{Cell}
 use Rattle.cell.specs.Flow.{sameFlow}
 use Rattle.cell.specs.Limits.{sectionRoom}
@@ -114,10 +115,31 @@ straight us ms = keep (among us) ms
 unfoldable pub sent : List Waiting → List Waiting → List Waiting
 sent ss straights = keep (λ s. none? (sameInput s) straights) ss
 
--- 6. an output that got no straight cell takes the cell of highest output priority among its crosspoints, those just
--- filled included
-unfoldable pub pulled : List Waiting → List Waiting → List Waiting → List Waiting
-pulled crosspoints sents straights = keep (λ x. none? (sameOutput x) straights) (least beats (crosspoints ++ sents))
+-- a cell is at this crosspoint, of an input and an output
+unfoldable pub atCrosspoint : ℕ → ℕ → Waiting → Bool
+atCrosspoint input output x = eqb (x .cell .input) input && eqb (x .cell .output) output
+
+-- how many crosspoints of an output, one for each input, hold one of some cells
+unfoldable pub occupancy : ℕ → List Waiting → ℕ → ℕ
+occupancy ports filled output = count (λ input. some? (atCrosspoint input output) filled) (upTo ports)
+
+-- 6. The choice of an output, made after the sending, among the cells at its crosspoints, those just filled included: the
+-- one of highest output priority, if there is one, and how many of its crosspoints hold a cell. An output to which a
+-- straight cell came chooses and counts too.
+pub record OutputChoice : Type 0 where
+  pub best : Option Waiting
+  pub occupancy : ℕ
+
+unfoldable pub outputChoice : ℕ → List Waiting → ℕ → OutputChoice
+outputChoice ports filled output =
+    record {
+      best = first? (keep (λ x. eqb (x .cell .output) output) (least beats filled));
+      occupancy = occupancy ports filled output;
+    }
+
+-- an output that got no straight cell takes the best
+unfoldable pub pulled : List Waiting → List Waiting → List Waiting
+pulled filled straights = keep (λ x. none? (sameOutput x) straights) (least beats filled)
 
 pub record Phase : Type 0 where
   pub scheduled : List Waiting
@@ -127,6 +149,7 @@ pub record Phase : Type 0 where
   pub proposals : ℕ
   pub straight : List Waiting
   pub sent : List Waiting
+  pub filled : List Waiting
   pub pulled : List Waiting
 
 unfoldable pub phase : List Waiting → Phase
@@ -138,6 +161,7 @@ phase all =
     let ms = matched ahead beats cs in
     let straights = straight us ms in
     let sents = sent ss straights in
+    let full = crosspoints all ++ sents in
     record {
       scheduled = ss;
       urgent = us;
@@ -146,7 +170,8 @@ phase all =
       proposals = proposals ahead beats cs;
       straight = straights;
       sent = sents;
-      pulled = pulled (crosspoints all) sents straights;
+      filled = full;
+      pulled = pulled full straights;
     }
 
 -- where a cell is after rule 5, before the outputs choose

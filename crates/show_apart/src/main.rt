@@ -64,7 +64,7 @@ fn lent() {
         TALLY_BYTES - 1,
     );
     wrong::show_slot(
-        b"answer of 455 bytes: ",
+        b"answer of 583 bytes: ",
         2,
         0,
         ANSWER_BYTES - 1,

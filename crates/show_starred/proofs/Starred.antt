@@ -17,10 +17,10 @@ use Rattle.model.specs.Checks.{firstFault}
 use Rattle.model.specs.Phase.{numberFrom, numberSections, numbered, waiting, lists, crosspoints, sameInput}
 use Rattle.model.specs.Phase.{sameOutput, ahead}
 use Rattle.model.specs.Phase.{beats, among, sameCrosspoint, heads, blocked, crosspointEmpty, ready, scheduled}
-use Rattle.model.specs.Phase.{isUrgent, urgent, takesPart, candidates, straight, sent, pulled, phase}
+use Rattle.model.specs.Phase.{isUrgent, urgent, takesPart, candidates, straight, sent, pulled, atCrosspoint, occupancy, outputChoice, phase}
 use Rattle.model.specs.Phase.{placeSent, placeAfter, placedBy, moved}
 use Rattle.model.specs.Crossbar.{inListOf, newEntry, enterAfter, enter, arrive, leaving, departuresOf, without}
-use Rattle.model.specs.Crossbar.{run, slot, switchAfter, start}
+use Rattle.model.specs.Crossbar.{occupancies, answerOf, run, slot, switchAfter, start}
 use Rattle.model.specs.Pifo.{freshPifo, queued, join, best, rest, runPifo, slotPifo, pifoAfter}
 use Rattle.layout.specs.Number.{sameBytes}
 use Rattle.trace.specs.Ascii.{ascii}
@@ -31,17 +31,17 @@ use Rattle.trace.specs.Reader.{arrivals as read-arrivals, block, afterEnd, next
 use Rattle.trace.specs.Lines.{departureText, departuresText, refusalText}
 use Rattle.player_text.specs.Player.{lineOf, playFrom, play, crossbar}
 use Rattle.player_text.specs.Player.{pifo, playCrossbar, playPifo}
-use Rattle.model.specs.Calls.{sameDeparture, crossbarAnswers, pifoAnswers, crossbarRuns, pifoRuns, bothRun}
+use Rattle.model.specs.Calls.{sameDeparture, courseOccupies, crossbarAnswers, pifoAnswers, crossbarRuns, pifoRuns, bothRun}
 use Rattle.model.specs.Calls.{arrival, cell, call}
-use Rattle.show_starred.specs.Shows.{startAnswers, given, starred}
+use Rattle.show_starred.specs.Shows.{startAnswers, given, only, atFive, starred}
 
 pub starred-shows : all? given starred ≡ true
 unfolding bind flatten keep some? none? all? count least pairwise update first? numbersFrom upTo sameFlow fits32 portsInRange over accepted sameCell
     proposed round rounds settled matched proposals fresh isListed isCrossed isBuffered cells noSuchPort noSuchFlow outOfTurn fallingRank full fault
     faultFrom firstFault numberFrom numberSections numbered waiting lists crosspoints sameInput sameOutput ahead beats among sameCrosspoint heads blocked
-    crosspointEmpty ready scheduled isUrgent urgent takesPart candidates straight sent pulled phase placeSent placeAfter placedBy moved inListOf newEntry
-    enterAfter enter arrive leaving departuresOf without run slot switchAfter start freshPifo queued join best rest runPifo slotPifo pifoAfter sameBytes
+    crosspointEmpty ready scheduled isUrgent urgent takesPart candidates straight sent pulled atCrosspoint occupancy outputChoice phase placeSent placeAfter placedBy moved inListOf newEntry
+    enterAfter enter arrive leaving departuresOf without occupancies answerOf run slot switchAfter start freshPifo queued join best rest runPifo slotPifo pifoAfter sameBytes
     ascii keyName keyText digitsWithin decimal line after upToLineFeed isDigit valueAfter noLeadingZero readNumber readLine give _>>=_ number exactly
     begins read-arrival read-arrivals block afterEnd next header departureText departuresText refusalText lineOf playFrom play crossbar pifo playCrossbar
-    playPifo sameDeparture sameList crossbarAnswers pifoAnswers crossbarRuns pifoRuns bothRun arrival cell call startAnswers given starred
+    playPifo sameDeparture sameList courseOccupies crossbarAnswers pifoAnswers crossbarRuns pifoRuns bothRun arrival cell call startAnswers given only atFive starred
 starred-shows = refl

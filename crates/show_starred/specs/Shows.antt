@@ -3,11 +3,14 @@
 use Prim.Native.Nat.{ℕ}
 use Prim.Native.String.{String}
 use mathlib.Core.Bool.{Bool, _&&_}
-use mathlib.Core.List.{List, [], _∷_}
-use mathlib.Core.Option.{none, some}
+use mathlib.Core.List.{List, [], _∷_, _++_, map}
+use mathlib.Core.Option.{Option, none, some}
 use lib.Dec.{eqb}
+use lib.ListN.{replicate}
+use Rattle.laws.specs.Lists.{upTo}
+use Rattle.cell.specs.declared.Cell.{Cell}
 use Rattle.cell.specs.Refusal.{number}
-use Rattle.model.specs.Calls.{Call, call, sends, refuses, bothRun, arrival, cell}
+use Rattle.model.specs.Calls.{Call, call, sends, refuses, occupies, bothRun, arrival, cell}
 use Rattle.model.specs.Checks.{Outcome, done, refused}
 use Rattle.model.specs.Crossbar.{start}
 use Rattle.model.specs.State.{Switch}
@@ -32,7 +35,14 @@ given (plays t u) = sameBytes (playCrossbar (ascii t)) (ascii u) && sameBytes (p
 given (starts n r) = startAnswers r (start n 0)
 given (answers n first calls clock) = bothRun n first calls clock
 
--- The rows, in the order of scope 9.
+-- sixteen numbers, and sixteen departures, of which output 5 alone has one
+unfoldable pub only : ℕ → List ℕ
+only n = replicate 5 0 ++ (n ∷ replicate 10 0)
+
+unfoldable pub atFive : Cell → List (Option Cell)
+atFive c = replicate 5 none ++ (some c ∷ replicate 10 none)
+
+-- The rows, in the order of scope 9; how crowded the outputs are stands with the third.
 unfoldable pub starred : List Show
 starred =
     plays
@@ -40,15 +50,24 @@ starred =
     "ports=2\nfirst=0\nslot=0\nout=1\nin=1\nflow=0\nrank=3\ntag=11\nslot=1\nout=1\nin=0\nflow=0\nrank=5\ntag=10\nend=2\n"
     -- an empty slot on a fresh switch: no departure, clock up by one
     ∷ answers 2 0 (call [] (sends (none ∷ none ∷ []) 0 0) ∷ []) 1
-    -- ranks leave as 1, 0, 2, 9; slot 1 makes 1 proposal, then 0
+    -- ranks leave as 1, 0, 2, 9; slot 1 makes 1 proposal, then 0. In slot 0 all three crosspoints of output 0 are filled,
+    -- and 2 are left; in slot 1 a straight cell comes while rank 9 stands at its crosspoint, which the second phase takes
     ∷ answers 3 0
     (call (arrival 0 0 0 9 1 ∷ arrival 1 0 0 1 2 ∷ arrival 2 0 0 2 3 ∷ [])
-    (sends (some (cell 1 0 0 1 2 0) ∷ none ∷ none ∷ []) 0 0)
-    ∷ call (arrival 0 0 1 0 4 ∷ []) (sends (some (cell 0 0 1 0 4 1) ∷ none ∷ none ∷ []) 1 0)
-    ∷ call [] (sends (some (cell 2 0 0 2 3 0) ∷ none ∷ none ∷ []) 0 0)
+    (occupies (3 ∷ 0 ∷ 0 ∷ []) (2 ∷ 0 ∷ 0 ∷ []) (sends (some (cell 1 0 0 1 2 0) ∷ none ∷ none ∷ []) 0 0))
+    ∷ call (arrival 0 0 1 0 4 ∷ [])
+    (occupies (1 ∷ 0 ∷ 0 ∷ []) (1 ∷ 0 ∷ 0 ∷ []) (sends (some (cell 0 0 1 0 4 1) ∷ none ∷ none ∷ []) 1 0))
+    ∷ call []
+    (occupies (0 ∷ 0 ∷ 0 ∷ []) (0 ∷ 0 ∷ 0 ∷ []) (sends (some (cell 2 0 0 2 3 0) ∷ none ∷ none ∷ []) 0 0))
     ∷ call [] (sends (some (cell 0 0 0 9 1 0) ∷ none ∷ none ∷ []) 0 0)
     ∷ [])
     4
+    -- all sixteen inputs send to output 5: its crosspoints are all filled, and 15 are left
+    ∷ answers 16 0
+    (call (map (λ i. arrival i 5 0 1 i) (upTo 16))
+    (occupies (only 16) (only 15) (sends (atFive (cell 0 5 0 1 0 0)) 0 0))
+    ∷ [])
+    1
     -- a tie: input 0 leaves in slot 1, input 1 in slot 2
     ∷ answers 2 1
     (call (arrival 0 0 0 4 1 ∷ arrival 1 0 0 4 2 ∷ []) (sends (some (cell 0 0 0 4 1 1) ∷ none ∷ []) 0 0)

@@ -1,5 +1,5 @@
 -- Scope 3: a slot on the bytes of a sound table, from where its cells have arrived.
-use mathlib.Core.List.{List}
+use mathlib.Core.List.{List, [], _∷_}
 use mathlib.Core.Path.{_≡_}
 use lib.ListN.{getD}
 use Prim.Native.Nat.{ℕ, zero, suc, _<_}
@@ -9,7 +9,7 @@ use Rattle.model.specs.Crossbar.{Course, leaving, departuresOf, without}
 use Rattle.layout.specs.Table.{IsTable, stateOf}
 use Rattle.slot_view.specs.CodeView.{placesIn}
 use Rattle.slot_view.specs.CodeViewed.{BestBuffered}
-use Rattle.slot_moves.specs.CodeMoved.{afterPhase}
+use Rattle.slot_moves.specs.CodeMoved.{afterPhase, OccupanciesOf}
 
 -- the course of a slot whose cells have arrived and whose clock has risen
 unfoldable pub courseOf : Switch → Course
@@ -39,16 +39,20 @@ afterPhases (suc n) s = afterPhase (afterPhases n s)
 unfoldable pub proposalsAfter : ℕ → Switch → ℕ
 proposalsAfter n s = phase (waiting (afterPhases n s .sections)) .proposals
 
--- where the phases stand after so many: the table is that of the switch then, and the proposals of each phase are counted
-pub record Phased (s : Switch) (n : ℕ) (table made : List ℕ) : Type 0 where
+-- the first n phases have reported: the proposals of each, and the occupancy of each output in each
+pub record Reported (s : Switch) (n : ℕ) (proposals : List ℕ) (occupancies : List (List ℕ)) : Type 0 where
+  pub counted : (k : ℕ) → k < n → getD proposals k 0 ≡ proposalsAfter k s
+  pub told : (k : ℕ) → k < n → OccupanciesOf (afterPhases k s) (getD occupancies k [])
+
+-- where the phases stand after so many: the table is that of the switch then, and each has reported
+pub record Phased (s : Switch) (n : ℕ) (table proposals : List ℕ) (occupancies : List (List ℕ)) : Type 0 where
   pub good : IsTable table
   pub state : stateOf table ≡ afterPhases n s
-  pub counted : (k : ℕ) → k < n → getD made k 0 ≡ proposalsAfter k s
+  pub reported : Reported s n proposals occupancies
 
--- what the two phases leave
-pub record Scheduled (s : Switch) (table best : List ℕ) (one two : ℕ) : Type 0 where
+-- what the two phases leave: the occupancies of the first and of the second are apart
+pub record Scheduled (s : Switch) (table best proposals first second : List ℕ) : Type 0 where
   pub good : IsTable table
   pub state : stateOf table ≡ afterPhases 2 s
   pub bests : BestBuffered table (placesIn table) best
-  pub first : one ≡ proposalsAfter 0 s
-  pub second : two ≡ proposalsAfter 1 s
+  pub reported : Reported s 2 proposals (first ∷ second ∷ [])

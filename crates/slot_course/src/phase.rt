@@ -11,11 +11,17 @@ ghost use mathlib.Core.Path.{_≡_};
 ghost use lib.ListN.{length};
 ghost use Rattle.layout.specs.Table.{tableSize, IsTable, encode, stateOf};
 ghost use Rattle.model.specs.Phase.{phase, waiting};
-ghost use Rattle.slot_moves.specs.CodeMoved.{afterPhase};
+ghost use Rattle.slot_moves.specs.CodeMoved.{afterPhase, OccupanciesOf};
 ghost use Rattle.slot_view.specs.CodeViewed.{Viewed};
 ghost use Rattle.slot_matching.specs.CodeFound.{numbersOf, Found, ToOutputs};
 
-// Moves the cells as a phase does, and gives the number of proposals that it made. The view of the table is kept.
+// What a phase reports: the number of proposals that it made, and the occupancy of each output.
+pub struct Report {
+    pub proposals: u32,
+    pub occupancy: [u16; PORTS],
+}
+
+// Moves the cells as a phase does, and reports. The view of the table is kept.
 pub fn phase(
     table: &mut [u8],
     listed: &mut [u64; PORTS],
@@ -23,19 +29,23 @@ pub fn phase(
     cross: &mut [[u16; PORTS]; PORTS],
     keys: &mut [[u64; PORTS]; PORTS],
     best: &mut [u16; PORTS],
-) -> u32
+) -> Report
     requires { ⌜ IsTable (now table) × Viewed (now table) (now listed) (now heads) (now cross) (now keys) (now best) ⌝ }
     ensures { λ _. ⌜ now (table .exit) ≡ encode (afterPhase (stateOf (now (table .entry)))) ⌝ }
     ensures { λ _. ⌜ Viewed (now (table .exit)) (now (listed .exit)) (now (heads .exit)) (now (cross .exit))
         (now (keys .exit)) (now (best .exit)) ⌝ }
-    ensures { λ r. ⌜ r ≡ phase (waiting (stateOf (now (table .entry)) .sections)) .proposals ⌝ }
+    ensures { λ r. ⌜ r .proposals ≡ phase (waiting (stateOf (now (table .entry)) .sections)) .proposals ⌝ }
+    ensures { λ r. ⌜ OccupanciesOf (stateOf (now (table .entry))) (r .occupancy) ⌝ }
 {
     let choice = choose(table, listed, heads, cross, keys);
     let candidates = choice.candidates;
     let matched = matching_of(table, choice.urgent, candidates);
     let held = matched.held;
-    move_cells(table, listed, heads, cross, keys, best, choice, held);
-    matched.proposals
+    let occupancy = move_cells(table, listed, heads, cross, keys, best, choice, held);
+    Report {
+        proposals: matched.proposals,
+        occupancy,
+    }
 }
 
 // Rule 4: nothing is matched where no cell is urgent.

@@ -1,6 +1,10 @@
 // Scope 3, one slot, on the table of a sound state from where its cells have arrived: the two phases and departure.
 use crate::phase::phase;
+use layout::FIRST_OCCUPANCY;
 use layout::PORTS;
+use layout::SECOND_OCCUPANCY;
+use layout_answer::write_occupancies;
+use layout_answer::write_proposals;
 use layout_table::priority::NOWHERE;
 use slot_departure::depart;
 use slot_loading::load;
@@ -21,10 +25,11 @@ ghost use Rattle.slot_course.specs.Code.{courseOf, Scheduled};
 // Scheduling is done twice.
 const PHASES: usize = 2;
 
-// The proposals made in the two phases.
-struct Proposals {
-    first: u32,
-    second: u32,
+// What the two phases report: the proposals that each made, and the occupancy of each output in each.
+struct Reports {
+    proposals: [u32; PHASES],
+    first: [u16; PORTS],
+    second: [u16; PORTS],
 }
 
 // The course of a slot whose cells have arrived and whose clock has risen, with the sets of its cells by place.
@@ -43,9 +48,14 @@ pub fn run(
         ≡ filled (answerBytes (answerOf (courseOf (stateOf (now (table .entry)))))) (now (answer .entry)) ⌝ }
 {
     let mut best = [NOWHERE; PORTS];
-    let proposals = schedule(table, listed, heads, crossed, buffered, &mut best);
+    let reports = schedule(table, listed, heads, crossed, buffered, &mut best);
     depart(table, &best, answer);
-    layout_answer::write_proposals(answer, proposals.first, proposals.second);
+    let proposals = reports.proposals;
+    write_proposals(answer, proposals[0], proposals[1]);
+    let first = reports.first;
+    let second = reports.second;
+    write_occupancies(answer, FIRST_OCCUPANCY, &first);
+    write_occupancies(answer, SECOND_OCCUPANCY, &second);
 }
 
 // The two phases, on a view of the table that is made once, from the sets of its cells by place. `best` is lent with no
@@ -57,22 +67,30 @@ fn schedule(
     crossed: &[u64; PORTS],
     buffered: &[u64; PORTS],
     best: &mut [u16; PORTS],
-) -> Proposals
+) -> Reports
     requires { ⌜ IsTable (now table) × (now best ≡ replicate portLimit nowhere) ⌝ }
     requires { ⌜ SetsOf (now table) (placesIn (now table)) (now listed) (now heads) (now crossed) (now buffered) ⌝ }
-    ensures { λ r. ⌜ Scheduled (stateOf (now (table .entry))) (now (table .exit)) (now (best .exit)) (r .first)
-        (r .second) ⌝ }
+    ensures { λ r. ⌜ Scheduled (stateOf (now (table .entry))) (now (table .exit)) (now (best .exit)) (r .proposals)
+        (r .first) (r .second) ⌝ }
 {
     let mut cross = [[NOWHERE; PORTS]; PORTS];
     let mut keys = [[NO_KEY; PORTS]; PORTS];
     load(table, crossed, buffered, &mut cross, &mut keys, best);
-    let mut made = [0u32; PHASES];
+    let mut proposals = [0u32; PHASES];
+    let mut occupancies = [[0u16; PORTS]; PHASES];
     let mut n = 0;
     while n < PHASES {
-        made[n] = phase(table, listed, heads, &mut cross, &mut keys, best);
+        let report = phase(table, listed, heads, &mut cross, &mut keys, best);
+        let occupancy = report.occupancy;
+        proposals[n] = report.proposals;
+        occupancies[n] = occupancy;
         n += 1;
     }
-    let first = made[0];
-    let second = made[1];
-    Proposals { first, second }
+    let first = occupancies[0];
+    let second = occupancies[1];
+    Reports {
+        proposals,
+        first,
+        second,
+    }
 }

@@ -1,5 +1,6 @@
 pub mod Agreeing
 pub mod Buffering
+pub mod Counting
 pub mod Encoded
 pub mod Entering
 pub mod Keying

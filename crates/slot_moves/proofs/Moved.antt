@@ -19,6 +19,7 @@ use Rattle.cell.specs.Limits.{sectionRoom, portLimit}
 use Rattle.model.specs.State.{crossed, buffered, isListed, isCrossed, isBuffered}
 use Rattle.model.specs.Phase.{Waiting, phase, beats, sameInput, sameOutput, pulled, among, placeSent, placeAfter}
 use Rattle.model.specs.Phase.{crosspoints}
+use Rattle.model.specs.Crossbar.{occupancies}
 use Rattle.model.specs.CodeSlackness.{Orderly, relocated}
 use Rattle.model.proofs.WaitingOrder.{input-i, input-e, output-i, output-e, crosspoint-i, among-e}
 use Rattle.model.proofs.PhaseFacts.{crosspoints-i, crosspoints-all, crosspoints-crossed, urgent-head, scheduled-head}
@@ -34,18 +35,20 @@ use Rattle.slot_view.specs.CodeViewed.{ListsOf, Keyed, BestBuffered, Viewed}
 use Rattle.slot_view.specs.CodeScan.{Readable, Holds, Bests}
 use Rattle.slot_view.specs.CodeChoices.{numberOf, toOutput, bestOf}
 use Rattle.slot_view.proofs.Encoding.{statePlaced}
-use Rattle.slot_view.proofs.Own.{length-placesIn, table-readable, waitingIn-orderly}
+use Rattle.slot_view.proofs.Own.{length-placesIn, table-readable, waitingIn-orderly, waitingIn-state}
+use Rattle.slot_view.proofs.Placed.{decode-ports}
 use Rattle.slot_view.proofs.Placing.{Kept, kept-trans, kept-view}
 use Rattle.slot_view.proofs.Together.{contiguous}
 use Rattle.slot_view.proofs.Window.{inTable-i, inTable-below, waitingAt-at, waitingAt-cell, waitingAt-input, waitingAt-place}
 use Rattle.slot_choice.proofs.Best.{best-of}
-use Rattle.slot_moves.specs.CodeMoved.{afterPhase, Settled}
+use Rattle.slot_moves.specs.CodeMoved.{afterPhase, Settled, OccupanciesOf}
 use Rattle.slot_moves.specs.CodeMoves.{written, sending, entering}
 use Rattle.slot_moves.specs.CodeMoves.{straightTo, markOf, sendOf, takeOf, sentOf, pulledOf, AllBound}
-use Rattle.slot_moves.specs.CodeMoves.{Straightened, Sent, Pulled}
+use Rattle.slot_moves.specs.CodeMoves.{Straightened, Sent, Pulled, Counted}
 use Rattle.slot_moves.proofs.Agreeing.{outputAt, crossedAt, agrees-filled, agrees-real, agrees-straight, Sendable, output-small}
 use Rattle.slot_moves.proofs.Agreeing.{Stands, crossed-hit, crossed-miss, buffered-byte, crossed-byte, agrees-sending}
 use Rattle.slot_moves.proofs.Buffering.{bufferedAt, buffered-entering, buffered-same}
+use Rattle.slot_moves.proofs.Counting.{counted-occupancies}
 use Rattle.slot_moves.proofs.Encoded.{encode-start, encode-placing, encode-end, after-table}
 use Rattle.slot_moves.proofs.Entering.{BestOfEach, best-start, best-entering}
 use Rattle.slot_moves.proofs.Keying.{keyed-sending, keyed-pulling}
@@ -523,6 +526,13 @@ module _ {table : List ℕ} (good : IsTable table) {listed heads : List ℕ} {cr
                   ap (λ d. d .output) (waitingAt-cell table places c) ∙ w .3,
                 );
           }
+
+      -- and when the outputs choose, so many of each output's crosspoints hold one
+      pub told-occupancies : {told : List ℕ} → Counted cross₂ portLimit told → OccupanciesOf (stateOf table) told
+      unfolding cells phase
+      told-occupancies {told} c x l =
+          counted-occupancies r cells-held (phase all) told refl c x l
+          ∙ ap₂ (λ n a. getD (occupancies n (phase a)) x 0) (decode-ports table (stateOf table) good) (waitingIn-state table good)
 
       abbrev H : ℕ → ℕ
       H = takeOf outputs crossed₂

@@ -4,6 +4,7 @@
 --     left, leftHeads           the lists and the heads without a head
 --     leaving, leavingHeads     the same for f 0, .. f (n - 1)
 --     sending, keying           the crosspoints and their keys after f 0, .. f (n - 1) were sent to theirs
+--     filledAt, Counted         how many crosspoints of each output hold a cell
 --     entered table best k      the best of each output, where k may be a better one
 --     entering table f n best   the same for f 0, .. f (n - 1)
 --     pulling, unkeying         the crosspoints and their keys after output 0 took f 0, .. output n - 1 took f (n - 1)
@@ -12,8 +13,8 @@ use mathlib.Core.Bool.{Bool, true, false, cond, _&&_, _||_}
 use mathlib.Core.List.{List}
 use mathlib.Core.Path.{_≡_}
 use lib.Dec.{ltb, leb, eqb}
-use lib.ListN.{getD, set, replicate}
-use Rattle.laws.specs.Lists.{first?}
+use lib.ListN.{length, getD, set, replicate}
+use Rattle.laws.specs.Lists.{count, first?, upTo}
 use Rattle.sets.specs.Sets.{positions, firstOf}
 use Rattle.sets.specs.Code.{withOne, withoutOne, from}
 use Rattle.cell.specs.Limits.{sectionRoom, portLimit}
@@ -21,7 +22,7 @@ use Rattle.model.specs.Phase.{Phase}
 use Rattle.layout.specs.Entry.{entryAt}
 use Rattle.layout.specs.Code.{recordStart}
 use Rattle.layout_table.specs.CodeEntries.{flowWord, nowhere, betterOf}
-use Rattle.slot_view.specs.CodeView.{crossWith}
+use Rattle.slot_view.specs.CodeView.{crosspointAt, crossWith}
 use Rattle.slot_view.specs.CodeChoices.{numberOf, ofInput, toOutput}
 use Rattle.slot_view.specs.CodeViewed.{noKey, keyAt}
 
@@ -93,6 +94,15 @@ pulling f (suc n) cross = crossWith (pulling f n cross) (f n / sectionRoom) n no
 unfoldable pub unkeying : (ℕ → ℕ) → ℕ → List (List ℕ) → List (List ℕ)
 unkeying f zero keys = keys
 unkeying f (suc n) keys = crossWith (unkeying f n keys) n (f n / sectionRoom) noKey
+
+-- how many of the first n inputs have a cell at their crosspoint of an output
+unfoldable pub filledAt : List (List ℕ) → ℕ → ℕ → ℕ
+filledAt cross n output = count (λ input. ltb (crosspointAt cross input output) nowhere) (upTo n)
+
+-- counted for the first n outputs
+pub record Counted (cross : List (List ℕ)) (n : ℕ) (occupancy : List ℕ) : Type 0 where
+  pub size : length occupancy ≡ portLimit
+  pub at : (output : ℕ) → output < n → getD occupancy output 0 ≡ filledAt cross portLimit output
 
 ------------------------------------------------------------------------
 -- the best of each output

@@ -25,10 +25,10 @@ ghost use Rattle.layout_table.specs.CodeEntries.{nowhere};
 ghost use Rattle.slot_view.specs.CodeScan.{Bests};
 ghost use Rattle.slot_view.specs.CodeView.{crossWith, Square};
 ghost use Rattle.slot_view.specs.CodeViewed.{Viewed};
-ghost use Rattle.slot_moves.specs.CodeMoved.{afterPhase, Settled};
+ghost use Rattle.slot_moves.specs.CodeMoved.{afterPhase, Settled, OccupanciesOf};
 ghost use Rattle.slot_moves.specs.CodeMoves.{entered, left, leftHeads, headsLeft, straightTo, sendOf};
 ghost use Rattle.slot_moves.specs.CodeMoves.{takeOf, Bound, AllBound, Straight, Crossed, Taken, Straightened};
-ghost use Rattle.slot_moves.specs.CodeMoves.{Sent, Pulled};
+ghost use Rattle.slot_moves.specs.CodeMoves.{Sent, Pulled, filledAt, Counted};
 
 // The ports of the straight cells: the inputs that they left, and the outputs that they went to.
 struct Marks {
@@ -36,9 +36,15 @@ struct Marks {
     outputs: [bool; PORTS],
 }
 
-// Rules 5 and 6: the straight cells go, then the inputs send, then the outputs take. `best` has the best buffered
-// cell of each output, `choice.best` the best crosspoint cell before anything moves, and `held` the match of each
-// output.
+// The choice of each output (rule 6): the best cell at its crosspoints, and how many of them hold a cell.
+struct OutputChoice {
+    best: [u16; PORTS],
+    occupancy: [u16; PORTS],
+}
+
+// Rules 5 and 6: the straight cells go, then the inputs send, then the outputs choose and take. `best` has the best
+// buffered cell of each output, `choice.best` the best crosspoint cell before anything moves, and `held` the match of
+// each output. Gives the occupancy of each output.
 pub fn move_cells(
     table: &mut [u8],
     listed: &mut [u64; PORTS],
@@ -48,7 +54,7 @@ pub fn move_cells(
     best: &mut [u16; PORTS],
     choice: Choice,
     held: [u16; PORTS],
-)
+) -> [u16; PORTS]
     requires { ⌜ IsTable (now table)
         × Viewed (now table) (now listed) (now heads) (now cross) (now keys) (now best) ⌝ }
     requires { ⌜ Settled (now table) (choice .scheduled) held × Bests (now table) (now cross) (choice .best) ⌝ }
@@ -56,6 +62,7 @@ pub fn move_cells(
     ensures { λ _. ⌜ Viewed (now (table .exit)) (now (listed .exit)) (now (heads .exit)) (now (cross .exit))
         (now (keys .exit)) (now (best .exit)) ⌝ }
     ensures { λ _. ⌜ IsTable (now (table .exit)) ⌝ }
+    ensures { λ r. ⌜ OccupanciesOf (stateOf (now (table .entry))) r ⌝ }
 {
     let scheduled = choice.scheduled;
     let mut crossed = choice.best;
@@ -72,7 +79,10 @@ pub fn move_cells(
         &scheduled,
         &inputs,
     );
-    pull_best(table, cross, keys, best, &crossed, &outputs);
+    let output_choice = choose_crossed(cross, crossed);
+    let chosen = output_choice.best;
+    pull_best(table, cross, keys, best, &chosen, &outputs);
+    output_choice.occupancy
 }
 
 // Rule 5: every matched urgent cell goes straight to its output buffer.
@@ -137,6 +147,36 @@ fn send_scheduled(
         send(table, listed, heads, cross, keys, best, number);
         input += 1;
     }
+}
+
+// Rule 6: the choice of each output, made when the inputs have sent and before any output takes, whether or not a
+// straight cell came to it. `best` has the best crosspoint cell of each.
+fn choose_crossed(cross: &[[u16; PORTS]; PORTS], best: [u16; PORTS]) -> OutputChoice
+    ensures { λ r. ⌜ (r .best ≡ best) × Counted (now (cross .entry)) portLimit (r .occupancy) ⌝ }
+{
+    let mut occupancy = [0; PORTS];
+    let mut output = 0;
+    while output < PORTS {
+        occupancy[output] = occupancy_of(cross, output);
+        output += 1;
+    }
+    OutputChoice { best, occupancy }
+}
+
+// How many crosspoints of an output hold a cell. Nothing branches on that, so that the compiler counts for many outputs
+// at once.
+fn occupancy_of(cross: &[[u16; PORTS]; PORTS], output: usize) -> u16
+    requires { ⌜ output < portLimit ⌝ }
+    ensures { λ r. ⌜ r ≡ filledAt (now (cross .entry)) portLimit output ⌝ }
+{
+    let mut count = 0;
+    let mut input = 0;
+    while input < PORTS {
+        let filled = if cross[input][output] < NOWHERE { 1 } else { 0 };
+        count += filled;
+        input += 1;
+    }
+    count
 }
 
 // Rule 6: every output without a straight cell takes the best cell at its crosspoints, `crossed`, to its buffer,

@@ -22,4 +22,10 @@ pub enum Fault {
     PifoBySlotBeforeRank,
     /// 10.1: an input proposes the cell of the smallest cushion first.
     SmallestCushionProposedFirst,
+    /// 3.8: crosspoints are counted as the phase starts, without the cells that it sends.
+    OccupancyBeforeCellsAreSent,
+    /// 3.8: crosspoints are counted when the outputs have taken their cells.
+    OccupancyAfterCellsAreTaken,
+    /// 3.8: an output to which a cell came straight has the occupancy 0.
+    NoOccupancyWhereACellCameStraight,
 }

@@ -76,10 +76,12 @@ fn accepted(record: &Record, slot: u32) -> Cell {
     Cell { input, output, flow, rank, tag, slot }
 }
 
+/// Proposals and occupancies are those of the first phase and of the second.
 #[derive(Clone, Debug, PartialEq, Eq)]
 pub struct Answer {
     pub departures: Vec<Option<Cell>>,
     pub proposals: [u32; 2],
+    pub occupancies: [Vec<u32>; 2],
 }
 
 #[derive(Clone, Debug, PartialEq, Eq)]
@@ -135,10 +137,11 @@ impl Crossbar {
         for r in records {
             self.arrive(accepted(r, self.clock));
         }
-        let proposals = [self.phase(), if self.has(Fault::PhaseTwoLeftOut) { 0 } else { self.phase() }];
+        let first = self.phase();
+        let second = if self.has(Fault::PhaseTwoLeftOut) { (0, self.filled()) } else { self.phase() };
         let departures = (0..self.ports).map(|o| self.depart(o)).collect();
         self.clock += 1;
-        Ok(Answer { departures, proposals })
+        Ok(Answer { departures, proposals: [first.0, second.0], occupancies: [first.1, second.1] })
     }
 
     /// A new cell goes right after the last cell of its flow in the list, or to the front.
@@ -155,15 +158,29 @@ impl Crossbar {
         self.sections.iter().flatten().filter(here).map(|e| e.cell).collect()
     }
 
-    /// One phase: the number of proposals made.
-    fn phase(&mut self) -> u32 {
+    /// For each output the number of its crosspoints that hold a cell.
+    fn filled(&self) -> Vec<u32> {
+        (0..self.ports).map(|o| self.crossed(o).len() as u32).collect()
+    }
+
+    /// One phase: the number of proposals made, and the occupancy of each output.
+    fn phase(&mut self) -> (u32, Vec<u32>) {
         let crossed: Vec<Vec<Cell>> = (0..self.ports).map(|o| self.crossed(o)).collect();
         let choices: Vec<Choice> = (0..self.ports as usize).map(|i| self.choose(i, &crossed)).collect();
         let (matched, proposals) = self.find_matching(&self.candidates(&choices));
         let (inputs, outputs) = self.go_straight(&choices, &matched);
         self.send_scheduled(&choices, &inputs);
+        let filled = self.filled();
         self.take_from_crosspoints(&outputs);
-        proposals
+        let occupancies = match self.fault {
+            Some(Fault::OccupancyBeforeCellsAreSent) => crossed.iter().map(|cells| cells.len() as u32).collect(),
+            Some(Fault::OccupancyAfterCellsAreTaken) => self.filled(),
+            Some(Fault::NoOccupancyWhereACellCameStraight) => {
+                filled.iter().zip(&outputs).map(|(&cells, &came)| if came { 0 } else { cells }).collect()
+            }
+            _ => filled,
+        };
+        (proposals, occupancies)
     }
 
     /// The positions of an input's heads.

@@ -1,7 +1,7 @@
 -- What each of the three rounds finds is what the one before left.
 use mathlib.Core.Path.{_∙_}
 use Rattle.slot_view.proofs.Own.{table-readable}
-use Rattle.slot_moves.proofs.Moved.{can-go, can-send, can-take, moved-table, moved-view, moved-good}
+use Rattle.slot_moves.proofs.Moved.{can-go, can-send, can-take, told-occupancies, moved-table, moved-view, moved-good}
 use Rattle.slot_moves.proofs.Rounds.{kept-straightened, length-straight-lists, length-straight-heads, length-straight-best}
 use Rattle.slot_moves.proofs.Rounds.{kept-sent, square-sent, square-sent-keys}
 use borrow.Author.Needs.{needs}
@@ -18,8 +18,11 @@ before-sending c =
     let marks = lent .before .before .before .before in
     marks .before .before .before
 
-abbrev before-pulling : tie.After-outputs2 → tie.After-send-scheduled
-before-pulling c = let lent = c .before .before .before .before .before in lent .before .before .before
+abbrev before-choosing : tie.After-choose-crossed-arg → tie.After-send-scheduled
+before-choosing c = c .before .before .before
+
+abbrev before-pulling : tie.After-pull-best-arg4 → tie.After-choose-crossed
+before-pulling c = let lent = c .before .before .before in lent .before .before
 
 go-straight-requires : tie.Need-go-straight-requires
 go-straight-requires c κs =
@@ -46,9 +49,13 @@ send-scheduled-requires c κs =
       can-send good view (s .pre .1 .0) g,
     )
 
+choose-crossed-requires : tie.Need-choose-crossed-requires
+choose-crossed-requires c κs = search needs
+
 pull-best-requires : tie.Need-pull-best-requires
 pull-best-requires c κs =
-    let sent = before-pulling c in
+    let chosen = before-pulling (c .before .before) in
+    let sent = before-choosing (chosen .before) in
     let straight = before-sending (sent .before) in
     let s = before-straight (straight .before) in
     let (good, view) = s .pre .0 in
@@ -60,7 +67,7 @@ pull-best-requires c κs =
         square-sent t (view .square),
         square-sent-keys t (view .keyed .square),
       ),
-      can-take good view (s .pre .1 .0) g (s .pre .1 .1) t,
+      rw (chosen .choose-crossed .ensures .0) (can-take good view (s .pre .1 .0) g (s .pre .1 .1) t),
     )
 
 same-length : tie.Need-same-length
@@ -68,16 +75,26 @@ same-length c = search needs
 
 returns : tie.Need-returns
 returns c =
-    let pulled = c .before .before in
-    let sent = before-pulling (pulled .before) in
+    let pulled = c .before .before .before in
+    let chosen = before-pulling (pulled .before .before .before) in
+    let sent = before-choosing (chosen .before) in
     let straight = before-sending (sent .before) in
     let ((good, view), (se, b)) = before-straight (straight .before) .pre in
     let g = straight .go-straight .ensures in
     let t = sent .send-scheduled .ensures in
-    let u = pulled .pull-best .ensures in
-    (moved-table good view se g b t u, (moved-view good view se g b t u, moved-good good view se g b t u))
+    let (same, counted) = chosen .choose-crossed .ensures in
+    let u = rw same at (pulled .pull-best .ensures) in (
+      moved-table good view se g b t u,
+      (moved-view good view se g b t u, (moved-good good view se g b t u, told-occupancies good view se g b t counted)),
+    )
 
 pub move-cells-spec : {M : Type 1} → statement M
 move-cells-spec =
     tie.close
-    (tie.spec go-straight-requires send-scheduled-requires pull-best-requires same-length returns)
+    (tie.spec
+    go-straight-requires
+    send-scheduled-requires
+    choose-crossed-requires
+    pull-best-requires
+    same-length
+    returns)

@@ -52,8 +52,11 @@ returns c =
       moved .move-cells .ensures .0,
       (
         moved .move-cells .ensures .1 .0,
-        proposals-are (table-readable _ good) (waitingIn-orderly _ good) (chosen .choose .ensures) (found .matching-of .ensures)
-            ∙ ap (λ l. phase l .proposals) (waitingIn-state _ good),
+        (
+          proposals-are (table-readable _ good) (waitingIn-orderly _ good) (chosen .choose .ensures) (found .matching-of .ensures)
+              ∙ ap (λ l. phase l .proposals) (waitingIn-state _ good),
+          moved .move-cells .ensures .1 .1 .1,
+        ),
       ),
     )
 

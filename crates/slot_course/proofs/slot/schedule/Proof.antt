@@ -12,12 +12,14 @@ use Rattle.slot_course.proofs.slot.schedule.Statement.{statement}
 use Rattle.slot_course.proofs.slot.schedule.Tie as tie
 
 abbrev Inv-loop : tie.InvT-loop
-Inv-loop table₀ listed₀ heads₀ crossed buffered best₀ cross₀ keys₀ made₀ n₀ table listed heads best cross keys made n =
-    (n ≤ 2) × Phased (stateOf table₀) n table made × Viewed table listed heads cross keys best × (length made ≡ 2)
-    × (length table ≡ length table₀)
+Inv-loop table₀ listed₀ heads₀ crossed buffered best₀ cross₀ keys₀ proposals₀ occupancies₀ n₀ table listed heads best cross keys proposals
+    occupancies n =
+    (n ≤ 2) × Phased (stateOf table₀) n table proposals occupancies × Viewed table listed heads cross keys best
+    × (length proposals ≡ 2) × (length occupancies ≡ 2) × (length table ≡ length table₀)
 
 abbrev μ-loop : tie.MeasureT-loop
-μ-loop table₀ listed₀ heads₀ crossed buffered best₀ cross₀ keys₀ made₀ n₀ table listed heads best cross keys made n =
+μ-loop table₀ listed₀ heads₀ crossed buffered best₀ cross₀ keys₀ proposals₀ occupancies₀ n₀ table listed heads best cross keys proposals
+    occupancies n =
     2 - n
 
 load-requires : tie.Need-load-requires Inv-loop μ-loop
@@ -42,7 +44,7 @@ loop-holds c =
     let start = start-of c in
     let l = c .load .ensures in (
       omega arith,
-      phased-none _ _ _ (start .pre .0 .0) refl,
+      phased-none _ _ _ _ (start .pre .0 .0) refl,
       record {
         lists = start .pre .1 .lists;
         square = l .square;
@@ -50,6 +52,7 @@ loop-holds c =
         keyed = l .keyed;
         bests = l .bests;
       },
+      refl,
       refl,
       refl,
     )
@@ -60,11 +63,17 @@ phase-requires c κs =
     let loop = lent .before .before .loop in
     (loop .inv .1 .good, loop .inv .2)
 
-mul-made : tie.Need-mul-made Inv-loop μ-loop
-mul-made c = omega arith
+mul-proposals : tie.Need-mul-proposals Inv-loop μ-loop
+mul-proposals c = omega arith
 
-array-write-made : tie.Need-array-write-made Inv-loop μ-loop
-array-write-made c = omega arith
+array-write-proposals : tie.Need-array-write-proposals Inv-loop μ-loop
+array-write-proposals c = omega arith
+
+mul-occupancies : tie.Need-mul-occupancies Inv-loop μ-loop
+mul-occupancies c = omega arith
+
+array-set-from-occupancies : tie.Need-array-set-from-occupancies Inv-loop μ-loop
+array-set-from-occupancies c = omega arith
 
 add-n : tie.Need-add-n Inv-loop μ-loop
 add-n c = omega arith
@@ -74,35 +83,39 @@ loop-less c = omega arith
 
 loop-again : tie.Need-loop-again Inv-loop μ-loop
 loop-again c =
-    let done = c .before .before in
+    let done = c .before .before .before in
     let lent = done .before .before .before .before .before in
     let test = lent .before .before in
     let loop = test .before .loop in
     let p = done .phase in
-    let room : loop .n < length (loop .made) = omega (arith, loop .inv .3, test .loop-test .taken) in (
+    let (state, (view, (made, told))) = p .ensures in
+    let room : loop .n < length (loop .proposals) = omega (arith, loop .inv .3, test .loop-test .taken) in
+    let rows : loop .n < length (loop .occupancies) = omega (arith, loop .inv .4, test .loop-test .taken) in (
       omega arith,
-      phased-more _ _ _ _ _ _ (loop .inv .1) room (p .ensures .0) (p .ensures .1 .1),
-      p .ensures .1 .0,
+      phased-more _ _ _ _ _ _ _ _ (loop .inv .1) room rows state made told,
+      view,
       simp length-set (loop .inv .3),
-      p .kept .0 ∙ loop .inv .4,
+      simp length-set (loop .inv .4),
+      p .kept .0 ∙ loop .inv .5,
     )
 
-array-read-first : tie.Need-array-read-first Inv-loop μ-loop
-array-read-first c = search needs
+array-copy-out-first : tie.Need-array-copy-out-first Inv-loop μ-loop
+array-copy-out-first c = search needs
 
-array-read-second : tie.Need-array-read-second Inv-loop μ-loop
-array-read-second c = search needs
+array-copy-out-second : tie.Need-array-copy-out-second Inv-loop μ-loop
+array-copy-out-second c = search needs
 
 same-length : tie.Need-same-length Inv-loop μ-loop
-same-length c = c .before .loop .inv .4
+same-length c = c .before .before .before .loop .inv .5
 
 returns : tie.Need-returns Inv-loop μ-loop
 returns c =
-    let loop = c .before .loop in
-    let start = start-of (c .before .before) in
+    let at = c .before .before .before in
+    let loop = at .loop in
+    let start = start-of (at .before) in
     let last : loop .n ≡ 2 = omega (arith, loop .inv .0) in
-    schedules _ _ _ _
-    (subst (λ k. Phased (stateOf (start .args .table .now)) k (loop .table) (loop .made)) last (loop .inv .1))
+    schedules _ _ _ _ _
+    (subst (λ k. Phased (stateOf (start .args .table .now)) k (loop .table) (loop .proposals) (loop .occupancies)) last (loop .inv .1))
     (loop .inv .2 .bests)
 
 pub schedule-spec : {M : Type 1} → statement M
@@ -114,12 +127,14 @@ schedule-spec =
     load-requires
     loop-holds
     phase-requires
-    mul-made
-    array-write-made
+    mul-proposals
+    array-write-proposals
+    mul-occupancies
+    array-set-from-occupancies
     add-n
     loop-less
     loop-again
-    array-read-first
-    array-read-second
+    array-copy-out-first
+    array-copy-out-second
     same-length
     returns)
