@@ -19,7 +19,7 @@ use Rattle.laws.proofs.Least.{mem-least-in, mem-least-first}
 use Rattle.laws.proofs.Lists.{all?-i, keep-mem, mem-keep-in, mem-keep-passes, first-mem, first-of}
 use Rattle.laws.proofs.Numbers.{length-numbersFrom}
 use Rattle.laws.proofs.Tests.{clash}
-use Rattle.model.specs.Phase.{Waiting, crosspoints, beats, sameOutput, atCrosspoint, occupancy, outputChoice, pulled}
+use Rattle.model.specs.Phase.{Waiting, crosspoints, beats, sameOutput, atCrosspoint, occupancy, bestFor, outputChoice, pulled}
 use Rattle.model.specs.Phase.{Phase, phase, waiting}
 use Rattle.model.specs.Sound.{soundSections}
 use Rattle.model.specs.State.{Entry}
@@ -48,7 +48,7 @@ module _ (all : List Waiting) (ports : ℕ) where
   -- what an output without a straight cell takes is the best of its choice
   pulled-best : Orderly all → {x : Waiting} → List·Memᴰ x (phase all .pulled)
       → outputChoice ports full (x .cell .output) .best ≡ some x
-  unfolding outputChoice phase pulled free
+  unfolding outputChoice bestFor phase pulled free
   pulled-best o {x} m = first-of (keep to (least beats full)) (keep-mem to here (eq-eqb (x .cell .output) _ refl)) only
     where
       to : Waiting → Bool
@@ -71,7 +71,7 @@ module _ (all : List Waiting) (ports : ℕ) where
   -- and that best it takes
   pub choice-pulled : (output : ℕ) {x : Waiting} → outputChoice ports (phase all .filled) output .best ≡ some x
       → none? (sameOutput x) (phase all .straight) ≡ true → List·Memᴰ x (phase all .pulled) × (x .cell .output ≡ output)
-  unfolding outputChoice phase pulled free
+  unfolding outputChoice bestFor phase pulled free
   choice-pulled output {x} e f =
       let to : Waiting → Bool = λ y. eqb (y .cell .output) output in
       let m : List·Memᴰ x (keep to (least beats full)) = first-mem _ x e in

@@ -123,6 +123,10 @@ atCrosspoint input output x = eqb (x .cell .input) input && eqb (x .cell .output
 unfoldable pub occupancy : ℕ → List Waiting → ℕ → ℕ
 occupancy ports filled output = count (λ input. some? (atCrosspoint input output) filled) (upTo ports)
 
+-- the cell of highest output priority among those of some cells that go to an output, if there is one
+unfoldable pub bestFor : List Waiting → ℕ → Option Waiting
+bestFor filled output = first? (keep (λ x. eqb (x .cell .output) output) (least beats filled))
+
 -- 6. The choice of an output, made after the sending, among the cells at its crosspoints, those just filled included: the
 -- one of highest output priority, if there is one, and how many of its crosspoints hold a cell. An output to which a
 -- straight cell came chooses and counts too.
@@ -131,11 +135,7 @@ pub record OutputChoice : Type 0 where
   pub occupancy : ℕ
 
 unfoldable pub outputChoice : ℕ → List Waiting → ℕ → OutputChoice
-outputChoice ports filled output =
-    record {
-      best = first? (keep (λ x. eqb (x .cell .output) output) (least beats filled));
-      occupancy = occupancy ports filled output;
-    }
+outputChoice ports filled output = record { best = bestFor filled output; occupancy = occupancy ports filled output }
 
 -- an output that got no straight cell takes the best
 unfoldable pub pulled : List Waiting → List Waiting → List Waiting

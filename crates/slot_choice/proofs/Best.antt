@@ -18,7 +18,7 @@ use Rattle.cell.specs.Limits.{sectionRoom}
 use Rattle.cell.specs.Order.{over}
 use Rattle.laws.proofs.Compared.{Compared, below, equal, above, compare}
 use Rattle.cell.proofs.Order.{over-irrefl, over-trans, over-total}
-use Rattle.model.specs.Phase.{Waiting, beats}
+use Rattle.model.specs.Phase.{Waiting, beats, bestFor}
 use Rattle.model.proofs.WaitingOrder.{beats-i, beats-output, beats-over, beats-strict}
 use Rattle.layout.proofs.Records.{entryAt-input}
 use Rattle.layout.specs.Entry.{entryAt}
@@ -159,7 +159,7 @@ module _ (table : List ℕ) (cross : List (List ℕ)) (output : ℕ) where
         }
 
     pub best-of : (r : ℕ) → portsIn table ≤ 16 → BestUpTo (portsIn table) r → r ≡ bestOf cells output
-    unfolding bestOf
+    unfolding bestOf bestFor toOutput
     best-of r ports (empty e f) =
         e
         ∙ sym (numberOf-none (toOutput output (least beats cells))
@@ -284,7 +284,7 @@ module _ (table : List ℕ) (cross : List (List ℕ)) {cells : List Waiting} (h 
 
   -- an output with a cell at its crosspoints has one
   pub chief-of : (output : ℕ) {x : Waiting} → List·Memᴰ x cells → x .cell .output ≡ output → Chief output
-  unfolding bestOf
+  unfolding bestOf bestFor toOutput
   chief-of output {x} m o = record {
     chief = b .0;
     member = mem-least-in beats cells (toOutput-in output _ (b .1));

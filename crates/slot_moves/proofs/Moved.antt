@@ -18,7 +18,7 @@ use Rattle.laws.proofs.Lists.{none?-i, all?-i, keep-comm, keep-all, mem-keep-pa
 use Rattle.cell.specs.Limits.{sectionRoom, portLimit}
 use Rattle.model.specs.State.{crossed, buffered, isListed, isCrossed, isBuffered}
 use Rattle.model.specs.Phase.{Waiting, phase, beats, sameInput, sameOutput, pulled, among, placeSent, placeAfter}
-use Rattle.model.specs.Phase.{crosspoints}
+use Rattle.model.specs.Phase.{crosspoints, bestFor}
 use Rattle.model.specs.Crossbar.{occupancies}
 use Rattle.model.specs.CodeSlackness.{Orderly, relocated}
 use Rattle.model.proofs.WaitingOrder.{input-i, input-e, output-i, output-e, crosspoint-i, among-e}
@@ -539,7 +539,7 @@ module _ {table : List ℕ} (good : IsTable table) {listed heads : List ℕ} {cr
 
       -- the cells that an output without a straight cell takes from
       pulled-best : (x : ℕ) → (StraightBy outputOf x → ⊥) → pulledOf (phase all) x ≡ bestOf cells x
-      unfolding pulledOf bestOf toOutput phase pulled cells StraightBy
+      unfolding pulledOf bestOf bestFor toOutput phase pulled cells StraightBy
       pulled-best x none = ap (λ l. numberOf (first? l)) (keep-comm free to L ∙ keep-all free (keep to L) pass)
         where
           L : List Waiting

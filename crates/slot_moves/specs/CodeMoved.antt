@@ -1,7 +1,7 @@
 -- What a phase asks of its choices, and what it leaves of the switch.
---     afterPhase   the switch after a phase
---     Settled      the choices of the phase stand in the columns
---     OccupanciesOf  how crowded each output was in it
+--     afterPhase      the switch after a phase
+--     Settled         the choices of the phase stand in the columns
+--     OccupanciesOf   how crowded each output was in it
 use Prim.Native.Nat.{ℕ, _<_}
 use mathlib.Core.Path.{_≡_}
 use mathlib.Core.List.{List}

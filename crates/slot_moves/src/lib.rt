@@ -1,7 +1,7 @@
 // Scope 3.7 and 3.8, rules 5 and 6: the cells move. A cell that moves has its place written into the table at once, and
 // the view of the table follows it.
 // Each rule has a function that chooses the number of a cell, 1,024 for none, a function that moves that cell, and a
-// function that does both for every port.
+// function that does both for every port. Before rule 6 moves any, the outputs' choice is made (`choose_crossed`).
 use layout::CELLS;
 use layout::PORTS;
 use layout_table::entry::BUFFERED;

@@ -7,9 +7,9 @@ use mathlib.Core.Logic.{_⊎_}
 use mathlib.Core.List.{List, map}
 use mathlib.Core.Option.{Option, none, some}
 use lib.Dec.{eqb}
-use Rattle.laws.specs.Lists.{keep, least, first?}
+use Rattle.laws.specs.Lists.{keep, first?}
 use Rattle.cell.specs.Order.{over}
-use Rattle.model.specs.Phase.{Waiting, beats, Phase}
+use Rattle.model.specs.Phase.{Waiting, bestFor, Phase}
 use Rattle.layout.specs.Entry.{entryAt}
 use Rattle.layout_table.specs.CodeEntries.{nowhere}
 
@@ -33,7 +33,7 @@ candidatesOf p input = map (λ e. e .at) (ofInput input (p .candidates))
 
 -- the best of some crosspoint cells of an output
 unfoldable pub bestOf : List Waiting → ℕ → ℕ
-bestOf crosspoints output = numberOf (first? (toOutput output (least beats crosspoints)))
+bestOf crosspoints output = numberOf (bestFor crosspoints output)
 
 ------------------------------------------------------------------------
 -- the choice of an output, cell by cell
