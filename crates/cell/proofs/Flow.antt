@@ -1,27 +1,17 @@
 -- The laws of the flow's identity. Nothing else looks inside `sameFlow`:
---     flow-by-input, flow-by-output, flow-by-number   which field decides
---     flow-sym, flow-trans                            an equivalence
---     flow-input, flow-output                         cells of a flow have one input and one output
+--     flow-by-number            where input and output are equal, the flow number decides
+--     flow-sym, flow-trans      an equivalence
+--     flow-input, flow-output   cells of a flow have one input and one output
 use mathlib.Core.Bool.{Bool, true, false, _&&_}
 use mathlib.Core.Path.{_≡_, refl, sym, _∙_}
-use mathlib.Core.Logic.{_≢_}
-use borrow.Author.Tests.{eqb-true, eq-eqb, ne-eqb}
+use borrow.Author.Tests.{eqb-true, eq-eqb}
 use lib.Dec.{eqb}
 use Rattle.cell.specs.declared.Cell.{Cell}
 use Rattle.cell.specs.Flow.{sameFlow}
 
-module _ (c d : Cell) where
-  pub flow-by-input : c .input ≢ d .input → sameFlow c d ≡ false
-  unfolding sameFlow
-  flow-by-input h = simp (ne-eqb _ _ h)
-
-  pub flow-by-output : c .input ≡ d .input → c .output ≢ d .output → sameFlow c d ≡ false
-  unfolding sameFlow
-  flow-by-output h k = simp (eq-eqb _ _ h, ne-eqb _ _ k)
-
-  pub flow-by-number : c .input ≡ d .input → c .output ≡ d .output → sameFlow c d ≡ eqb (c .flow) (d .flow)
-  unfolding sameFlow
-  flow-by-number h k = simp (eq-eqb _ _ h, eq-eqb _ _ k)
+pub flow-by-number : (c d : Cell) → c .input ≡ d .input → c .output ≡ d .output → sameFlow c d ≡ eqb (c .flow) (d .flow)
+unfolding sameFlow
+flow-by-number c d h k = simp (eq-eqb _ _ h, eq-eqb _ _ k)
 
 -- what it is to be of one flow
 pub record Flow (c d : Cell) : Type 0 where

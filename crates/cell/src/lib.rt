@@ -1,8 +1,7 @@
 // What travels through the switch and what may be said of it: the cell, the arrival record, the order in
-// which an output sends, the identity of a flow, the limits, and the refusals with their numbers.
+// which an output sends, the limits, and the refusals with their numbers.
 ghost use mathlib.Core.Path.{_≡_};
 ghost use Rattle.cell.specs.Order.{over, winsTie, key};
-ghost use Rattle.cell.specs.Flow.{sameFlow};
 ghost use Rattle.cell.specs.Limits.{portsInRange, flowInRange, inputFull};
 ghost use Rattle.cell.specs.Refusal.{number};
 
@@ -162,17 +161,4 @@ pub fn key(c: Cell) -> u64
     ensures { λ r. ⌜ r ≡ key c ⌝ }
 {
     c.rank as u64 * 4294967296 + c.slot as u64
-}
-
-// Whether two cells are of one flow.
-pub fn same_flow(a: Cell, b: Cell) -> bool
-    ensures { λ r. ⌜ r ≡ sameFlow a b ⌝ }
-{
-    if a.input != b.input {
-        return false;
-    }
-    if a.output != b.output {
-        return false;
-    }
-    a.flow == b.flow
 }

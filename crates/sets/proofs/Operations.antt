@@ -1,13 +1,12 @@
 -- The sets that the code makes, as operations on digits.
 use mathlib.Core.Path.{_≡_, refl, sym, ap, ap₂, _∙_}
 use mathlib.Core.Bool.{Bool, true, false, not, _&&_, _||_, and-true, and-or-distrib-right}
-use Prim.Native.Nat.{ℕ, zero, suc, _+_, _-_, _*_, _/_, _%_, _^_, _≤_, _<_}
-use native.Mathlib.Nat.{one-mul, mod-eq-of-lt, pow-suc}
+use Prim.Native.Nat.{ℕ, zero, suc, _-_, _*_, _%_, _^_, _≤_, _<_}
+use native.Mathlib.Nat.{one-mul, mod-eq-of-lt}
 use native.Mathlib.Omega.{arith}
 use borrow.Author.Tests.{eqb-true, eq-eqb, lt-ltb, le-ltb, ltb-true, ltb-false}
-use lib.Arith.{digits-div}
 use lib.Bits.{bitAnd, bitOr, and-le-l, and-le-r, or-lt, or-add-and, or-zero-l}
-use lib.Count.{leadingZeros, leading-top, ones}
+use lib.Count.{ones}
 use lib.Dec.{eqb, ltb}
 use lib.Pow.{pow-lt, ones-lt}
 use Rattle.laws.specs.Lists.{upTo}
@@ -15,10 +14,10 @@ use Rattle.laws.proofs.Tests.{same, and-i, and-l, and-r, and-false-r}
 use Rattle.laws.proofs.Count.{length-keep}
 use Rattle.sets.specs.Sets.{positions, has, minus, both, members, sizeOf}
 use Rattle.sets.specs.Sets.{pushed, either}
-use Rattle.sets.proofs.Digits.{has-past, has-and, has-or, has-not, has-one, has-ones, same-members}
+use Rattle.sets.proofs.Digits.{has-and, has-or, has-not, has-one, has-ones, same-members}
 use Rattle.sets.proofs.Members.{setOf-is, setOf-lt, has-below, has-from, has-pushed, has-pushed-first}
 use Rattle.sets.proofs.Members.{ones-count}
-use Rattle.sets.specs.Code.{withOne, withoutOne, below, from, opened, Last}
+use Rattle.sets.specs.Code.{withOne, withoutOne, below, from, opened}
 
 -- one position as a set
 pub shifted-one : (k : ℕ) → k < positions → 1 * 2 ^ k % 2 ^ positions ≡ 2 ^ k
@@ -121,21 +120,6 @@ module _ (set : ℕ) (fits : set < 2 ^ positions) where
   pub size-ones : ones set ≡ sizeOf set
   unfolding sizeOf members upTo
   size-ones = ones-count positions set fits ∙ sym (length-keep (has set) _)
-
-  pub last-leading : 0 < set → (leadingZeros positions set ≤ 63) × Last set (63 - leadingZeros positions set)
-  unfolding has
-  last-leading some = go (leading-top positions set some fits)
-    where
-      go : (j : ℕ) × (leadingZeros positions set + suc j ≡ positions) × (2 ^ j ≤ set) × (set < 2 ^ suc j)
-          → (leadingZeros positions set ≤ 63) × Last set (63 - leadingZeros positions set)
-      go (j, sum, low, high) =
-          let last : 63 - leadingZeros positions set ≡ j = omega arith in
-          let rest : set - 2 ^ j < 2 ^ j = omega (arith, pow-suc 2 j) in
-          let top : set ≡ 1 * 2 ^ j + (set - 2 ^ j) = omega arith in
-          let one : set / 2 ^ j ≡ 1 = ap (λ n. n / 2 ^ j) top ∙ digits-div 1 rest in
-          let is : Last set j =
-          record { member = ap (λ n. eqb (n % 2) 1) one; after = λ i h. has-past (suc j) set i high h } in
-          (omega arith, rw last is)
 
 -- two sets together have no member if neither has
 pub or-none : (a b : ℕ) → eqb (bitOr a b) 0 ≡ (eqb a 0 && eqb b 0)

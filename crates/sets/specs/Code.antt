@@ -1,7 +1,6 @@
 -- Sets as the code changes them and goes through them.
-use Prim.Native.Nat.{ℕ, _-_, _<_}
-use mathlib.Core.Bool.{true, false, not, _&&_, _||_}
-use mathlib.Core.Path.{_≡_}
+use Prim.Native.Nat.{ℕ, _-_}
+use mathlib.Core.Bool.{not, _&&_, _||_}
 use lib.Dec.{eqb, ltb}
 use Rattle.sets.specs.Sets.{has, setOf, firstOf}
 
@@ -25,8 +24,3 @@ opened set k = setOf (λ j. (has set j && ltb j k) || (ltb k j && has set (j - 1
 
 unfoldable pub restOf : ℕ → ℕ
 restOf set = withoutOne set (firstOf set)
-
--- r is the last member
-pub record Last (set r : ℕ) : Type 0 where
-  pub member : has set r ≡ true
-  pub after : (j : ℕ) → r < j → has set j ≡ false

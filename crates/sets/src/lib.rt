@@ -5,7 +5,7 @@ ghost use mathlib.Core.Path.{_≡_};
 ghost use Prim.Native.Nat.{_<_, _^_};
 ghost use Rattle.sets.specs.Sets.{has, pushed, minus, both, firstOf};
 ghost use Rattle.sets.specs.Sets.{sizeOf, either};
-ghost use Rattle.sets.specs.Code.{withOne, withoutOne, below, from, opened, restOf, Last};
+ghost use Rattle.sets.specs.Code.{withOne, withoutOne, below, from, opened, restOf};
 
 // Whether a position is a member.
 pub fn has(set: u64, j: usize) -> bool
@@ -106,14 +106,6 @@ pub fn rest(set: u64) -> u64
     ensures { λ r. ⌜ r ≡ restOf set ⌝ }
 {
     set & (set - 1)
-}
-
-// The last member.
-pub fn last(set: u64) -> usize
-    requires { ⌜ 0 < set ⌝ }
-    ensures { λ r. ⌜ Last set r ⌝ }
-{
-    63 - u64::leading_zeros(set) as usize
 }
 
 // How many members there are.
