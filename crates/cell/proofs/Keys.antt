@@ -1,5 +1,5 @@
 -- Output priority by key: the smaller key goes first, and the tie test decides between equal ones.
-use Prim.Native.Nat.{_<_, _^_}
+use Prim.Native.Nat.{ℕ, _<_, _^_}
 use mathlib.Core.Bool.{Bool, true, _&&_, _||_, or-false}
 use mathlib.Core.Path.{_≡_, _∙_, ap}
 use mathlib.Core.Logic.{_⊎_, inl, inr}
@@ -12,38 +12,39 @@ use Rattle.cell.specs.Order.{winsTie, over, key}
 use Rattle.cell.proofs.Order.{Over, by-rank, by-slot, by-input, over-i, over-e}
 use Rattle.laws.proofs.Compared.{Compared, below, equal, above, compare}
 
-module _ (c d : Cell) (slot : c .slot < 2 ^ 32) (other : d .slot < 2 ^ 32) where
+module _ (ports : ℕ) (c d : Cell) (slot : c .slot < 2 ^ 32) (other : d .slot < 2 ^ 32) where
   -- the priority that the keys say
   abbrev byKey : Bool
-  byKey = ltb (key c) (key d) || (eqb (key c) (key d) && winsTie c d)
+  byKey = ltb (key c) (key d) || (eqb (key c) (key d) && winsTie ports c d)
 
-  pub over-key : over c d ≡ byKey
+  pub over-key : over ports c d ≡ byKey
   over-key =
-      same (over c d) byKey (λ h. to (over-e c d h)) (λ h. over-i (back (or-cases (ltb (key c) (key d)) _ h)))
+      same (over ports c d) byKey (λ h. to (over-e ports c d h))
+      (λ h. over-i (back (or-cases (ltb (key c) (key d)) _ h)))
     where
-      to : Over c d → byKey ≡ true
+      to : Over ports c d → byKey ≡ true
       to (by-rank r) = or-l (ltb (key c) (key d)) _ (lt-ltb (key c) (key d) (omega arith))
       to (by-slot r s) = or-l (ltb (key c) (key d)) _ (lt-ltb (key c) (key d) (omega arith))
       to (by-input r s i) =
           or-r (ltb (key c) (key d)) _
-          (and-i (eqb (key c) (key d)) (winsTie c d) (eq-eqb (key c) (key d) (omega arith)) (lt-ltb _ _ i))
+          (and-i (eqb (key c) (key d)) (winsTie ports c d) (eq-eqb (key c) (key d) (omega arith)) (lt-ltb _ _ i))
 
-      smaller : key c < key d → Compared (c .rank) (d .rank) → Over c d
+      smaller : key c < key d → Compared (c .rank) (d .rank) → Over ports c d
       smaller h (below r) = by-rank r
       smaller h (equal r) = by-slot r (omega arith)
       smaller h (above r) = absurd (omega arith)
 
-      back : (ltb (key c) (key d) ≡ true) ⊎ ((eqb (key c) (key d) && winsTie c d) ≡ true) → Over c d
+      back : (ltb (key c) (key d) ≡ true) ⊎ ((eqb (key c) (key d) && winsTie ports c d) ≡ true) → Over ports c d
       back (inl t) = smaller (ltb-true (key c) (key d) t) (compare (c .rank) (d .rank))
       back (inr t) =
-          let keys : key c ≡ key d = eqb-true (key c) (key d) (and-l (eqb (key c) (key d)) (winsTie c d) t) in
+          let keys : key c ≡ key d = eqb-true (key c) (key d) (and-l (eqb (key c) (key d)) (winsTie ports c d) t) in
           by-input (omega arith) (omega arith)
-          (ltb-true (c .input) (d .input) (and-r (eqb (key c) (key d)) (winsTie c d) t))
+          (ltb-true (c .input) (d .input) (and-r (eqb (key c) (key d)) (winsTie ports c d) t))
 
   -- between cells of one input there is no tie
-  pub over-key-input : c .input ≡ d .input → over c d ≡ ltb (key c) (key d)
+  pub over-key-input : c .input ≡ d .input → over ports c d ≡ ltb (key c) (key d)
   over-key-input h =
       over-key
       ∙ ap (λ b. ltb (key c) (key d) || b)
-      (and-false-r (eqb (key c) (key d)) (winsTie c d) (le-ltb (c .input) (d .input) (omega arith)))
+      (and-false-r (eqb (key c) (key d)) (winsTie ports c d) (le-ltb (c .input) (d .input) (omega arith)))
       ∙ or-false (ltb (key c) (key d))

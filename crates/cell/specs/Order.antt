@@ -5,17 +5,17 @@ use lib.Dec.{ltb, eqb}
 use Rattle.cell.specs.declared.Cell.{Cell}
 
 -- of two cells of equal rank and slot, c goes first: it has the smaller input
-abbrev pub winsTie : Cell → Cell → Bool
-winsTie c d = ltb (c .input) (d .input)
+abbrev pub winsTie : ℕ → Cell → Cell → Bool
+winsTie ports c d = ltb (c .input) (d .input)
 
 -- c has higher output priority than d: smaller rank first; for equal ranks the smaller slot; then the smaller input
-unfoldable pub over : Cell → Cell → Bool
-over c d =
+unfoldable pub over : ℕ → Cell → Cell → Bool
+over ports c d =
     ltb (c .rank) (d .rank)
     || (eqb (c .rank) (d .rank)
     && (ltb (c .slot) (d .slot)
     || (eqb (c .slot) (d .slot)
-    && winsTie c d)))
+    && winsTie ports c d)))
 
 -- rank and slot as one number: the smaller one goes first, and only cells of different inputs have the same
 abbrev pub key : Cell → ℕ

@@ -1,7 +1,7 @@
 // What travels through the switch and what may be said of it: the cell, the arrival record, the order in
 // which an output sends, the limits, and the refusals with their numbers.
 ghost use mathlib.Core.Path.{_≡_};
-ghost use Rattle.cell.specs.Order.{over, winsTie, key};
+ghost use Rattle.cell.specs.Order.{winsTie, key};
 ghost use Rattle.cell.specs.Limits.{portsInRange, flowInRange, inputFull};
 ghost use Rattle.cell.specs.Refusal.{number};
 
@@ -135,22 +135,9 @@ impl Switch {
     }
 }
 
-// Whether an output sends `a` before `b`.
-pub fn over(a: Cell, b: Cell) -> bool
-    ensures { λ r. ⌜ r ≡ over a b ⌝ }
-{
-    if a.rank != b.rank {
-        return a.rank < b.rank;
-    }
-    if a.slot != b.slot {
-        return a.slot < b.slot;
-    }
-    wins_tie(a, b)
-}
-
 // Whether of two cells of equal rank and slot an output sends `a` before `b`.
-pub fn wins_tie(a: Cell, b: Cell) -> bool
-    ensures { λ r. ⌜ r ≡ winsTie a b ⌝ }
+pub fn wins_tie(ports: u32, a: Cell, b: Cell) -> bool
+    ensures { λ r. ⌜ r ≡ winsTie ports a b ⌝ }
 {
     a.input < b.input
 }

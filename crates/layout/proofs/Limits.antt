@@ -71,7 +71,7 @@ module _ (ports clock : ℕ) (sections : List (List Entry)) (h : soundSections p
       entry-fits ports clock (s .input) (entryOf w) p (omega (arith, s .within)) t
       (sound-section ports clock sections h (s .input) .entries (entryOf w) (stands-entry sections w s))
 
-  leaving-fits : (w : Waiting) → List·Memᴰ w (leaving (waiting sections)) → cellFits (w .cell) ≡ true
+  leaving-fits : (w : Waiting) → List·Memᴰ w (leaving ports (waiting sections)) → cellFits (w .cell) ≡ true
   unfolding leaving
   leaving-fits w m = waiting-fits w (mem-keep-in _ (waiting sections) (mem-least-in _ _ m))
 
@@ -81,22 +81,22 @@ module _ (ports clock : ℕ) (sections : List (List Entry)) (h : soundSections p
   departure-fits [] f = refl
   departure-fits (w ∷ l) f = f w (List·Memᴰ·head refl)
 
-  departures-fit : all? departureFits (departuresOf ports (leaving (waiting sections))) ≡ true
+  departures-fit : all? departureFits (departuresOf ports (leaving ports (waiting sections))) ≡ true
   unfolding departuresOf
   departures-fit =
       all?-map departureFits _ (upTo ports)
       ∙ all?-i _ (upTo ports)
-      (λ o _. departure-fits (keep (λ e. eqb (e .cell .output) o) (leaving (waiting sections)))
-      (λ w m. leaving-fits w (mem-keep-in _ (leaving (waiting sections)) m)))
+      (λ o _. departure-fits (keep (λ e. eqb (e .cell .output) o) (leaving ports (waiting sections)))
+      (λ w m. leaving-fits w (mem-keep-in _ (leaving ports (waiting sections)) m)))
 
   -- a phase proposes no more cells than wait, 64 for each input at most
-  proposals-fit : fits32 (phase (waiting sections) .proposals) ≡ true
+  proposals-fit : fits32 (phase ports (waiting sections) .proposals) ≡ true
   proposals-fit =
       below-fits32 _
       (omega (
         arith,
-        phase-proposals (waiting sections),
-        candidates-few (waiting sections),
+        phase-proposals ports (waiting sections),
+        candidates-few ports (waiting sections),
         waiting-few sections (sound-short ports clock sections h),
       ))
 
@@ -117,10 +117,11 @@ module _ (s : Switch) (records : List Arrival) (h : sound s ≡ true) (fits : al
   run-goes t f =
       let good : sound (ran .switch) ≡ true = run-sound s records h fits t f in
       let inputs : length (ran .settled) ≡ s .ports =
-      sym (length-without (leaving (waiting (ran .settled))) (ran .settled)) ∙ sound-length (ran .switch) good in
+      sym (length-without (leaving (s .ports) (waiting (ran .settled))) (ran .settled))
+      ∙ sound-length (ran .switch) good in
       let between : length (ran .between) ≡ s .ports = sym (length-moved (ran .two) (ran .between)) ∙ inputs in
       let arrived : length (ran .arrived) ≡ s .ports = sym (length-moved (ran .one) (ran .arrived)) ∙ between in
-      let outputs = length-departures (s .ports) (leaving (waiting (ran .settled))) in
+      let outputs = length-departures (s .ports) (leaving (s .ports) (waiting (ran .settled))) in
       let clock : s .clock + 1 ≤ clockEnd + 1 = omega (arith, fits32-below (s .clock) (sound-clock s h)) in
       record {
         outputs = outputs;

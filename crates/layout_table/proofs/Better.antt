@@ -6,6 +6,7 @@ use mathlib.Core.List.{List}
 use borrow.Author.Tests.{le-leb, lt-leb}
 use Rattle.cell.specs.Order.{over}
 use Rattle.layout.specs.Entry.{entryAt}
+use Rattle.layout.specs.Code.{portsIn}
 use Rattle.layout_table.specs.CodeEntries.{nowhere, betterOf}
 
 module _ (table : List ℕ) (held number : ℕ) where
@@ -18,11 +19,13 @@ module _ (table : List ℕ) (held number : ℕ) where
   better-first h k = rw (lt-leb nowhere number h, le-leb nowhere held k)
 
   pub better-over : number < nowhere → held < nowhere
-      → over (entryAt table number .cell) (entryAt table held .cell) ≡ true → betterOf table held number ≡ number
+      → over (portsIn table) (entryAt table number .cell) (entryAt table held .cell) ≡ true
+      → betterOf table held number ≡ number
   unfolding betterOf
   better-over h k o = rw (lt-leb nowhere number h, lt-leb nowhere held k, o)
 
   pub better-under : number < nowhere → held < nowhere
-      → over (entryAt table number .cell) (entryAt table held .cell) ≡ false → betterOf table held number ≡ held
+      → over (portsIn table) (entryAt table number .cell) (entryAt table held .cell) ≡ false
+      → betterOf table held number ≡ held
   unfolding betterOf
   better-under h k o = rw (lt-leb nowhere number h, lt-leb nowhere held k, o)

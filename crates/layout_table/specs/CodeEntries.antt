@@ -8,6 +8,7 @@ use Rattle.cell.specs.Limits.{flowLimit}
 use Rattle.cell.specs.Order.{over}
 use Rattle.model.specs.State.{Entry}
 use Rattle.layout.specs.Entry.{entryAt}
+use Rattle.layout.specs.Code.{portsIn}
 use Rattle.layout.specs.Table.{placeOf, entryLimit}
 
 -- an entry with this byte for its place
@@ -31,4 +32,4 @@ unfoldable pub betterOf : List ℕ → ℕ → ℕ → ℕ
 betterOf table held number =
     cond (leb nowhere number) held
     (cond (leb nowhere held) number
-    (cond (over (entryAt table number .cell) (entryAt table held .cell)) number held))
+    (cond (over (portsIn table) (entryAt table number .cell) (entryAt table held .cell)) number held))

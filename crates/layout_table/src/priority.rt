@@ -1,9 +1,11 @@
 // Output priority between the entries of a table, and the choice of an output between two of them.
 use crate::entry;
+use crate::header;
 ghost use mathlib.Core.Path.{_≡_};
 ghost use Prim.Native.Nat.{_<_};
 ghost use lib.ListN.{length};
 ghost use Rattle.cell.specs.Order.{over, key as cellKey};
+ghost use Rattle.layout.specs.Code.{portsIn};
 ghost use Rattle.layout.specs.Entry.{entryAt};
 ghost use Rattle.layout.specs.Table.{tableSize, entryLimit};
 ghost use Rattle.layout_table.specs.CodeEntries.{betterOf};
@@ -32,7 +34,8 @@ pub fn better(table: &[u8], held: u16, number: u16) -> u16
 // Whether an output sends the first of two cells first.
 pub fn is_over(table: &[u8], k: usize, other: u16) -> bool
     requires { ⌜ (length (now table) ≡ tableSize) × (k < entryLimit) × (other < entryLimit) ⌝ }
-    ensures { λ r. ⌜ r ≡ over (entryAt (now (table .entry)) k .cell) (entryAt (now (table .entry)) other .cell) ⌝ }
+    ensures { λ r. ⌜ r ≡ over (portsIn (now (table .entry))) (entryAt (now (table .entry)) k .cell)
+        (entryAt (now (table .entry)) other .cell) ⌝ }
 {
     goes_first(
         table,
@@ -47,10 +50,15 @@ pub fn is_over(table: &[u8], k: usize, other: u16) -> bool
 pub fn goes_first(table: &[u8], key: u64, k: usize, rival: u64, other: usize) -> bool
     requires { ⌜ (length (now table) ≡ tableSize) × (k < entryLimit) × (other < entryLimit) ⌝ }
     requires { ⌜ (key ≡ cellKey (entryAt (now table) k .cell)) × (rival ≡ cellKey (entryAt (now table) other .cell)) ⌝ }
-    ensures { λ r. ⌜ r ≡ over (entryAt (now (table .entry)) k .cell) (entryAt (now (table .entry)) other .cell) ⌝ }
+    ensures { λ r. ⌜ r ≡ over (portsIn (now (table .entry))) (entryAt (now (table .entry)) k .cell)
+        (entryAt (now (table .entry)) other .cell) ⌝ }
 {
     if key != rival {
         return key < rival;
     }
-    cell::wins_tie(entry::cell_of(table, k), entry::cell_of(table, other))
+    cell::wins_tie(
+        header::ports_of(table) as u32,
+        entry::cell_of(table, k),
+        entry::cell_of(table, other),
+    )
 }

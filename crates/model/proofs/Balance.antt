@@ -129,49 +129,50 @@ sent-count n out h below =
     (λ o m. sent-some (λ e. eqb (e .cell .output) o) out)
     ∙ outputs-count n out h below
 
-module _ (w : List Waiting) (o : Orderly w) where
+module _ {ports : ℕ} (w : List Waiting) (o : Orderly ports w) where
   -- the test that a cell leaves
   goes : Waiting → Bool
-  goes e = isBuffered (e .place) && none? (λ f. beats f e) (keep (λ f. isBuffered (f .place)) w)
+  goes e = isBuffered (e .place) && none? (λ f. beats ports f e) (keep (λ f. isBuffered (f .place)) w)
 
-  leaving-keep : leaving w ≡ keep goes w
+  leaving-keep : leaving ports w ≡ keep goes w
   unfolding leaving goes
   leaving-keep =
-      least-keeps beats (keep (λ e. isBuffered (e .place)) w)
-      ∙ keep-keep (λ e. isBuffered (e .place)) (λ e. none? (λ f. beats f e) (keep (λ f. isBuffered (f .place)) w)) w
+      least-keeps (beats ports) (keep (λ e. isBuffered (e .place)) w)
+      ∙ keep-keep (λ e. isBuffered (e .place))
+      (λ e. none? (λ f. beats ports f e) (keep (λ f. isBuffered (f .place)) w)) w
 
-  leaving-apart : pairwise apartOutputs (leaving w) ≡ true
+  leaving-apart : pairwise apartOutputs (leaving ports w) ≡ true
   unfolding otherNumber
   leaving-apart =
-      pairwise-mono otherNumber apartOutputs (leaving w) differ
+      pairwise-mono otherNumber apartOutputs (leaving ports w) differ
       (subst (λ l. pairwise otherNumber l ≡ true) (sym leaving-keep) (pairwise-keep otherNumber goes w (o .numbers)))
     where
-      differ : (e f : Waiting) → List·Memᴰ e (leaving w) → List·Memᴰ f (leaving w) → otherNumber e f ≡ true
+      differ : (e f : Waiting) → List·Memᴰ e (leaving ports w) → List·Memᴰ f (leaving ports w) → otherNumber e f ≡ true
           → apartOutputs e f ≡ true
       differ e f m k n =
           not-i (sameOutput e f) (by-fail (sameOutput e f) (λ t.
-          go (beats-total o (leaving-in w m) (leaving-in w k) (output-e e f t))))
+          go (beats-total o (leaving-in ports w m) (leaving-in ports w k) (output-e e f t))))
         where
-          go : (e ≡ f) ⊎ ((beats e f ≡ true) ⊎ (beats f e ≡ true)) → ⊥
+          go : (e ≡ f) ⊎ ((beats ports e f ≡ true) ⊎ (beats ports f e ≡ true)) → ⊥
           go (inl p) = eqb-false (e .at) (f .at) (not-true (eqb (e .at) (f .at)) n) (ap (λ x. x .at) p)
-          go (inr (inl b)) = clash b (leaving-first w k (leaving-in w m) (leaving-buffered w m))
-          go (inr (inr b)) = clash b (leaving-first w m (leaving-in w k) (leaving-buffered w k))
+          go (inr (inl b)) = clash b (leaving-first ports w k (leaving-in ports w m) (leaving-buffered ports w m))
+          go (inr (inr b)) = clash b (leaving-first ports w m (leaving-in ports w k) (leaving-buffered ports w k))
 
   -- those that stay and those that leave are all
-  leaving-length : length (keep (λ e. not (among (leaving w) e)) w) + length (leaving w) ≡ length w
+  leaving-length : length (keep (λ e. not (among (leaving ports w) e)) w) + length (leaving ports w) ≡ length w
   leaving-length =
       omega (
         arith,
-        length-keep (λ e. not (among (leaving w) e)) w,
-        count-not (among (leaving w)) w,
+        length-keep (λ e. not (among (leaving ports w) e)) w,
+        count-not (among (leaving ports w)) w,
         ap length leaving-keep ∙ length-keep goes w,
-        count-ext (among (leaving w)) goes w alike,
+        count-ext (among (leaving ports w)) goes w alike,
       )
     where
-      alike : (e : Waiting) → List·Memᴰ e w → among (leaving w) e ≡ goes e
+      alike : (e : Waiting) → List·Memᴰ e w → among (leaving ports w) e ≡ goes e
       alike e m =
-          same (among (leaving w) e) (goes e)
-          (λ a. mem-keep-passes goes w (subst (λ l. List·Memᴰ e l) leaving-keep (among-e o (leaving w) (λ f k. leaving-in w k) m a)))
+          same (among (leaving ports w) e) (goes e)
+          (λ a. mem-keep-passes goes w (subst (λ l. List·Memᴰ e l) leaving-keep (among-e o (leaving ports w) (λ f k. leaving-in ports w k) m a)))
           (λ g. among-i (subst (λ l. List·Memᴰ e l) (sym leaving-keep) (keep-mem goes m g)))
 
 ------------------------------------------------------------------------
@@ -202,10 +203,10 @@ module _ (s : Switch) (records : List Arrival) (h : sound s ≡ true) (fits : al
         length-append (map (accepted (s .clock)) records) (cells s),
       )
 
-  last-output : (e : Waiting) → List·Memᴰ e (leaving last) → e .cell .output < s .ports
+  last-output : (e : Waiting) → List·Memᴰ e (leaving (s .ports) last) → e .cell .output < s .ports
   unfolding last course
   last-output e m =
-      let st = mem-waiting (course .settled) (leaving-in last m) in
+      let st = mem-waiting (course .settled) (leaving-in (s .ports) last m) in
       sound-section (s .ports) (s .clock + 1) (course .settled) (settled-sound s records h fits ticks clear) (st .input)
       .entries (entryOf e) (stands-entry (course .settled) e st) .output
 
@@ -213,11 +214,11 @@ module _ (s : Switch) (records : List Arrival) (h : sound s ≡ true) (fits : al
   unfolding last course run
   run-balance =
       let o = settled-orderly s records h fits ticks clear in
-      let stay : List Waiting = keep (λ e. not (among (leaving last) e)) last in
+      let stay : List Waiting = keep (λ e. not (among (leaving (s .ports) last) e)) last in
       let a : length (cells (course .switch)) ≡ length stay =
       ap length (run-cells s (map (accepted (s .clock)) records)) ∙ length-map stay (λ w. w .cell) in
-      let b : count isSent (course .departures) ≡ length (leaving last) =
-      sent-count (s .ports) (leaving last) (leaving-apart last o) last-output in
+      let b : count isSent (course .departures) ≡ length (leaving (s .ports) last) =
+      sent-count (s .ports) (leaving (s .ports) last) (leaving-apart last o) last-output in
       omega (arith, leaving-length last o, last-length)
 
 ------------------------------------------------------------------------

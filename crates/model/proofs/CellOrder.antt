@@ -22,30 +22,31 @@ goesTo o c = eqb (c .output) o
 -- output priority
 
 -- both go to one output, and c has the higher output priority
-unfoldable pub beatsCell : Cell → Cell → Bool
-beatsCell c d = eqb (c .output) (d .output) && over c d
+unfoldable pub beatsCell : ℕ → Cell → Cell → Bool
+beatsCell ports c d = eqb (c .output) (d .output) && over ports c d
 
-pub beats-cell-i : (c d : Cell) → c .output ≡ d .output → over c d ≡ true → beatsCell c d ≡ true
+pub beats-cell-i : (ports : ℕ) (c d : Cell) → c .output ≡ d .output → over ports c d ≡ true → beatsCell ports c d ≡ true
 unfolding beatsCell
-beats-cell-i c d e h = and-i (eqb (c .output) (d .output)) (over c d) (eq-eqb (c .output) (d .output) e) h
+beats-cell-i ports c d e h = and-i (eqb (c .output) (d .output)) (over ports c d) (eq-eqb (c .output) (d .output) e) h
 
-pub beats-cell-output : (c d : Cell) → beatsCell c d ≡ true → c .output ≡ d .output
+pub beats-cell-output : (ports : ℕ) (c d : Cell) → beatsCell ports c d ≡ true → c .output ≡ d .output
 unfolding beatsCell
-beats-cell-output c d h = eqb-true (c .output) (d .output) (and-l (eqb (c .output) (d .output)) (over c d) h)
+beats-cell-output ports c d h =
+    eqb-true (c .output) (d .output) (and-l (eqb (c .output) (d .output)) (over ports c d) h)
 
 -- among the cells of one output it is output priority
-pub beats-cell-alike : (c d : Cell) → c .output ≡ d .output → beatsCell c d ≡ over c d
+pub beats-cell-alike : (ports : ℕ) (c d : Cell) → c .output ≡ d .output → beatsCell ports c d ≡ over ports c d
 unfolding beatsCell
-beats-cell-alike c d e = ap (λ b. b && over c d) (eq-eqb (c .output) (d .output) e)
+beats-cell-alike ports c d e = ap (λ b. b && over ports c d) (eq-eqb (c .output) (d .output) e)
 
 -- of two cells of one output that differ in input or slot, one goes first
-pub beats-cell-total : (c d : Cell) → c .output ≡ d .output → (c .input ≢ d .input) ⊎ (c .slot ≢ d .slot)
-    → (beatsCell c d ≡ true) ⊎ (beatsCell d c ≡ true)
-beats-cell-total c d e h = go (over-total c d h)
+pub beats-cell-total : (ports : ℕ) (c d : Cell) → c .output ≡ d .output → (c .input ≢ d .input) ⊎ (c .slot ≢ d .slot)
+    → (beatsCell ports c d ≡ true) ⊎ (beatsCell ports d c ≡ true)
+beats-cell-total ports c d e h = go (over-total ports c d h)
   where
-    go : (over c d ≡ true) ⊎ (over d c ≡ true) → (beatsCell c d ≡ true) ⊎ (beatsCell d c ≡ true)
-    go (inl k) = inl (beats-cell-i c d e k)
-    go (inr k) = inr (beats-cell-i d c (sym e) k)
+    go : (over ports c d ≡ true) ⊎ (over ports d c ≡ true) → (beatsCell ports c d ≡ true) ⊎ (beatsCell ports d c ≡ true)
+    go (inl k) = inl (beats-cell-i ports c d e k)
+    go (inr k) = inr (beats-cell-i ports d c (sym e) k)
 
 ------------------------------------------------------------------------
 -- the same cell

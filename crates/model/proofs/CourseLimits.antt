@@ -89,27 +89,28 @@ crosspoint-one sections one input output =
         (and-r (isCrossed (v .place) && here (v .cell)) (isCrossed (w .place) && here (w .cell)) t)))
 
 -- and within a phase, once the scheduled cells are sent
-sent-one : (sections : List (List Entry)) → Orderly (waiting sections) → OneCrosspoint (waiting sections)
-    → (input output : ℕ) → atCrosspoint input output (afterSending (phase (waiting sections)) sections) ≤ 1
+sent-one : {ports : ℕ} (sections : List (List Entry)) → Orderly ports (waiting sections)
+    → OneCrosspoint (waiting sections)
+    → (input output : ℕ) → atCrosspoint input output (afterSending (phase ports (waiting sections)) sections) ≤ 1
 unfolding afterSending
-sent-one sections o one =
-    crosspoint-one (placedBy (placeSent (phase (waiting sections))) sections)
-    (rw (waiting-placed (placeSent (phase (waiting sections))) sections) (sent-crosspoint (waiting sections) o one))
+sent-one {ports} sections o one =
+    crosspoint-one (placedBy (placeSent (phase ports (waiting sections))) sections)
+    (rw (waiting-placed (placeSent (phase ports (waiting sections))) sections) (sent-crosspoint (waiting sections) o one))
 
 -- Two phases, one after the other, on sections that are orderly before each.
-module _ (arrived : List (List Entry)) (o : Orderly (waiting arrived))
-    (o′ : Orderly (waiting (moved (phase (waiting arrived)) arrived))) where
+module _ {ports : ℕ} (arrived : List (List Entry)) (o : Orderly ports (waiting arrived))
+    (o′ : Orderly ports (waiting (moved (phase ports (waiting arrived)) arrived))) where
   start : List Waiting
   start = waiting arrived
 
   one : Phase
-  one = phase start
+  one = phase ports start
 
   between : List (List Entry)
   between = moved one arrived
 
   two : Phase
-  two = phase (waiting between)
+  two = phase ports (waiting between)
 
   settled : List (List Entry)
   settled = moved two between
@@ -256,7 +257,7 @@ within-limits s records h fits ticks clear =
     b = between-sound s records h fits ticks clear
 
     orderly : (sections : List (List Entry)) → soundSections (s .ports) (s .clock + 1) 0 sections ≡ true
-        → Orderly (waiting sections)
+        → Orderly (s .ports) (waiting sections)
     orderly sections = sound-orderly (s .ports) (s .clock + 1) sections
 
     apart-all : (sections : List (List Entry)) → soundSections (s .ports) (s .clock + 1) 0 sections ≡ true

@@ -37,7 +37,7 @@ use Rattle.model.proofs.SoundSlot.{sound-fresh, settled-orderly, settle
 pub record Kept (s : Switch) (q : Pifo) : Type 0 where
   pub related : Related s q
   pub table : sound s ≡ true
-  pub slack : Slack 0 0 (waiting (s .sections))
+  pub slack : Slack (s .ports) 0 0 (waiting (s .sections))
 
 -- an accepted slot, from switches so kept
 module _ (s : Switch) (q : Pifo) (kept : Kept s q) (records : List Arrival) (fits : all? arrivalFits records ≡ true)
@@ -55,6 +55,7 @@ module _ (s : Switch) (q : Pifo) (kept : Kept s q) (records : List Arrival) (fit
       }
 
   kept-run : Kept (run s (arriving s records) .switch) (runPifo q (arriving s records) .pifo)
+  unfolding run
   kept-run =
       record {
         related = related-run s q (kept .related) (arriving s records) clear settled;
@@ -103,6 +104,7 @@ alike ports s q kept (a ∷ calls) h =
 
 pub kept-fresh : (ports first : ℕ) → portsInRange ports ≡ true → fits32 first ≡ true
     → Kept (fresh ports first) (freshPifo ports first)
+unfolding fresh
 kept-fresh ports first p f =
     record {
       related = related-fresh ports first;

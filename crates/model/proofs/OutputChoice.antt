@@ -32,55 +32,60 @@ use Rattle.model.proofs.WaitingOrder.{beats-total}
 
 module _ (all : List Waiting) (ports : ℕ) where
   abbrev full : List Waiting
-  full = phase all .filled
+  full = phase ports all .filled
 
   free : Waiting → Bool
-  free x = none? (sameOutput x) (phase all .straight)
+  free x = none? (sameOutput x) (phase ports all .straight)
 
-  inside : {x : Waiting} → List·Memᴰ x (least beats full) → List·Memᴰ x all
+  inside : {x : Waiting} → List·Memᴰ x (least (beats ports) full) → List·Memᴰ x all
   unfolding phase
-  inside {x} m = go (List·Memᴰ·append-cases (crosspoints all) (mem-least-in beats full m))
+  inside {x} m = go (List·Memᴰ·append-cases (crosspoints all) (mem-least-in (beats ports) full m))
     where
-      go : List·Memᴰ x (crosspoints all) ⊎ List·Memᴰ x (phase all .sent) → List·Memᴰ x all
+      go : List·Memᴰ x (crosspoints all) ⊎ List·Memᴰ x (phase ports all .sent) → List·Memᴰ x all
       go (inl i) = crosspoints-all all i
-      go (inr i) = sent-all all i
+      go (inr i) = sent-all ports all i
 
   -- what an output without a straight cell takes is the best of its choice
-  pulled-best : Orderly all → {x : Waiting} → List·Memᴰ x (phase all .pulled)
+  pulled-best : Orderly ports all → {x : Waiting} → List·Memᴰ x (phase ports all .pulled)
       → outputChoice ports full (x .cell .output) .best ≡ some x
   unfolding outputChoice bestFor phase pulled free
-  pulled-best o {x} m = first-of (keep to (least beats full)) (keep-mem to here (eq-eqb (x .cell .output) _ refl)) only
+  pulled-best o {x} m =
+      first-of (keep to (least (beats ports) full)) (keep-mem to here (eq-eqb (x .cell .output) _ refl)) only
     where
       to : Waiting → Bool
       to y = eqb (y .cell .output) (x .cell .output)
 
-      here : List·Memᴰ x (least beats full)
-      here = mem-keep-in free (least beats full) m
+      here : List·Memᴰ x (least (beats ports) full)
+      here = mem-keep-in free (least (beats ports) full) m
 
-      only : (y : Waiting) → List·Memᴰ y (keep to (least beats full)) → y ≡ x
-      only y k = go (beats-total o (inside there) (inside here) (eqb-true _ _ (mem-keep-passes to (least beats full) k)))
+      only : (y : Waiting) → List·Memᴰ y (keep to (least (beats ports) full)) → y ≡ x
+      only y k =
+          go (beats-total o (inside there) (inside here) (eqb-true _ _ (mem-keep-passes to (least (beats ports) full) k)))
         where
-          there : List·Memᴰ y (least beats full)
-          there = mem-keep-in to (least beats full) k
+          there : List·Memᴰ y (least (beats ports) full)
+          there = mem-keep-in to (least (beats ports) full) k
 
-          go : (y ≡ x) ⊎ ((beats y x ≡ true) ⊎ (beats x y ≡ true)) → y ≡ x
+          go : (y ≡ x) ⊎ ((beats ports y x ≡ true) ⊎ (beats ports x y ≡ true)) → y ≡ x
           go (inl e) = e
-          go (inr (inl b)) = absurd (clash b (mem-least-first beats full here (mem-least-in beats full there)))
-          go (inr (inr b)) = absurd (clash b (mem-least-first beats full there (mem-least-in beats full here)))
+          go (inr (inl b)) =
+              absurd (clash b (mem-least-first (beats ports) full here (mem-least-in (beats ports) full there)))
+          go (inr (inr b)) =
+              absurd (clash b (mem-least-first (beats ports) full there (mem-least-in (beats ports) full here)))
 
   -- and that best it takes
-  pub choice-pulled : (output : ℕ) {x : Waiting} → outputChoice ports (phase all .filled) output .best ≡ some x
-      → none? (sameOutput x) (phase all .straight) ≡ true → List·Memᴰ x (phase all .pulled) × (x .cell .output ≡ output)
+  pub choice-pulled : (output : ℕ) {x : Waiting} → outputChoice ports (phase ports all .filled) output .best ≡ some x
+      → none? (sameOutput x) (phase ports all .straight) ≡ true
+      → List·Memᴰ x (phase ports all .pulled) × (x .cell .output ≡ output)
   unfolding outputChoice bestFor phase pulled free
   choice-pulled output {x} e f =
       let to : Waiting → Bool = λ y. eqb (y .cell .output) output in
-      let m : List·Memᴰ x (keep to (least beats full)) = first-mem _ x e in
-      (keep-mem free (mem-keep-in to (least beats full) m) f, eqb-true _ _ (mem-keep-passes to (least beats full) m))
+      let m : List·Memᴰ x (keep to (least (beats ports) full)) = first-mem _ x e in
+      (keep-mem free (mem-keep-in to (least (beats ports) full) m) f, eqb-true _ _ (mem-keep-passes to (least (beats ports) full) m))
 
 -- in a sound switch
 pub pulled-choice : (ports clock : ℕ) (sections : List (List Entry)) → soundSections ports clock 0 sections ≡ true
-    → {x : Waiting} → List·Memᴰ x (phase (waiting sections) .pulled)
-    → outputChoice ports (phase (waiting sections) .filled) (x .cell .output) .best ≡ some x
+    → {x : Waiting} → List·Memᴰ x (phase ports (waiting sections) .pulled)
+    → outputChoice ports (phase ports (waiting sections) .filled) (x .cell .output) .best ≡ some x
 pulled-choice ports clock sections h m = pulled-best (waiting sections) ports (sound-orderly ports clock sections h) m
 
 pub occupancy-few : (ports : ℕ) (filled : List Waiting) (output : ℕ) → occupancy ports filled output ≤ ports

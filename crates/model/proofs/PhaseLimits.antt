@@ -55,7 +55,7 @@ apart-e e f a h j c =
 crosspoint-sym : (e f : Waiting) → sameCrosspoint e f ≡ true → sameCrosspoint f e ≡ true
 crosspoint-sym e f c = crosspoint-i f e (sym (crosspoint-input e f c)) (sym (crosspoint-output e f c))
 
-module _ (all : List Waiting) (o : Orderly all) where
+module _ {ports : ℕ} (all : List Waiting) (o : Orderly ports all) where
   -- members with different numbers are not equal
   numbers-differ : (e f : Waiting) → otherNumber e f ≡ true → e ≡ f → ⊥
   unfolding otherNumber
@@ -75,25 +75,27 @@ module _ (all : List Waiting) (o : Orderly all) where
   -- lists
 
   -- an input sends one cell
-  sent-same : {e f : Waiting} → List·Memᴰ e (phase all .sent) → List·Memᴰ f (phase all .sent)
+  sent-same : {e f : Waiting} → List·Memᴰ e (phase ports all .sent) → List·Memᴰ f (phase ports all .sent)
       → e .cell .input ≡ f .cell .input → e ≡ f
-  sent-same {e} {f} m k h = go (ahead-total o (sent-all all m) (sent-all all k) h)
+  sent-same {e} {f} m k h = go (ahead-total o (sent-all ports all m) (sent-all ports all k) h)
     where
       go : (e ≡ f) ⊎ ((ahead e f ≡ true) ⊎ (ahead f e ≡ true)) → e ≡ f
       go (inl p) = p
-      go (inr (inl a)) = absurd (clash a (scheduled-one all (sent-scheduled all m) (sent-scheduled all k)))
-      go (inr (inr a)) = absurd (clash a (scheduled-one all (sent-scheduled all k) (sent-scheduled all m)))
+      go (inr (inl a)) =
+          absurd (clash a (scheduled-one ports all (sent-scheduled ports all m) (sent-scheduled ports all k)))
+      go (inr (inr a)) =
+          absurd (clash a (scheduled-one ports all (sent-scheduled ports all k) (sent-scheduled ports all m)))
 
   taken-same : {e f : Waiting} → e .cell .input ≡ f .cell .input
-      → List·Memᴰ e (phase all .straight) ⊎ List·Memᴰ e (phase all .sent)
-      → List·Memᴰ f (phase all .straight) ⊎ List·Memᴰ f (phase all .sent) → e ≡ f
-  taken-same h (inl m) (inl k) = match-input all o (straight-matched all m) (straight-matched all k) h
-  taken-same {e} {f} h (inl m) (inr k) = absurd (clash (input-i f e (sym h)) (sent-free all k m))
-  taken-same {e} {f} h (inr m) (inl k) = absurd (clash (input-i e f h) (sent-free all m k))
+      → List·Memᴰ e (phase ports all .straight) ⊎ List·Memᴰ e (phase ports all .sent)
+      → List·Memᴰ f (phase ports all .straight) ⊎ List·Memᴰ f (phase ports all .sent) → e ≡ f
+  taken-same h (inl m) (inl k) = match-input ports all o (straight-matched ports all m) (straight-matched ports all k) h
+  taken-same {e} {f} h (inl m) (inr k) = absurd (clash (input-i f e (sym h)) (sent-free ports all k m))
+  taken-same {e} {f} h (inr m) (inl k) = absurd (clash (input-i e f h) (sent-free ports all m k))
   taken-same h (inr m) (inr k) = sent-same m k h
 
   pub phase-taken : (i : ℕ)
-      → count (λ e. eqb (e .cell .input) i && (isListed (e .place) && not (isListed (placeAfter (phase all) e)))) all
+      → count (λ e. eqb (e .cell .input) i && (isListed (e .place) && not (isListed (placeAfter (phase ports all) e)))) all
       ≤ 1
   phase-taken i = one-passes test go
     where
@@ -101,16 +103,16 @@ module _ (all : List Waiting) (o : Orderly all) where
       was e = isListed (e .place)
 
       is : Waiting → Bool
-      is e = isListed (placeAfter (phase all) e)
+      is e = isListed (placeAfter (phase ports all) e)
 
       test : Waiting → Bool
       test e = eqb (e .cell .input) i && (was e && not (is e))
 
       leaves : (e : Waiting) → List·Memᴰ e all → test e ≡ true
-          → List·Memᴰ e (phase all .straight) ⊎ List·Memᴰ e (phase all .sent)
+          → List·Memᴰ e (phase ports all .straight) ⊎ List·Memᴰ e (phase ports all .sent)
       leaves e m t =
           let r : (was e && not (is e)) ≡ true = and-r (eqb (e .cell .input) i) (was e && not (is e)) t in
-          taken-by all o m (and-l (was e) (not (is e)) r) (not-true (is e) (and-r (was e) (not (is e)) r))
+          taken-by ports all o m (and-l (was e) (not (is e)) r) (not-true (is e) (and-r (was e) (not (is e)) r))
 
       input : (e : Waiting) → test e ≡ true → e .cell .input ≡ i
       input e t = eqb-true _ _ (and-l (eqb (e .cell .input) i) (was e && not (is e)) t)
@@ -122,26 +124,27 @@ module _ (all : List Waiting) (o : Orderly all) where
   -- buffers
 
   -- an output pulls one cell
-  pulled-same : {e f : Waiting} → List·Memᴰ e (phase all .pulled) → List·Memᴰ f (phase all .pulled)
+  pulled-same : {e f : Waiting} → List·Memᴰ e (phase ports all .pulled) → List·Memᴰ f (phase ports all .pulled)
       → e .cell .output ≡ f .cell .output → e ≡ f
-  pulled-same {e} {f} m k h = go (beats-total o (pulled-all all m) (pulled-all all k) h)
+  pulled-same {e} {f} m k h = go (beats-total o (pulled-all ports all m) (pulled-all ports all k) h)
     where
-      go : (e ≡ f) ⊎ ((beats e f ≡ true) ⊎ (beats f e ≡ true)) → e ≡ f
+      go : (e ≡ f) ⊎ ((beats ports e f ≡ true) ⊎ (beats ports f e ≡ true)) → e ≡ f
       go (inl p) = p
-      go (inr (inl a)) = absurd (clash a (pulled-one all m k))
-      go (inr (inr a)) = absurd (clash a (pulled-one all k m))
+      go (inr (inl a)) = absurd (clash a (pulled-one ports all m k))
+      go (inr (inr a)) = absurd (clash a (pulled-one ports all k m))
 
   brought-same : {e f : Waiting} → e .cell .output ≡ f .cell .output
-      → List·Memᴰ e (phase all .straight) ⊎ List·Memᴰ e (phase all .pulled)
-      → List·Memᴰ f (phase all .straight) ⊎ List·Memᴰ f (phase all .pulled) → e ≡ f
-  brought-same h (inl m) (inl k) = match-output all o (straight-matched all m) (straight-matched all k) h
-  brought-same {e} {f} h (inl m) (inr k) = absurd (clash (output-i f e (sym h)) (pulled-free all k m))
-  brought-same {e} {f} h (inr m) (inl k) = absurd (clash (output-i e f h) (pulled-free all m k))
+      → List·Memᴰ e (phase ports all .straight) ⊎ List·Memᴰ e (phase ports all .pulled)
+      → List·Memᴰ f (phase ports all .straight) ⊎ List·Memᴰ f (phase ports all .pulled) → e ≡ f
+  brought-same h (inl m) (inl k) =
+      match-output ports all o (straight-matched ports all m) (straight-matched ports all k) h
+  brought-same {e} {f} h (inl m) (inr k) = absurd (clash (output-i f e (sym h)) (pulled-free ports all k m))
+  brought-same {e} {f} h (inr m) (inl k) = absurd (clash (output-i e f h) (pulled-free ports all m k))
   brought-same h (inr m) (inr k) = pulled-same m k h
 
   pub phase-brought : (j : ℕ)
       → count
-      (λ e. eqb (e .cell .output) j && (not (isBuffered (e .place)) && isBuffered (placeAfter (phase all) e)))
+      (λ e. eqb (e .cell .output) j && (not (isBuffered (e .place)) && isBuffered (placeAfter (phase ports all) e)))
       all
       ≤ 1
   phase-brought j = one-passes test go
@@ -150,16 +153,16 @@ module _ (all : List Waiting) (o : Orderly all) where
       was e = isBuffered (e .place)
 
       is : Waiting → Bool
-      is e = isBuffered (placeAfter (phase all) e)
+      is e = isBuffered (placeAfter (phase ports all) e)
 
       test : Waiting → Bool
       test e = eqb (e .cell .output) j && (not (was e) && is e)
 
       enters : (e : Waiting) → List·Memᴰ e all → test e ≡ true
-          → List·Memᴰ e (phase all .straight) ⊎ List·Memᴰ e (phase all .pulled)
+          → List·Memᴰ e (phase ports all .straight) ⊎ List·Memᴰ e (phase ports all .pulled)
       enters e m t =
           let r : (not (was e) && is e) ≡ true = and-r (eqb (e .cell .output) j) (not (was e) && is e) t in
-          brought-by all o m (not-true (was e) (and-l (not (was e)) (is e) r)) (and-r (not (was e)) (is e) r)
+          brought-by ports all o m (not-true (was e) (and-l (not (was e)) (is e) r)) (and-r (not (was e)) (is e) r)
 
       output : (e : Waiting) → test e ≡ true → e .cell .output ≡ j
       output e t = eqb-true _ _ (and-l (eqb (e .cell .output) j) (not (was e) && is e) t)
@@ -182,19 +185,20 @@ module _ (all : List Waiting) (o : Orderly all) where
 
   -- a sent cell goes to an empty crosspoint
   sent-same-crosspoint : OneCrosspoint all → {e f : Waiting} → List·Memᴰ e all → List·Memᴰ f all → sameCrosspoint e f ≡ true
-      → (isCrossed (e .place) ≡ true) ⊎ List·Memᴰ e (phase all .sent)
-      → (isCrossed (f .place) ≡ true) ⊎ List·Memᴰ f (phase all .sent) → e ≡ f
+      → (isCrossed (e .place) ≡ true) ⊎ List·Memᴰ e (phase ports all .sent)
+      → (isCrossed (f .place) ≡ true) ⊎ List·Memᴰ f (phase ports all .sent) → e ≡ f
   sent-same-crosspoint one m k c (inl h) (inl j) = crossed-same one m k h j c
   sent-same-crosspoint one {e} {f} m k c (inl h) (inr j) =
-      absurd (clash (crosspoint-sym e f c) (scheduled-empty all (sent-scheduled all j) (crosspoints-i all m h)))
+      absurd
+      (clash (crosspoint-sym e f c) (scheduled-empty ports all (sent-scheduled ports all j) (crosspoints-i all m h)))
   sent-same-crosspoint one {e} {f} m k c (inr h) (inl j) =
-      absurd (clash c (scheduled-empty all (sent-scheduled all h) (crosspoints-i all k j)))
+      absurd (clash c (scheduled-empty ports all (sent-scheduled ports all h) (crosspoints-i all k j)))
   sent-same-crosspoint one {e} {f} m k c (inr h) (inr j) = sent-same h j (crosspoint-input e f c)
 
   -- cells put where those at a crosspoint were there already or are sent
   crosspoint-placed : OneCrosspoint all → (place : Waiting → Place)
       → ((e : Waiting) → List·Memᴰ e all → isCrossed (place e) ≡ true
-      → (isCrossed (e .place) ≡ true) ⊎ List·Memᴰ e (phase all .sent))
+      → (isCrossed (e .place) ≡ true) ⊎ List·Memᴰ e (phase ports all .sent))
       → OneCrosspoint (map (putAt place) all)
   unfolding sameCrosspoint sameInput sameOutput
   crosspoint-placed one place forward =
@@ -208,10 +212,10 @@ module _ (all : List Waiting) (o : Orderly all) where
           (λ h j c. numbers-differ e f n (sent-same-crosspoint one m k c (forward e m h) (forward f k j)))
 
   -- after rule 5
-  pub sent-crosspoint : OneCrosspoint all → OneCrosspoint (map (putAt (placeSent (phase all))) all)
-  sent-crosspoint one = crosspoint-placed one (placeSent (phase all)) (λ e m. sent-forward all o m)
+  pub sent-crosspoint : OneCrosspoint all → OneCrosspoint (map (putAt (placeSent (phase ports all))) all)
+  sent-crosspoint one = crosspoint-placed one (placeSent (phase ports all)) (λ e m. sent-forward ports all o m)
 
   -- after rule 6
-  pub phase-crosspoint : OneCrosspoint all → OneCrosspoint (relocated (phase all) all)
+  pub phase-crosspoint : OneCrosspoint all → OneCrosspoint (relocated (phase ports all) all)
   unfolding relocated relocate
-  phase-crosspoint one = crosspoint-placed one (placeAfter (phase all)) (λ e m. crossed-forward all o m)
+  phase-crosspoint one = crosspoint-placed one (placeAfter (phase ports all)) (λ e m. crossed-forward ports all o m)

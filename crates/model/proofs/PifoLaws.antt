@@ -73,19 +73,20 @@ unfolding join joined
 queues-join ports [] queues q = q
 queues-join ports (c ∷ cs) queues q = queues-join ports cs (joined c queues) (queues-joined ports c queues q)
 
-mem-rest : (q : List Cell) {c : Cell} → List·Memᴰ c (rest q) → List·Memᴰ c q
+mem-rest : (ports : ℕ) (q : List Cell) {c : Cell} → List·Memᴰ c (rest ports q) → List·Memᴰ c q
 unfolding rest
-mem-rest q m = mem-keep-in _ q m
+mem-rest ports q m = mem-keep-in _ q m
 
-getD-rest : (queues : List (List Cell)) (o : ℕ) → getD (map rest queues) o [] ≡ rest (getD queues o [])
+getD-rest : (ports : ℕ) (queues : List (List Cell)) (o : ℕ)
+    → getD (map (rest ports) queues) o [] ≡ rest ports (getD queues o [])
 unfolding rest keep
-getD-rest queues o = List·getD-map rest queues o []
+getD-rest ports queues o = List·getD-map (rest ports) queues o []
 
-pub queues-rest : (ports : ℕ) (queues : List (List Cell)) → Queues ports queues → Queues ports (map rest queues)
+pub queues-rest : (ports : ℕ) (queues : List (List Cell)) → Queues ports queues → Queues ports (map (rest ports) queues)
 queues-rest ports queues q =
     record {
-      size = length-map queues rest ∙ q .size;
-      outputs = λ o c m. q .outputs o c (mem-rest (getD queues o []) (rw (getD-rest queues o) at m));
+      size = length-map queues (rest ports) ∙ q .size;
+      outputs = λ o c m. q .outputs o c (mem-rest ports (getD queues o []) (rw (getD-rest ports queues o) at m));
     }
 
 ------------------------------------------------------------------------
@@ -150,42 +151,47 @@ module _ (ports : ℕ) (queues : List (List Cell)) (q : Queues ports queues) whe
       ∙ queue-from 0 queues (λ i c m. q .outputs i c m ∙ omega arith) o
 
   -- its first are those of its first among all cells
-  pub least-queue : (o : ℕ) → least over (getD queues o []) ≡ keep (goesTo o) (least beatsCell (flatten queues))
+  pub least-queue : (o : ℕ)
+      → least (over ports) (getD queues o []) ≡ keep (goesTo o) (least (beatsCell ports) (flatten queues))
   least-queue o =
-      least-ext over beatsCell (getD queues o []) agree
-      ∙ ap (least beatsCell) (sym (queue-of o))
-      ∙ sym (keep-least beatsCell (goesTo o) (flatten queues) alike)
+      least-ext (over ports) (beatsCell ports) (getD queues o []) agree
+      ∙ ap (least (beatsCell ports)) (sym (queue-of o))
+      ∙ sym (keep-least (beatsCell ports) (goesTo o) (flatten queues) alike)
     where
-      agree : (c d : Cell) → List·Memᴰ c (getD queues o []) → List·Memᴰ d (getD queues o []) → over c d ≡ beatsCell c d
-      agree c d m k = sym (beats-cell-alike c d (q .outputs o c m ∙ sym (q .outputs o d k)))
+      agree : (c d : Cell) → List·Memᴰ c (getD queues o []) → List·Memᴰ d (getD queues o [])
+          → over ports c d ≡ beatsCell ports c d
+      agree c d m k = sym (beats-cell-alike ports c d (q .outputs o c m ∙ sym (q .outputs o d k)))
 
       alike : (c d : Cell) → List·Memᴰ c (flatten queues) → List·Memᴰ d (flatten queues)
-          → goesTo o c ≡ true → beatsCell d c ≡ true → goesTo o d ≡ true
-      alike c d m k g b = eq-eqb (d .output) o (beats-cell-output d c b ∙ eqb-true (c .output) o g)
+          → goesTo o c ≡ true → beatsCell ports d c ≡ true → goesTo o d ≡ true
+      alike c d m k g b = eq-eqb (d .output) o (beats-cell-output ports d c b ∙ eqb-true (c .output) o g)
 
   -- each output sends the first of its cells
-  pub best-queues : map best queues ≡ map (λ o. first? (keep (goesTo o) (least beatsCell (flatten queues)))) (upTo ports)
+  pub best-queues : map (best ports) queues
+      ≡ map (λ o. first? (keep (goesTo o) (least (beatsCell ports) (flatten queues)))) (upTo ports)
   unfolding best
-  best-queues = map-upTo best first [] queues (λ o b. ap first? (least-queue o)) ∙ ap (λ n. map first (upTo n)) (q .size)
+  best-queues =
+      map-upTo (best ports) first [] queues (λ o b. ap first? (least-queue o)) ∙ ap (λ n. map first (upTo n)) (q .size)
     where
       first : ℕ → Option Cell
-      first o = first? (keep (goesTo o) (least beatsCell (flatten queues)))
+      first o = first? (keep (goesTo o) (least (beatsCell ports) (flatten queues)))
 
   -- a cell has another of its queue before it when some cell beats it
   beaten : (o : ℕ) (c : Cell) → List·Memᴰ c (getD queues o [])
-      → some? (λ d. over d c) (getD queues o []) ≡ some? (λ d. beatsCell d c) (flatten queues)
+      → some? (λ d. over ports d c) (getD queues o []) ≡ some? (λ d. beatsCell ports d c) (flatten queues)
   unfolding beatsCell
   beaten o c m =
-      ap (some? (λ d. over d c)) (sym (queue-of o))
-      ∙ some?-keep (goesTo o) (λ d. over d c) (flatten queues)
-      ∙ ap (λ n. some? (λ d. eqb (d .output) n && over d c) (flatten queues)) (sym (q .outputs o c m))
+      ap (some? (λ d. over ports d c)) (sym (queue-of o))
+      ∙ some?-keep (goesTo o) (λ d. over ports d c) (flatten queues)
+      ∙ ap (λ n. some? (λ d. eqb (d .output) n && over ports d c) (flatten queues)) (sym (q .outputs o c m))
 
   -- and all others stay
-  pub rest-queues : flatten (map rest queues) ≡ keep (λ c. some? (λ d. beatsCell d c) (flatten queues)) (flatten queues)
+  pub rest-queues : flatten (map (rest ports) queues)
+      ≡ keep (λ c. some? (λ d. beatsCell ports d c) (flatten queues)) (flatten queues)
   unfolding rest
   rest-queues =
-      ap flatten (map-ext rest (keep later) [] queues (λ o b. keep-ext _ later (getD queues o []) (beaten o)))
+      ap flatten (map-ext (rest ports) (keep later) [] queues (λ o b. keep-ext _ later (getD queues o []) (beaten o)))
       ∙ sym (keep-flatten later queues)
     where
       later : Cell → Bool
-      later c = some? (λ d. beatsCell d c) (flatten queues)
+      later c = some? (λ d. beatsCell ports d c) (flatten queues)

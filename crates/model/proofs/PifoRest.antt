@@ -40,11 +40,11 @@ use Rattle.model.proofs.SoundArrival.{accepted-slot}
 
 -- Just the best cell of a queue leaves it: it is over all others, the queue holds it once, and the rest is all but it.
 -- A queue that has no best cell is empty.
-pub record JustBest (q : List Cell) : Type 0 where
-  pub highest : (b c : Cell) → best q ≡ some b → List·Memᴰ c q → (b ≡ c) ⊎ (over b c ≡ true)
-  pub once : (b : Cell) → best q ≡ some b → count (sameCell b) q ≡ 1
-  pub others : (b : Cell) → best q ≡ some b → rest q ≡ keep (λ c. not (sameCell b c)) q
-  pub empty : best q ≡ none → q ≡ []
+pub record JustBest (ports : ℕ) (q : List Cell) : Type 0 where
+  pub highest : (b c : Cell) → best ports q ≡ some b → List·Memᴰ c q → (b ≡ c) ⊎ (over ports b c ≡ true)
+  pub once : (b : Cell) → best ports q ≡ some b → count (sameCell b) q ≡ 1
+  pub others : (b : Cell) → best ports q ≡ some b → rest ports q ≡ keep (λ c. not (sameCell b c)) q
+  pub empty : best ports q ≡ none → q ≡ []
 
 -- came in at this input in this slot
 unfoldable pub cameIn : ℕ → ℕ → Cell → Bool
@@ -62,18 +62,18 @@ unfolding first?
 first-none [] h = refl
 first-none (x ∷ l) h = absurd (let z : _≡_ {A = ℕ} 0 1 = cc in omega arith)
 
-over-strict : Strict over
-over-strict = record { irreflexive = over-irrefl; transitive = over-trans }
+over-strict : (ports : ℕ) → Strict (over ports)
+over-strict ports = record { irreflexive = over-irrefl ports; transitive = over-trans ports }
 
-module _ (q : List Cell) where
-  best-least : (b : Cell) → best q ≡ some b → List·Memᴰ b (least over q)
+module _ (ports : ℕ) (q : List Cell) where
+  best-least : (b : Cell) → best ports q ≡ some b → List·Memᴰ b (least (over ports) q)
   unfolding best
-  best-least b h = first-mem (least over q) b h
+  best-least b h = first-mem (least (over ports) q) b h
 
-  best-in : (b : Cell) → best q ≡ some b → List·Memᴰ b q
-  best-in b h = mem-least-in over q (best-least b h)
+  best-in : (b : Cell) → best ports q ≡ some b → List·Memᴰ b q
+  best-in b h = mem-least-in (over ports) q (best-least b h)
 
-  module _ (distinct : Distinct q) (b : Cell) (h : best q ≡ some b) where
+  module _ (distinct : Distinct q) (b : Cell) (h : best ports q ≡ some b) where
     same-came : (c : Cell) → sameCell b c ≡ true → cameIn (b .input) (b .slot) c ≡ true
     unfolding cameIn
     same-came c s =
@@ -111,48 +111,48 @@ module _ (q : List Cell) where
               distinct (b .input) (b .slot),
             ))
 
-    best-over : (c : Cell) → List·Memᴰ c q → sameCell b c ≡ false → over b c ≡ true
-    best-over c m s = go (over-total b c (others-differ c m s))
+    best-over : (c : Cell) → List·Memᴰ c q → sameCell b c ≡ false → over ports b c ≡ true
+    best-over c m s = go (over-total ports b c (others-differ c m s))
       where
-        go : (over b c ≡ true) ⊎ (over c b ≡ true) → over b c ≡ true
+        go : (over ports b c ≡ true) ⊎ (over ports c b ≡ true) → over ports b c ≡ true
         go (inl o) = o
-        go (inr o) = absurd (clash o (mem-least-first over q (best-least b h) m))
+        go (inr o) = absurd (clash o (mem-least-first (over ports) q (best-least b h) m))
 
-    best-highest : (c : Cell) → List·Memᴰ c q → (b ≡ c) ⊎ (over b c ≡ true)
+    best-highest : (c : Cell) → List·Memᴰ c q → (b ≡ c) ⊎ (over ports b c ≡ true)
     best-highest c m = go (either (sameCell b c))
       where
-        go : (sameCell b c ≡ true) ⊎ (sameCell b c ≡ false) → (b ≡ c) ⊎ (over b c ≡ true)
+        go : (sameCell b c ≡ true) ⊎ (sameCell b c ≡ false) → (b ≡ c) ⊎ (over ports b c ≡ true)
         go (inl s) = inl (same-cell-path b c s)
         go (inr s) = inr (best-over c m s)
 
-    rest-others : rest q ≡ keep (λ c. not (sameCell b c)) q
+    rest-others : rest ports q ≡ keep (λ c. not (sameCell b c)) q
     unfolding rest
     rest-others =
-        keep-ext (λ c. some? (λ d. over d c) q) (λ c. not (sameCell b c)) q
-        (λ c m. same (some? (λ d. over d c) q) (not (sameCell b c)) (stays c)
-        (λ n. some?-i (λ d. over d c) (best-in b h) (best-over c m (not-true (sameCell b c) n))))
+        keep-ext (λ c. some? (λ d. over ports d c) q) (λ c. not (sameCell b c)) q
+        (λ c m. same (some? (λ d. over ports d c) q) (not (sameCell b c)) (stays c)
+        (λ n. some?-i (λ d. over ports d c) (best-in b h) (best-over c m (not-true (sameCell b c) n))))
       where
-        stays : (c : Cell) → some? (λ d. over d c) q ≡ true → not (sameCell b c) ≡ true
+        stays : (c : Cell) → some? (λ d. over ports d c) q ≡ true → not (sameCell b c) ≡ true
         stays c o =
-            let w = some?-e (λ d. over d c) q o in
+            let w = some?-e (λ d. over ports d c) q o in
             not-i (sameCell b c) (by-fail (sameCell b c) (λ s.
-            clash (ap (over (w .0)) (same-cell-path b c s) ∙ w .2)
-            (mem-least-first over q (best-least b h) (w .1))))
+            clash (ap (over ports (w .0)) (same-cell-path b c s) ∙ w .2)
+            (mem-least-first (over ports) q (best-least b h) (w .1))))
 
-no-best : (q : List Cell) → best q ≡ none → q ≡ []
+no-best : (ports : ℕ) (q : List Cell) → best ports q ≡ none → q ≡ []
 unfolding best
-no-best [] h = refl
-no-best (c ∷ q) h =
-    let w = least-below over over-strict (c ∷ q) (List·Memᴰ·head refl) in
-    absurd (List·Memᴰ·not-nil (rw (first-none (least over (c ∷ q)) h) at (w .1)))
+no-best ports [] h = refl
+no-best ports (c ∷ q) h =
+    let w = least-below (over ports) (over-strict ports) (c ∷ q) (List·Memᴰ·head refl) in
+    absurd (List·Memᴰ·not-nil (rw (first-none (least (over ports) (c ∷ q)) h) at (w .1)))
 
-pub just-best : (q : List Cell) → Distinct q → JustBest q
-just-best q distinct =
+pub just-best : (ports : ℕ) (q : List Cell) → Distinct q → JustBest ports q
+just-best ports q distinct =
     record {
-      highest = λ b c h m. best-highest q distinct b h c m;
-      once = λ b h. best-once q distinct b h;
-      others = λ b h. rest-others q distinct b h;
-      empty = λ h. no-best q h;
+      highest = λ b c h m. best-highest ports q distinct b h c m;
+      once = λ b h. best-once ports q distinct b h;
+      others = λ b h. rest-others ports q distinct b h;
+      empty = λ h. no-best ports q h;
     }
 
 ------------------------------------------------------------------------
@@ -258,7 +258,7 @@ module _ (s : Pifo) (kept : Kept s) (records : List Arrival)
       ))
 
   stays-le : (input slot : ℕ)
-      → count (cameIn input slot) (flatten (map rest joined)) ≤ count (cameIn input slot) (flatten joined)
+      → count (cameIn input slot) (flatten (map (rest (s .ports)) joined)) ≤ count (cameIn input slot) (flatten joined)
   stays-le input slot =
       rw (rest-queues (s .ports) joined joined-queues) (count-keep-le _ (cameIn input slot) (flatten joined))
 
@@ -315,14 +315,14 @@ reached ports first calls = pifoAfterAll (freshPifo ports first) calls
 -- in every slot that it accepts just the best cell leaves each queue
 pub rest-just-best : (ports first : ℕ) (calls : List (Option (List Arrival))) (records : List Arrival) (r : Sent)
     → slotPifo (reached ports first calls) (some records) ≡ done r
-    → (output : ℕ) → JustBest (getD (joinedQueues (reached ports first calls) records) output [])
+    → (output : ℕ) → JustBest ports (getD (joinedQueues (reached ports first calls) records) output [])
 rest-just-best ports first calls records r d output = go (called s records)
   where
     s : Pifo
     s = reached ports first calls
 
-    go : Called s records → JustBest (getD (joinedQueues s records) output [])
+    go : Called s records → JustBest ports (getD (joinedQueues s records) output [])
     go (runs clear e) =
-        just-best (getD (joinedQueues s records) output [])
+        just-best ports (getD (joinedQueues s records) output [])
         (queue-distinct s (kept-all (freshPifo ports first) calls (kept-fresh ports first)) records clear output)
     go (refuses r′ place e) = absurd (let z : _≡_ {A = ℕ} 0 1 = cc in omega arith)

@@ -12,7 +12,7 @@ use mathlib.Core.List.{List, [], _++_, map, flatten, List·Memᴰ}
 use mathlib.Core.Option.{Option, none, some}
 use lib.Dec.{eqb}
 use lib.ListN.{length, replicate}
-use Rattle.laws.specs.Lists.{keep, count, least, pairwise, first?, upTo}
+use Rattle.laws.specs.Lists.{keep, some?, count, least, pairwise, first?, upTo}
 use Rattle.laws.proofs.Count.{count-append}
 use Rattle.cell.specs.declared.Arrival.{Arrival}
 use Rattle.cell.specs.declared.Cell.{Cell}
@@ -172,10 +172,10 @@ joinedIn q cs = join cs (q .queues)
 pub record Settled (s : Switch) (cs : List Cell) : Type 0 where
   pub numbers : pairwise otherNumber (settledIn s cs) ≡ true
   pub arrivals : pairwise otherArrival (settledIn s cs) ≡ true
-  pub best : Best (settledIn s cs)
+  pub best : Best (s .ports) (settledIn s cs)
   pub all : SameBag (cellsOf (settledIn s cs)) (cs ++ cells s)
   pub stay : cells ((run s cs) .switch)
-      ≡ cellsOf (keep (λ e. not (among (leaving (settledIn s cs)) e)) (settledIn s cs))
+      ≡ cellsOf (keep (λ e. not (among (leaving (s .ports) (settledIn s cs)) e)) (settledIn s cs))
 
 module _ (s : Switch) (q : Pifo) (rel : Related s q) (cs : List Cell)
     (fine : firstFault (s .ports) (cells s) cs ≡ none) (settled : Settled s cs) where
@@ -198,8 +198,10 @@ module _ (s : Switch) (q : Pifo) (rel : Related s q) (cs : List Cell)
   pub related-departures : (run s cs) .departures ≡ (runPifo q cs) .departures
   unfolding run runPifo
   related-departures =
-      departures-bag (settledIn s cs) (settled .arrivals) (settled .best) (flatten (joinedIn q cs)) same-cells (s .ports)
-      ∙ ap (λ n. map (λ o. first? (keep (goesTo o) (least beatsCell (flatten (joinedIn q cs))))) (upTo n)) (rel .ports)
+      departures-bag (s .ports) (settledIn s cs) (settled .arrivals) (settled .best)
+      (flatten (joinedIn q cs)) same-cells
+      ∙ ap (λ n. map (λ o. first? (keep (goesTo o) (least (beatsCell n) (flatten (joinedIn q cs))))) (upTo n))
+      (rel .ports)
       ∙ sym (best-queues (q .ports) (joinedIn q cs) queues-right)
 
   pub related-run : Related ((run s cs) .switch) ((runPifo q cs) .pifo)
@@ -210,7 +212,10 @@ module _ (s : Switch) (q : Pifo) (rel : Related s q) (cs : List Cell)
         clock = run-clock s cs ∙ ap (λ n. n + 1) (rel .clock);
         bag = λ p.
             ap (count p) (settled .stay)
-            ∙ staying-bag (settledIn s cs) (settled .numbers) (settled .best) (flatten (joinedIn q cs)) same-cells p
+            ∙ staying-bag (s .ports) (settledIn s cs) (settled .numbers) (settled .best)
+            (flatten (joinedIn q cs)) same-cells p
+            ∙ ap (λ n. count p (keep (λ c. some? (λ d. beatsCell n d c) (flatten (joinedIn q cs))) (flatten (joinedIn q cs))))
+            (rel .ports)
             ∙ ap (count p) (sym (rest-queues (q .ports) (joinedIn q cs) queues-right));
         queues = queues-rest (q .ports) (joinedIn q cs) queues-right;
       }

@@ -82,29 +82,29 @@ enter-behind {pre} {e} c es s = go (some? (inListOf c) es) refl
 -- slackness
 
 -- the waiting cells of its flow go before a new cell
-abbrev pub Follows : List Entry → Cell → Type 0
-Follows es c = (d : Entry) → List·Memᴰ d es → sameFlow (d .cell) c ≡ true → over (d .cell) c ≡ true
+abbrev pub Follows : ℕ → List Entry → Cell → Type 0
+Follows ports es c = (d : Entry) → List·Memᴰ d es → sameFlow (d .cell) c ≡ true → over ports (d .cell) c ≡ true
 
 -- the cells that arrive go after those of their flows
-abbrev pub FollowAll : List Entry → List Cell → Type 0
-FollowAll es cs = (c : Cell) → List·Memᴰ c cs → Follows es c
+abbrev pub FollowAll : ℕ → List Entry → List Cell → Type 0
+FollowAll ports es cs = (c : Cell) → List·Memᴰ c cs → Follows ports es c
 
 -- one cell that enters a section costs each cell of it at most one
-pub enter-slack : (sections : List (List Entry)) (k : ℕ) (c : Cell) → Follows (getD sections k []) c
-    → SlackAt 0 0 sections → (pre : List Entry) (e : Entry) → Behind pre e (enter c (getD sections k []))
-    → isBuffered (e .place) ≡ false → threadAt pre e ≤ cushionAt sections e + 1
-enter-slack sections k c follows slack pre e s b = go (enter-behind c (getD sections k []) s)
+pub enter-slack : (ports : ℕ) (sections : List (List Entry)) (k : ℕ) (c : Cell) → Follows ports (getD sections k []) c
+    → SlackAt ports 0 0 sections → (pre : List Entry) (e : Entry) → Behind pre e (enter c (getD sections k []))
+    → isBuffered (e .place) ≡ false → threadAt pre e ≤ cushionAt ports sections e + 1
+enter-slack ports sections k c follows slack pre e s b = go (enter-behind c (getD sections k []) s)
   where
     go : (_≡_ {A = ℕ} (listedIn pre) 0) ⊎ Entered c (getD sections k []) pre e
-        → threadAt pre e ≤ cushionAt sections e + 1
+        → threadAt pre e ≤ cushionAt ports sections e + 1
     go (inl z) = omega (arith, thread-le-listed pre e)
     go (inr (kept {before = before} t g)) = omega (arith, thread-grows pre before e 1 g, slack k before e t b)
     go (inr (new {d = d} {before = before} p t f g)) =
         let l : isListed (d .place) ≡ true = in-list c d f in
         let own : sameFlow (d .cell) c ≡ true = in-flow c d f in
-        let wide : cushionAt sections d ≤ cushionAt sections e =
-        cushion-after sections d e (flow-output (d .cell) c own ∙ ap (λ x. x .output) (sym p))
-        (ap (over (d .cell)) p ∙ follows d (behind-mem t) own) in
+        let wide : cushionAt ports sections d ≤ cushionAt ports sections e =
+        cushion-after ports sections d e (flow-output (d .cell) c own ∙ ap (λ x. x .output) (sym p))
+        (ap (over ports (d .cell)) p ∙ follows d (behind-mem t) own) in
         omega (
           arith,
           thread-le-listed pre e,

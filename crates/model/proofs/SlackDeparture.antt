@@ -36,51 +36,57 @@ use Rattle.model.proofs.SlackSections.{cushionAt, SlackAt, shields, shi
 ------------------------------------------------------------------------
 -- the cells that leave
 
-module _ (all : List Waiting) where
-  pub leaving-in : {f : Waiting} → List·Memᴰ f (leaving all) → List·Memᴰ f all
+module _ (ports : ℕ) (all : List Waiting) where
+  pub leaving-in : {f : Waiting} → List·Memᴰ f (leaving ports all) → List·Memᴰ f all
   unfolding leaving
   leaving-in m =
-      mem-keep-in (λ e. isBuffered (e .place)) all (mem-least-in beats (keep (λ e. isBuffered (e .place)) all) m)
+      mem-keep-in (λ e. isBuffered (e .place)) all
+      (mem-least-in (beats ports) (keep (λ e. isBuffered (e .place)) all) m)
 
-  pub leaving-buffered : {f : Waiting} → List·Memᴰ f (leaving all) → isBuffered (f .place) ≡ true
+  pub leaving-buffered : {f : Waiting} → List·Memᴰ f (leaving ports all) → isBuffered (f .place) ≡ true
   unfolding leaving
   leaving-buffered m =
-      mem-keep-passes (λ e. isBuffered (e .place)) all (mem-least-in beats (keep (λ e. isBuffered (e .place)) all) m)
+      mem-keep-passes (λ e. isBuffered (e .place)) all
+      (mem-least-in (beats ports) (keep (λ e. isBuffered (e .place)) all) m)
 
   -- none in the buffer of its output has higher output priority
-  pub leaving-first : {f g : Waiting} → List·Memᴰ f (leaving all) → List·Memᴰ g all → isBuffered (g .place) ≡ true
-      → beats g f ≡ false
+  pub leaving-first : {f g : Waiting} → List·Memᴰ f (leaving ports all) → List·Memᴰ g all → isBuffered (g .place) ≡ true
+      → beats ports g f ≡ false
   unfolding leaving
   leaving-first m k b =
-      mem-least-first beats (keep (λ e. isBuffered (e .place)) all) m (keep-mem (λ e. isBuffered (e .place)) k b)
+      mem-least-first (beats ports) (keep (λ e. isBuffered (e .place)) all) m
+      (keep-mem (λ e. isBuffered (e .place)) k b)
 
   -- e shields c, and leaves
   shieldLeaves : Cell → Waiting → Bool
-  shieldLeaves c e = shields c (entryOf e) && among (leaving all) e
+  shieldLeaves c e = shields ports c (entryOf e) && among (leaving ports all) e
 
   module _ (numbers : pairwise otherNumber all ≡ true) where
-    among-leaving : {e : Waiting} → List·Memᴰ e all → among (leaving all) e ≡ true → List·Memᴰ e (leaving all)
+    among-leaving : {e : Waiting} → List·Memᴰ e all → among (leaving ports all) e ≡ true
+        → List·Memᴰ e (leaving ports all)
     unfolding among
     among-leaving {e} m h =
-        let w : Passing (λ f. eqb (f .at) (e .at)) (leaving all) =
-        some?-e (λ f. eqb (f .at) (e .at)) (leaving all) h in
+        let w : Passing (λ f. eqb (f .at) (e .at)) (leaving ports all) =
+        some?-e (λ f. eqb (f .at) (e .at)) (leaving ports all) h in
         Memᴰ·cast (same-number numbers m (leaving-in (w .1)) (sym (eqb-true (w .0 .at) (e .at) (w .2)))) (w .1)
 
     -- a cell in a list stays
-    listed-stays : {e : Waiting} → List·Memᴰ e all → isListed (e .place) ≡ true → not (among (leaving all) e) ≡ true
+    listed-stays : {e : Waiting} → List·Memᴰ e all → isListed (e .place) ≡ true
+        → not (among (leaving ports all) e) ≡ true
     listed-stays {e} m l =
-        not-i (among (leaving all) e)
-        (by-fail (among (leaving all) e)
+        not-i (among (leaving ports all) e)
+        (by-fail (among (leaving ports all) e)
         (λ h. clash (leaving-buffered (among-leaving m h)) (listed-not-buffered (e .place) l)))
 
     module _ (arrivals : pairwise otherArrival all ≡ true) (c : Cell) where
-      shield-in : {e : Waiting} → List·Memᴰ e all → shieldLeaves c e ≡ true → List·Memᴰ e (leaving all)
+      shield-in : {e : Waiting} → List·Memᴰ e all → shieldLeaves c e ≡ true → List·Memᴰ e (leaving ports all)
       unfolding shieldLeaves
-      shield-in {e} m h = among-leaving m (and-r (shields c (entryOf e)) (among (leaving all) e) h)
+      shield-in {e} m h = among-leaving m (and-r (shields ports c (entryOf e)) (among (leaving ports all) e) h)
 
       shield-output : (e : Waiting) → shieldLeaves c e ≡ true → e .cell .output ≡ c .output
       unfolding shieldLeaves
-      shield-output e h = shields-output c (entryOf e) (and-l (shields c (entryOf e)) (among (leaving all) e) h)
+      shield-output e h =
+          shields-output ports c (entryOf e) (and-l (shields ports c (entryOf e)) (among (leaving ports all) e) h)
 
       -- neither of two that leave one output has the higher output priority
       not-both : (e f : Waiting) → List·Memᴰ e all → List·Memᴰ f all → otherArrival e f ≡ true
@@ -88,17 +94,17 @@ module _ (all : List Waiting) where
       not-both e f m k o =
           not-i (shieldLeaves c e && shieldLeaves c f) (by-fail (shieldLeaves c e && shieldLeaves c f) both)
         where
-          go : List·Memᴰ e (leaving all) → List·Memᴰ f (leaving all) → e .cell .output ≡ f .cell .output
-              → (over (e .cell) (f .cell) ≡ true) ⊎ (over (f .cell) (e .cell) ≡ true) → ⊥
-          go i j h (inl p) = clash (beats-i e f h p) (leaving-first j m (leaving-buffered i))
-          go i j h (inr p) = clash (beats-i f e (sym h) p) (leaving-first i k (leaving-buffered j))
+          go : List·Memᴰ e (leaving ports all) → List·Memᴰ f (leaving ports all) → e .cell .output ≡ f .cell .output
+              → (over ports (e .cell) (f .cell) ≡ true) ⊎ (over ports (f .cell) (e .cell) ≡ true) → ⊥
+          go i j h (inl p) = clash (beats-i ports e f h p) (leaving-first j m (leaving-buffered i))
+          go i j h (inr p) = clash (beats-i ports f e (sym h) p) (leaving-first i k (leaving-buffered j))
 
           both : (shieldLeaves c e && shieldLeaves c f) ≡ true → ⊥
           both h =
               let p : shieldLeaves c e ≡ true = and-l (shieldLeaves c e) (shieldLeaves c f) h in
               let q : shieldLeaves c f ≡ true = and-r (shieldLeaves c e) (shieldLeaves c f) h in
               go (shield-in m p) (shield-in k q) (shield-output e p ∙ sym (shield-output f q))
-              (over-total (e .cell) (f .cell) (differ e f o))
+              (over-total ports (e .cell) (f .cell) (differ e f o))
 
       -- of the cells that shield a cell at most one leaves
       one-leaves : count (shieldLeaves c) all ≤ 1
@@ -146,9 +152,9 @@ keep-behind p (w ∷ ws) h {pre} {e} s =
 ------------------------------------------------------------------------
 -- slackness
 
-module _ (sections : List (List Entry)) (numbers : pairwise otherNumber (waiting sections) ≡ true) where
+module _ (ports : ℕ) (sections : List (List Entry)) (numbers : pairwise otherNumber (waiting sections) ≡ true) where
   out : List Waiting
-  out = leaving (waiting sections)
+  out = leaving ports (waiting sections)
 
   -- departure takes no cell from a list
   without-behind : (k : ℕ) {pre : List Entry} {e : Entry} → Behind pre e (getD (without out sections) k [])
@@ -157,7 +163,7 @@ module _ (sections : List (List Entry)) (numbers : pairwise otherNumber (waiting
   without-behind k {pre} {e} s =
       go
       (keep-behind (λ e. not (among out e)) ws
-      (λ w m l. listed-stays (waiting sections) numbers (section-waiting sections k m) l)
+      (λ w m l. listed-stays ports (waiting sections) numbers (section-waiting sections k m) l)
       (rw (without-at out sections k) at s))
     where
       ws : List Waiting
@@ -169,7 +175,7 @@ module _ (sections : List (List Entry)) (numbers : pairwise otherNumber (waiting
 
   module _ (arrivals : pairwise otherArrival (waiting sections) ≡ true) where
     -- and from each buffer at most one
-    cushion-without : (e : Entry) → cushionAt sections e ≤ cushionAt (without out sections) e + 1
+    cushion-without : (e : Entry) → cushionAt ports sections e ≤ cushionAt ports (without out sections) e + 1
     unfolding out cushionAt shieldLeaves
     cushion-without e =
         omega (
@@ -177,25 +183,26 @@ module _ (sections : List (List Entry)) (numbers : pairwise otherNumber (waiting
           before,
           after,
           count-split p (among out) (waiting sections),
-          one-leaves (waiting sections) numbers arrivals (e .cell),
+          one-leaves ports (waiting sections) numbers arrivals (e .cell),
         )
       where
         p : Waiting → Bool
-        p w = shields (e .cell) (entryOf w)
+        p w = shields ports (e .cell) (entryOf w)
 
-        before : count (shields (e .cell)) (flatten sections) ≡ count p (waiting sections)
-        before = sym (count-waiting (shields (e .cell)) sections)
+        before : count (shields ports (e .cell)) (flatten sections) ≡ count p (waiting sections)
+        before = sym (count-waiting (shields ports (e .cell)) sections)
 
-        after : count (shields (e .cell)) (flatten (without out sections))
+        after : count (shields ports (e .cell)) (flatten (without out sections))
             ≡ count (λ w. p w && not (among out w)) (waiting sections)
         after =
-            ap (count (shields (e .cell))) (flatten-without out sections)
-            ∙ count-map (shields (e .cell)) entryOf (keep (λ w. not (among out w)) (waiting sections))
+            ap (count (shields ports (e .cell))) (flatten-without out sections)
+            ∙ count-map (shields ports (e .cell)) entryOf (keep (λ w. not (among out w)) (waiting sections))
             ∙ count-keep (λ w. not (among out w)) p (waiting sections)
             ∙ count-ext (λ w. not (among out w) && p w) (λ w. p w && not (among out w)) (waiting sections)
             (λ w m. and-comm (not (among out w)) (p w))
 
-    pub departure-slack : SlackAt 2 1 sections → SlackAt 0 0 (without (leaving (waiting sections)) sections)
+    pub departure-slack : SlackAt ports 2 1 sections
+        → SlackAt ports 0 0 (without (leaving ports (waiting sections)) sections)
     unfolding out
     departure-slack slack k pre e s b =
         let v = without-behind k s in
@@ -204,13 +211,13 @@ module _ (sections : List (List Entry)) (numbers : pairwise otherNumber (waiting
         (arith, thread-grows pre (v .0) e 0 (omega arith), slack k (v .0) e (v .1) b, cushion-without e)
 
 -- a cell with more to spare than stand before it has one over it in the buffer of its output
-pub best-buffered : (all : List Waiting) → Slack 2 1 all → Best all
+pub best-buffered : (ports : ℕ) (all : List Waiting) → Slack ports 2 1 all → Best ports all
 unfolding cushion
-best-buffered all slack e m b =
-    let v : Passing (λ f. isBuffered (f .place) && beats f e) all =
-    count-find (λ f. isBuffered (f .place) && beats f e) all (omega (arith, slack e m b)) in (
+best-buffered ports all slack e m b =
+    let v : Passing (λ f. isBuffered (f .place) && beats ports f e) all =
+    count-find (λ f. isBuffered (f .place) && beats ports f e) all (omega (arith, slack e m b)) in (
       v .0,
       v .1,
-      and-l (isBuffered (v .0 .place)) (beats (v .0) e) (v .2),
-      and-r (isBuffered (v .0 .place)) (beats (v .0) e) (v .2),
+      and-l (isBuffered (v .0 .place)) (beats ports (v .0) e) (v .2),
+      and-r (isBuffered (v .0 .place)) (beats ports (v .0) e) (v .2),
     )

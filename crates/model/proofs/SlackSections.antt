@@ -53,16 +53,16 @@ unfoldable pub threadAt : List Entry → Entry → ℕ
 threadAt pre e = cond (isListed (e .place)) (listedIn pre) 0
 
 -- f is in the buffer of c's output and has higher output priority
-unfoldable pub shields : Cell → Entry → Bool
-shields c f = isBuffered (f .place) && (eqb (f .cell .output) (c .output) && over (f .cell) c)
+unfoldable pub shields : ℕ → Cell → Entry → Bool
+shields ports c f = isBuffered (f .place) && (eqb (f .cell .output) (c .output) && over ports (f .cell) c)
 
-unfoldable pub cushionAt : List (List Entry) → Entry → ℕ
-cushionAt sections e = count (shields (e .cell)) (flatten sections)
+unfoldable pub cushionAt : ℕ → List (List Entry) → Entry → ℕ
+cushionAt ports sections e = count (shields ports (e .cell)) (flatten sections)
 
-abbrev pub SlackAt : ℕ → ℕ → List (List Entry) → Type 0
-SlackAt a b sections =
+abbrev pub SlackAt : ℕ → ℕ → ℕ → List (List Entry) → Type 0
+SlackAt ports a b sections =
     (k : ℕ) (pre : List Entry) (e : Entry) → Behind pre e (getD sections k []) → isBuffered (e .place) ≡ false
-    → threadAt pre e + a ≤ cushionAt sections e + b
+    → threadAt pre e + a ≤ cushionAt ports sections e + b
 
 ------------------------------------------------------------------------
 -- threads
@@ -108,46 +108,48 @@ thread-grows pre before e n h = go (isListed (e .place))
 ------------------------------------------------------------------------
 -- cushions
 
-pub shields-buffered : (c : Cell) (f : Entry) → shields c f ≡ true → isBuffered (f .place) ≡ true
+pub shields-buffered : (ports : ℕ) (c : Cell) (f : Entry) → shields ports c f ≡ true → isBuffered (f .place) ≡ true
 unfolding shields
-shields-buffered c f s = and-l (isBuffered (f .place)) (eqb (f .cell .output) (c .output) && over (f .cell) c) s
+shields-buffered ports c f s =
+    and-l (isBuffered (f .place)) (eqb (f .cell .output) (c .output) && over ports (f .cell) c) s
 
-pub shields-output : (c : Cell) (f : Entry) → shields c f ≡ true → f .cell .output ≡ c .output
+pub shields-output : (ports : ℕ) (c : Cell) (f : Entry) → shields ports c f ≡ true → f .cell .output ≡ c .output
 unfolding shields
-shields-output c f s =
+shields-output ports c f s =
     eqb-true (f .cell .output) (c .output)
-    (and-l (eqb (f .cell .output) (c .output)) (over (f .cell) c)
-    (and-r (isBuffered (f .place)) (eqb (f .cell .output) (c .output) && over (f .cell) c) s))
+    (and-l (eqb (f .cell .output) (c .output)) (over ports (f .cell) c)
+    (and-r (isBuffered (f .place)) (eqb (f .cell .output) (c .output) && over ports (f .cell) c) s))
 
-pub shields-over : (c : Cell) (f : Entry) → shields c f ≡ true → over (f .cell) c ≡ true
+pub shields-over : (ports : ℕ) (c : Cell) (f : Entry) → shields ports c f ≡ true → over ports (f .cell) c ≡ true
 unfolding shields
-shields-over c f s =
-    and-r (eqb (f .cell .output) (c .output)) (over (f .cell) c)
-    (and-r (isBuffered (f .place)) (eqb (f .cell .output) (c .output) && over (f .cell) c) s)
+shields-over ports c f s =
+    and-r (eqb (f .cell .output) (c .output)) (over ports (f .cell) c)
+    (and-r (isBuffered (f .place)) (eqb (f .cell .output) (c .output) && over ports (f .cell) c) s)
 
-pub shields-i : (c : Cell) (f : Entry) → isBuffered (f .place) ≡ true → f .cell .output ≡ c .output
-    → over (f .cell) c ≡ true → shields c f ≡ true
+pub shields-i : (ports : ℕ) (c : Cell) (f : Entry) → isBuffered (f .place) ≡ true → f .cell .output ≡ c .output
+    → over ports (f .cell) c ≡ true → shields ports c f ≡ true
 unfolding shields
-shields-i c f b o h = and-i _ _ b (and-i _ _ (eq-eqb _ _ o) h)
+shields-i ports c f b o h = and-i _ _ b (and-i _ _ (eq-eqb _ _ o) h)
 
 -- what shields a cell shields those of its output that come after it
-pub shields-after : (c d : Cell) (f : Entry) → c .output ≡ d .output → over c d ≡ true → shields c f ≡ true
-    → shields d f ≡ true
-shields-after c d f o h s =
-    shields-i d f (shields-buffered c f s) (shields-output c f s ∙ o)
-    (over-trans (f .cell) c d (shields-over c f s) h)
+pub shields-after : (ports : ℕ) (c d : Cell) (f : Entry) → c .output ≡ d .output → over ports c d ≡ true
+    → shields ports c f ≡ true
+    → shields ports d f ≡ true
+shields-after ports c d f o h s =
+    shields-i ports d f (shields-buffered ports c f s) (shields-output ports c f s ∙ o)
+    (over-trans ports (f .cell) c d (shields-over ports c f s) h)
 
-pub cushion-after : (sections : List (List Entry)) (e f : Entry) → e .cell .output ≡ f .cell .output
-    → over (e .cell) (f .cell) ≡ true → cushionAt sections e ≤ cushionAt sections f
+pub cushion-after : (ports : ℕ) (sections : List (List Entry)) (e f : Entry) → e .cell .output ≡ f .cell .output
+    → over ports (e .cell) (f .cell) ≡ true → cushionAt ports sections e ≤ cushionAt ports sections f
 unfolding cushionAt
-cushion-after sections e f o h =
-    count-le (shields (e .cell)) (shields (f .cell)) (flatten sections)
-    (λ x m s. shields-after (e .cell) (f .cell) x o h s)
+cushion-after ports sections e f o h =
+    count-le (shields ports (e .cell)) (shields ports (f .cell)) (flatten sections)
+    (λ x m s. shields-after ports (e .cell) (f .cell) x o h s)
 
 ------------------------------------------------------------------------
 -- the same slackness, by sections and by numbers
 
-module _ (sections : List (List Entry)) (housed : Housed sections) where
+module _ (ports : ℕ) (sections : List (List Entry)) (housed : Housed sections) where
   thread-at : (k : ℕ) (pre post : List Entry) (w : Waiting) → w .at ≡ sectionRoom * k + length pre
       → getD sections k [] ≡ pre ++ entryOf w ∷ post → thread (waiting sections) w ≡ threadAt pre (entryOf w)
   unfolding thread threadAt listedIn
@@ -158,11 +160,11 @@ module _ (sections : List (List Entry)) (housed : Housed sections) where
       ahead-of : ℕ → ℕ
       ahead-of n = count (λ f. isListed (f .place) && ahead f (numberedAt n (entryOf w))) (waiting sections)
 
-  cushion-at : (w : Waiting) → cushion (waiting sections) w ≡ cushionAt sections (entryOf w)
+  cushion-at : (w : Waiting) → cushion ports (waiting sections) w ≡ cushionAt ports sections (entryOf w)
   unfolding cushion cushionAt shields beats sameOutput
-  cushion-at w = count-waiting (shields (w .cell)) sections
+  cushion-at w = count-waiting (shields ports (w .cell)) sections
 
-  pub slack-at : (a b : ℕ) → Slack a b (waiting sections) → SlackAt a b sections
+  pub slack-at : (a b : ℕ) → Slack ports a b (waiting sections) → SlackAt ports a b sections
   slack-at a b slack k pre e s f =
       let v = behind-split s in
       let w : Waiting = numberedAt (sectionRoom * k + length pre) e in
@@ -173,7 +175,7 @@ module _ (sections : List (List Entry)) (housed : Housed sections) where
         slack w (waiting-mem sections k pre e (v .0) (v .1)) f,
       )
 
-  pub at-slack : (a b : ℕ) → SlackAt a b sections → Slack a b (waiting sections)
+  pub at-slack : (a b : ℕ) → SlackAt ports a b sections → Slack ports a b (waiting sections)
   at-slack a b slack w m f =
       let s = mem-waiting sections m in
       let p = s .placed in

@@ -45,12 +45,13 @@ fresh-housed : (ports first : ℕ) → Housed (fresh ports first .sections)
 unfolding fresh
 fresh-housed ports first k e m = absurd (List·Memᴰ·not-nil (rw (empty-at ports k) at m))
 
-fresh-at : (ports first : ℕ) → SlackAt 0 0 (fresh ports first .sections)
+fresh-at : (ports first : ℕ) → SlackAt ports 0 0 (fresh ports first .sections)
 unfolding fresh
 fresh-at ports first k pre e s b = absurd (behind-nil (rw (empty-at ports k) at s))
 
-pub fresh-slack : (ports first : ℕ) → Slack 0 0 (waiting (fresh ports first .sections))
-fresh-slack ports first = at-slack (fresh ports first .sections) (fresh-housed ports first) 0 0 (fresh-at ports first)
+pub fresh-slack : (ports first : ℕ) → Slack ports 0 0 (waiting (fresh ports first .sections))
+fresh-slack ports first =
+    at-slack ports (fresh ports first .sections) (fresh-housed ports first) 0 0 (fresh-at ports first)
 
 ------------------------------------------------------------------------
 -- arrival
@@ -70,32 +71,34 @@ count-arrive p (c ∷ cs) sections within =
       count-enter p c (getD sections (c .input) []),
     )
 
-pub arrival-slack : (cs : List Cell) (sections : List (List Entry))
+pub arrival-slack : (ports : ℕ) (cs : List Cell) (sections : List (List Entry))
     → ((c : Cell) → List·Memᴰ c cs → c .input < length sections)
-    → pairwise (λ c d. ltb (c .input) (d .input)) cs ≡ true → FollowAll (flatten sections) cs
-    → SlackAt 0 0 sections → SlackAt 0 1 (arrive cs sections)
+    → pairwise (λ c d. ltb (c .input) (d .input)) cs ≡ true → FollowAll ports (flatten sections) cs
+    → SlackAt ports 0 0 sections → SlackAt ports 0 1 (arrive cs sections)
 unfolding cushionAt
-arrival-slack cs sections within turns follow slack k pre e s b = go (arrive-at cs sections within turns k)
+arrival-slack ports cs sections within turns follow slack k pre e s b = go (arrive-at cs sections within turns k)
   where
-    more : cushionAt sections e ≤ cushionAt (arrive cs sections) e
-    more = count-arrive (shields (e .cell)) cs sections within
+    more : cushionAt ports sections e ≤ cushionAt ports (arrive cs sections) e
+    more = count-arrive (shields ports (e .cell)) cs sections within
 
-    go : Arrived cs sections k → threadAt pre e + 0 ≤ cushionAt (arrive cs sections) e + 1
+    go : Arrived cs sections k → threadAt pre e + 0 ≤ cushionAt ports (arrive cs sections) e + 1
     go (kept q) = omega (arith, slack k pre e (rw q at s) b, more)
     go (entered c m i q) =
         omega (
           arith,
-          enter-slack sections k c (λ d n. follow c m d (flatten-mem sections k n)) slack pre e (rw q at s) b,
+          enter-slack ports sections k c (λ d n. follow c m d (flatten-mem sections k n)) slack pre e (rw q at s) b,
           more,
         )
 
 ------------------------------------------------------------------------
 -- the phases
 
-pub moved-slack : (sections : List (List Entry)) → Orderly (waiting sections) → (a b : ℕ) → Slack a b (waiting sections)
-    → Slack (suc a) b (waiting (moved (phase (waiting sections)) sections))
-moved-slack sections orderly a b slack =
-    rw (waiting-moved (phase (waiting sections)) sections) (phase-slack (waiting sections) orderly a b slack)
+pub moved-slack : {ports : ℕ} (sections : List (List Entry)) → Orderly ports (waiting sections) → (a b : ℕ)
+    → Slack ports a b (waiting sections)
+    → Slack ports (suc a) b (waiting (moved (phase ports (waiting sections)) sections))
+moved-slack {ports} sections orderly a b slack =
+    rw (waiting-moved (phase ports (waiting sections)) sections)
+    (phase-slack ports (waiting sections) orderly a b slack)
 
 ------------------------------------------------------------------------
 -- a slot
@@ -103,7 +106,7 @@ moved-slack sections orderly a b slack =
 module _ (s : Switch) (records : List Arrival) (h : sound s ≡ true) (fits : all? arrivalFits records ≡ true)
     (ticks : eqb (s .clock) clockEnd ≡ false)
     (clear : firstFault (s .ports) (cells s) (map (accepted (s .clock)) records) ≡ none)
-    (slack : Slack 0 0 (waiting (s .sections))) where
+    (slack : Slack (s .ports) 0 0 (waiting (s .sections))) where
   abbrev course : Course
   course = run s (map (accepted (s .clock)) records)
 
@@ -113,40 +116,41 @@ module _ (s : Switch) (records : List Arrival) (h : sound s ≡ true) (fits : al
   stage-housed = sound-housed (s .ports) (s .clock + 1)
 
   stage-orderly : (sections : List (List Entry)) → soundSections (s .ports) (s .clock + 1) 0 sections ≡ true
-      → Orderly (waiting sections)
+      → Orderly (s .ports) (waiting sections)
   stage-orderly = sound-orderly (s .ports) (s .clock + 1)
 
-  pub arrived-slack : Slack 0 1 (waiting (course .arrived))
+  pub arrived-slack : Slack (s .ports) 0 1 (waiting (course .arrived))
   unfolding run
   arrived-slack =
-      at-slack (course .arrived) (stage-housed (course .arrived) (arrived-sound s records h fits ticks clear)) 0 1
-      (arrival-slack (map (accepted (s .clock)) records) (s .sections) (arrival-inputs s records h clear)
+      at-slack (s .ports) (course .arrived)
+      (stage-housed (course .arrived) (arrived-sound s records h fits ticks clear)) 0 1
+      (arrival-slack (s .ports) (map (accepted (s .clock)) records) (s .sections) (arrival-inputs s records h clear)
       (arrival-turns s records h clear) (arrival-follow-all s records h clear)
-      (slack-at (s .sections) (sound-housed (s .ports) (s .clock) (s .sections) (sound-e s h .sections)) 0 0 slack))
+      (slack-at (s .ports) (s .sections) (sound-housed (s .ports) (s .clock) (s .sections) (sound-e s h .sections)) 0 0 slack))
 
-  pub between-slack : Slack 1 1 (waiting (course .between))
+  pub between-slack : Slack (s .ports) 1 1 (waiting (course .between))
   unfolding run
   between-slack =
       moved-slack (course .arrived) (stage-orderly (course .arrived) (arrived-sound s records h fits ticks clear)) 0 1
       arrived-slack
 
-  pub settled-slack : Slack 2 1 (waiting (course .settled))
+  pub settled-slack : Slack (s .ports) 2 1 (waiting (course .settled))
   unfolding run
   settled-slack =
       moved-slack (course .between) (stage-orderly (course .between) (between-sound s records h fits ticks clear)) 1 1
       between-slack
 
   -- every cell outside the buffers is beaten by a buffered one
-  pub settled-best : Best (waiting (course .settled))
-  settled-best = best-buffered (waiting (course .settled)) settled-slack
+  pub settled-best : Best (s .ports) (waiting (course .settled))
+  settled-best = best-buffered (s .ports) (waiting (course .settled)) settled-slack
 
-  pub run-slack : Slack 0 0 (waiting (course .switch .sections))
+  pub run-slack : Slack (s .ports) 0 0 (waiting (course .switch .sections))
   unfolding run
   run-slack =
       let o = settled-orderly s records h fits ticks clear in
-      at-slack (course .switch .sections)
+      at-slack (s .ports) (course .switch .sections)
       (stage-housed (course .switch .sections)
       (sound-e (course .switch) (run-sound s records h fits ticks clear) .sections)) 0 0
-      (departure-slack (course .settled) (o .numbers) (o .arrivals)
-      (slack-at (course .settled) (stage-housed (course .settled) (settled-sound s records h fits ticks clear)) 2 1
+      (departure-slack (s .ports) (course .settled) (o .numbers) (o .arrivals)
+      (slack-at (s .ports) (course .settled) (stage-housed (course .settled) (settled-sound s records h fits ticks clear)) 2 1
       settled-slack))

@@ -176,10 +176,11 @@ abbrev listedEntry : Entry → Bool
 listedEntry e = isListed (e .place)
 
 -- in the list the new cell stands together with its flow
-enter-together : (c : Cell) (es : List Entry) → together (keep listedEntry es) ≡ true → Follows es c
-    → together (keep listedEntry (enter c es)) ≡ true
+enter-together : (ports : ℕ) (c : Cell) (es : List Entry) → together ports (keep listedEntry es) ≡ true
+    → Follows ports es c
+    → together ports (keep listedEntry (enter c es)) ≡ true
 unfolding newEntry inListOf
-enter-together c es h follows = go (enters c es)
+enter-together ports c es h follows = go (enters c es)
   where
     n : Entry
     n = newEntry c
@@ -194,9 +195,9 @@ enter-together c es h follows = go (enters c es)
         (mem-keep-passes listedEntry l m)
         (flow-sym c (g .cell) t))))
 
-    go : Enters c es → together (keep listedEntry (enter c es)) ≡ true
+    go : Enters c es → together ports (keep listedEntry (enter c es)) ≡ true
     go (front z e) =
-        rw (e, keep-pass listedEntry n es (new-listed c)) (together-front n (keep listedEntry es) (alone es z) h)
+        rw (e, keep-pass listedEntry n es (new-listed c)) (together-front ports n (keep listedEntry es) (alone es z) h)
     go (behind pre d post s f z e) =
         let old : keep listedEntry es ≡ keep listedEntry pre ++ d ∷ keep listedEntry post =
         ap (keep listedEntry) s
@@ -209,21 +210,21 @@ enter-together c es h follows = go (enters c es)
         (keep-pass listedEntry d (n ∷ post) (in-list c d f)
         ∙ ap (λ r. d ∷ r) (keep-pass listedEntry n post (new-listed c))) in
         rw now
-        (together-insert (keep listedEntry pre) d n (keep listedEntry post) (rw old at h)
+        (together-insert ports (keep listedEntry pre) d n (keep listedEntry post) (rw old at h)
         (in-flow c d f)
         (follows d (rw s (Memᴰ·append-right pre (List·Memᴰ·head refl))) (in-flow c d f))
         (alone post z))
 
 -- a new cell, fit for the section, with room for it
 pub enter-sound : (ports clock k : ℕ) (c : Cell) (es : List Entry) → SoundSection ports clock k es
-    → SoundEntry ports (clock + 1) k (newEntry c) → c .slot ≡ clock → length es < sectionRoom → Follows es c
+    → SoundEntry ports (clock + 1) k (newEntry c) → c .slot ≡ clock → length es < sectionRoom → Follows ports es c
     → SoundSection ports (clock + 1) k (enter c es)
 unfolding newEntry
 enter-sound ports clock k c es s new slot room follows =
     record {
       short = omega (arith, length-enter c es);
       entries = λ e m. each e (enter-mem c es m);
-      flows = enter-together c es (s .flows) follows;
+      flows = enter-together ports c es (s .flows) follows;
       slots =
           rw (w .entered)
           (pairwise-insert otherSlot (w .pre) (newEntry c) (w .post) (rw (w .split) at (s .slots))
@@ -331,7 +332,7 @@ pub arrive-sound : (ports clock : ℕ) (cs : List Cell) (sections : List (List E
     → ((c : Cell) → List·Memᴰ c cs → SoundEntry ports (clock + 1) (c .input) (newEntry c))
     → ((c : Cell) → List·Memᴰ c cs → c .slot ≡ clock)
     → ((c : Cell) → List·Memᴰ c cs → length (getD sections (c .input) []) < sectionRoom)
-    → FollowAll (flatten sections) cs
+    → FollowAll ports (flatten sections) cs
     → soundSections ports (clock + 1) 0 (arrive cs sections) ≡ true
 arrive-sound ports clock cs sections h within turns fit slots rooms follow =
     sections-i ports (clock + 1) (arrive cs sections) (λ k. go k (arrive-at cs sections within turns k))
@@ -378,10 +379,10 @@ module _ (ports clock : ℕ) (sections : List (List Entry)) (h : soundSections p
   sound-slot e m = let w = mem-flatten sections m in sections-e ports clock sections h (w .0) .entries e (w .2) .slot
 
   pub arrival-follows : (c : Cell) → c .slot ≡ clock → fallingRank (map (λ e. e .cell) (flatten sections)) c ≡ false
-      → Follows (flatten sections) c
+      → Follows ports (flatten sections) c
   arrival-follows c slot rank e m s =
       let older : e .cell .slot < c .slot = omega (arith, sound-slot e m) in
-      over-in-flow (e .cell) c
+      over-in-flow ports (e .cell) c
       (rank-rises (map (λ e. e .cell) (flatten sections)) c (e .cell) rank (Memᴰ·map (λ e. e .cell) m) s)
       older
 
@@ -446,7 +447,7 @@ module _ (s : Switch) (records : List Arrival) (h : sound s ≡ true)
   pub arrival-turns : pairwise (λ c d. ltb (c .input) (d .input)) (map (accepted (s .clock)) records) ≡ true
   arrival-turns = arrival-admitted .turns
 
-  pub arrival-follow-all : FollowAll (flatten (s .sections)) (map (accepted (s .clock)) records)
+  pub arrival-follow-all : FollowAll (s .ports) (flatten (s .sections)) (map (accepted (s .clock)) records)
   unfolding cells
   arrival-follow-all c m =
       arrival-follows (s .ports) (s .clock) (s .sections) (table .sections) c

@@ -18,27 +18,27 @@ use Rattle.model.specs.Sound.{otherSlot, otherCrosspoint, together, soun
 use Rattle.model.proofs.Numbering.{entryOf, numberFrom-entries, without-at}
 use Rattle.model.proofs.SoundLaws.{together-keep, SoundEntry, SoundSection, sections-e, sections-i}
 
-module _ (stays : Waiting → Bool) (ws : List Waiting) where
+module _ (ports : ℕ) (stays : Waiting → Bool) (ws : List Waiting) where
   pairwise-stay : (r : Entry → Entry → Bool) → pairwise r (map entryOf ws) ≡ true
       → pairwise r (map entryOf (keep stays ws)) ≡ true
   pairwise-stay r h =
       pairwise-map r entryOf (keep stays ws)
       ∙ pairwise-keep (λ v w. r (entryOf v) (entryOf w)) stays ws (sym (pairwise-map r entryOf ws) ∙ h)
 
-  flows-stay : together (keep (λ e. isListed (e .place)) (map entryOf ws)) ≡ true
-      → together (keep (λ e. isListed (e .place)) (map entryOf (keep stays ws))) ≡ true
+  flows-stay : together ports (keep (λ e. isListed (e .place)) (map entryOf ws)) ≡ true
+      → together ports (keep (λ e. isListed (e .place)) (map entryOf (keep stays ws))) ≡ true
   flows-stay h =
-      ap together
+      ap (together ports)
       (keep-map (λ e. isListed (e .place)) entryOf (keep stays ws) ∙ ap (map entryOf) (keep-comm stays listed ws))
-      ∙ together-keep entryOf stays (keep listed ws)
-      (ap together (sym (keep-map (λ e. isListed (e .place)) entryOf ws)) ∙ h)
+      ∙ together-keep ports entryOf stays (keep listed ws)
+      (ap (together ports) (sym (keep-map (λ e. isListed (e .place)) entryOf ws)) ∙ h)
     where
       listed : Waiting → Bool
       listed w = isListed (w .place)
 
-  section-stay : (ports clock k : ℕ) → SoundSection ports clock k (map entryOf ws)
+  section-stay : (clock k : ℕ) → SoundSection ports clock k (map entryOf ws)
       → SoundSection ports clock k (map entryOf (keep stays ws))
-  section-stay ports clock k s =
+  section-stay clock k s =
       record {
         short =
             let a : length ws ≤ sectionRoom = rw (length-map ws entryOf) at (s .short) in
@@ -57,5 +57,5 @@ pub without-sound : (ports clock : ℕ) (out : List Waiting) (sections : List (L
 without-sound ports clock out sections h =
     sections-i ports clock (without out sections) (λ k.
     rw (without-at out sections k)
-    (section-stay (λ e. not (among out e)) (numberFrom (sectionRoom * k) (getD sections k [])) ports clock k
+    (section-stay ports (λ e. not (among out e)) (numberFrom (sectionRoom * k) (getD sections k [])) clock k
     (rw (numberFrom-entries (sectionRoom * k) (getD sections k [])) (sections-e ports clock sections h k))))

@@ -39,49 +39,51 @@ abbrev pub ofFlow : Entry → Entry → Bool
 ofFlow e g = sameFlow (e .cell) (g .cell)
 
 -- of the same flow, and comes after
-abbrev pub after : Entry → Entry → Bool
-after e f = ofFlow e f && over (e .cell) (f .cell)
+abbrev pub after : ℕ → Entry → Entry → Bool
+after ports e f = ofFlow e f && over ports (e .cell) (f .cell)
 
 -- the next one is of the same flow and comes after, or no later one is of the same flow
-pub data Next (e f : Entry) (es : List Entry) : Type 0 where
-  follows : ofFlow e f ≡ true → over (e .cell) (f .cell) ≡ true → Next e f es
-  last : none? (ofFlow e) (f ∷ es) ≡ true → Next e f es
+pub data Next (ports : ℕ) (e f : Entry) (es : List Entry) : Type 0 where
+  follows : ofFlow e f ≡ true → over ports (e .cell) (f .cell) ≡ true → Next ports e f es
+  last : none? (ofFlow e) (f ∷ es) ≡ true → Next ports e f es
 
-pub together-one : (e : Entry) → together (e ∷ []) ≡ true
+pub together-one : (ports : ℕ) (e : Entry) → together ports (e ∷ []) ≡ true
 unfolding together
-together-one e = refl
+together-one ports e = refl
 
-pub together-next : (e f : Entry) (es : List Entry) → together (e ∷ f ∷ es) ≡ true → Next e f es
+pub together-next : (ports : ℕ) (e f : Entry) (es : List Entry) → together ports (e ∷ f ∷ es) ≡ true → Next ports e f es
 unfolding together
-together-next e f es h =
-    go (or-cases (after e f) (none? (ofFlow e) (f ∷ es))
-    (and-l (after e f || none? (ofFlow e) (f ∷ es)) (together (f ∷ es)) h))
+together-next ports e f es h =
+    go (or-cases (after ports e f) (none? (ofFlow e) (f ∷ es))
+    (and-l (after ports e f || none? (ofFlow e) (f ∷ es)) (together ports (f ∷ es)) h))
   where
-    go : (after e f ≡ true) ⊎ (none? (ofFlow e) (f ∷ es) ≡ true) → Next e f es
+    go : (after ports e f ≡ true) ⊎ (none? (ofFlow e) (f ∷ es) ≡ true) → Next ports e f es
     go (inl b) =
-        follows (and-l (ofFlow e f) (over (e .cell) (f .cell)) b) (and-r (ofFlow e f) (over (e .cell) (f .cell)) b)
+        follows (and-l (ofFlow e f) (over ports (e .cell) (f .cell)) b)
+        (and-r (ofFlow e f) (over ports (e .cell) (f .cell)) b)
     go (inr a) = last a
 
-pub together-tail : (e : Entry) (es : List Entry) → together (e ∷ es) ≡ true → together es ≡ true
+pub together-tail : (ports : ℕ) (e : Entry) (es : List Entry) → together ports (e ∷ es) ≡ true
+    → together ports es ≡ true
 unfolding together
-together-tail e [] h = refl
-together-tail e (f ∷ es) h = and-r (after e f || none? (ofFlow e) (f ∷ es)) (together (f ∷ es)) h
+together-tail ports e [] h = refl
+together-tail ports e (f ∷ es) h = and-r (after ports e f || none? (ofFlow e) (f ∷ es)) (together ports (f ∷ es)) h
 
-pub together-cons : (e f : Entry) (es : List Entry) → Next e f es → together (f ∷ es) ≡ true
-    → together (e ∷ f ∷ es) ≡ true
+pub together-cons : (ports : ℕ) (e f : Entry) (es : List Entry) → Next ports e f es → together ports (f ∷ es) ≡ true
+    → together ports (e ∷ f ∷ es) ≡ true
 unfolding together
-together-cons e f es n t = and-i (after e f || none? (ofFlow e) (f ∷ es)) (together (f ∷ es)) (go n) t
+together-cons ports e f es n t = and-i (after ports e f || none? (ofFlow e) (f ∷ es)) (together ports (f ∷ es)) (go n) t
   where
-    go : Next e f es → (after e f || none? (ofFlow e) (f ∷ es)) ≡ true
+    go : Next ports e f es → (after ports e f || none? (ofFlow e) (f ∷ es)) ≡ true
     go (follows s o) =
-        or-l (after e f) (none? (ofFlow e) (f ∷ es)) (and-i (ofFlow e f) (over (e .cell) (f .cell)) s o)
-    go (last a) = or-r (after e f) (none? (ofFlow e) (f ∷ es)) a
+        or-l (after ports e f) (none? (ofFlow e) (f ∷ es)) (and-i (ofFlow e f) (over ports (e .cell) (f .cell)) s o)
+    go (last a) = or-r (after ports e f) (none? (ofFlow e) (f ∷ es)) a
 
 -- one whose flow has no later cell may stand at the front
-pub together-front : (e : Entry) (es : List Entry) → none? (ofFlow e) es ≡ true → together es ≡ true
-    → together (e ∷ es) ≡ true
-together-front e [] n t = together-one e
-together-front e (f ∷ es) n t = together-cons e f es (last n) t
+pub together-front : (ports : ℕ) (e : Entry) (es : List Entry) → none? (ofFlow e) es ≡ true → together ports es ≡ true
+    → together ports (e ∷ es) ≡ true
+together-front ports e [] n t = together-one ports e
+together-front ports e (f ∷ es) n t = together-cons ports e f es (last n) t
 
 -- none later is of the flow of one that is of the same flow
 none-alike : (e f : Entry) (es : List Entry) → ofFlow e f ≡ true → none? (ofFlow f) es ≡ true
@@ -91,44 +93,52 @@ none-alike e f es s n =
     (λ g m t. flow-trans (f .cell) (e .cell) (g .cell) (flow-sym (e .cell) (f .cell) s) t) n
 
 -- the second may go
-together-skip : (e f : Entry) (es : List Entry) → together (e ∷ f ∷ es) ≡ true → together (e ∷ es) ≡ true
-together-skip e f [] h = together-one e
-together-skip e f (g ∷ es) h =
-    let t : together (f ∷ g ∷ es) ≡ true = together-tail e (f ∷ g ∷ es) h in
-    together-cons e g es (go (together-next e f (g ∷ es) h) (together-next f g es t)) (together-tail f (g ∷ es) t)
+together-skip : (ports : ℕ) (e f : Entry) (es : List Entry) → together ports (e ∷ f ∷ es) ≡ true
+    → together ports (e ∷ es) ≡ true
+together-skip ports e f [] h = together-one ports e
+together-skip ports e f (g ∷ es) h =
+    let t : together ports (f ∷ g ∷ es) ≡ true = together-tail ports e (f ∷ g ∷ es) h in
+    together-cons ports e g es (go (together-next ports e f (g ∷ es) h) (together-next ports f g es t))
+    (together-tail ports f (g ∷ es) t)
   where
-    go : Next e f (g ∷ es) → Next f g es → Next e g es
+    go : Next ports e f (g ∷ es) → Next ports f g es → Next ports e g es
     go (follows s o) (follows s′ o′) =
-        follows (flow-trans (e .cell) (f .cell) (g .cell) s s′) (over-trans (e .cell) (f .cell) (g .cell) o o′)
+        follows (flow-trans (e .cell) (f .cell) (g .cell) s s′) (over-trans ports (e .cell) (f .cell) (g .cell) o o′)
     go (follows s o) (last n) = last (none-alike e f (g ∷ es) s n)
     go (last n) k = last (none?-within (ofFlow e) (g ∷ es) (f ∷ g ∷ es) (λ x m t. List·Memᴰ·tail m) n)
 
 -- of two cells of one flow the earlier is over the later
-pub together-over : (e : Entry) (es : List Entry) {g : Entry} → together (e ∷ es) ≡ true → List·Memᴰ g es
-    → ofFlow e g ≡ true → over (e .cell) (g .cell) ≡ true
-together-over e [] h m s = absurd (List·Memᴰ·not-nil m)
-together-over e (f ∷ es) {g} h m s =
-    go (together-next e f es h) (List·Memᴰ·cases-cons m) (together-over e es (together-skip e f es h))
+pub together-over : (ports : ℕ) (e : Entry) (es : List Entry) {g : Entry} → together ports (e ∷ es) ≡ true
+    → List·Memᴰ g es
+    → ofFlow e g ≡ true → over ports (e .cell) (g .cell) ≡ true
+together-over ports e [] h m s = absurd (List·Memᴰ·not-nil m)
+together-over ports e (f ∷ es) {g} h m s =
+    go (together-next ports e f es h) (List·Memᴰ·cases-cons m) (together-over ports e es (together-skip ports e f es h))
   where
-    go : Next e f es → (g ≡ f) ⊎ List·Memᴰ g es
-        → (List·Memᴰ g es → ofFlow e g ≡ true → over (e .cell) (g .cell) ≡ true) → over (e .cell) (g .cell) ≡ true
+    go : Next ports e f es → (g ≡ f) ⊎ List·Memᴰ g es
+        → (List·Memᴰ g es → ofFlow e g ≡ true → over ports (e .cell) (g .cell) ≡ true)
+        → over ports (e .cell) (g .cell) ≡ true
     go (follows t o) (inl q) rec = rw q o
     go (last n) (inl q) rec = absurd (none?-clash (ofFlow e) n m s)
     go k (inr i) rec = rec i s
 
 -- an entry that stands before another of its flow in a list is over it
-pub together-split : (pre : List Entry) (e : Entry) (post : List Entry) {g : Entry}
-    → together (pre ++ e ∷ post) ≡ true → List·Memᴰ g post → ofFlow e g ≡ true → over (e .cell) (g .cell) ≡ true
-together-split [] e post h m s = together-over e post h m s
-together-split (f ∷ pre) e post h m s = together-split pre e post (together-tail f (pre ++ e ∷ post) h) m s
+pub together-split : (ports : ℕ) (pre : List Entry) (e : Entry) (post : List Entry) {g : Entry}
+    → together ports (pre ++ e ∷ post) ≡ true → List·Memᴰ g post → ofFlow e g ≡ true
+    → over ports (e .cell) (g .cell) ≡ true
+together-split ports [] e post h m s = together-over ports e post h m s
+together-split ports (f ∷ pre) e post h m s =
+    together-split ports pre e post (together-tail ports f (pre ++ e ∷ post) h) m s
 
-module _ {A : Type 0} (f : A → Entry) (p : A → Bool) where
-  together-keep-after : (x : A) (l : List A) → together (f x ∷ map f l) ≡ true → together (map f (keep p l)) ≡ true
-      → together (f x ∷ map f (keep p l)) ≡ true
-  together-keep-after x [] h t = rw (keep-nil p) (together-one (f x))
-  together-keep-after x (y ∷ l) h t = go (p y) refl (together-keep-after x l (together-skip (f x) (f y) (map f l) h))
+module _ (ports : ℕ) {A : Type 0} (f : A → Entry) (p : A → Bool) where
+  together-keep-after : (x : A) (l : List A) → together ports (f x ∷ map f l) ≡ true
+      → together ports (map f (keep p l)) ≡ true
+      → together ports (f x ∷ map f (keep p l)) ≡ true
+  together-keep-after x [] h t = rw (keep-nil p) (together-one ports (f x))
+  together-keep-after x (y ∷ l) h t =
+      go (p y) refl (together-keep-after x l (together-skip ports (f x) (f y) (map f l) h))
     where
-      next : Next (f x) (f y) (map f l) → Next (f x) (f y) (map f (keep p l))
+      next : Next ports (f x) (f y) (map f l) → Next ports (f x) (f y) (map f (keep p l))
       next (follows s o) = follows s o
       next (last n) =
           last
@@ -142,35 +152,36 @@ module _ {A : Type 0} (f : A → Entry) (p : A → Bool) where
               List·Memᴰ·tail (Memᴰ·cast (sym (w .2)) (Memᴰ·map f (mem-keep-in p l (w .1))))
 
       go : (b : Bool) → p y ≡ b
-          → (together (map f (keep p l)) ≡ true → together (f x ∷ map f (keep p l)) ≡ true)
-          → together (f x ∷ map f (keep p (y ∷ l))) ≡ true
+          → (together ports (map f (keep p l)) ≡ true → together ports (f x ∷ map f (keep p l)) ≡ true)
+          → together ports (f x ∷ map f (keep p (y ∷ l))) ≡ true
       go true e rec =
           rw (keep-pass p y l e)
-          (together-cons (f x) (f y) (map f (keep p l)) (next (together-next (f x) (f y) (map f l) h))
+          (together-cons ports (f x) (f y) (map f (keep p l)) (next (together-next ports (f x) (f y) (map f l) h))
           (rw (keep-pass p y l e) at t))
       go false e rec = rw (keep-fail p y l e) (rec (rw (keep-fail p y l e) at t))
 
   -- fewer cells still stand together
-  pub together-keep : (l : List A) → together (map f l) ≡ true → together (map f (keep p l)) ≡ true
+  pub together-keep : (l : List A) → together ports (map f l) ≡ true → together ports (map f (keep p l)) ≡ true
   together-keep [] h = rw (keep-nil p) h
-  together-keep (x ∷ l) h = go (p x) refl (together-keep l (together-tail (f x) (map f l) h))
+  together-keep (x ∷ l) h = go (p x) refl (together-keep l (together-tail ports (f x) (map f l) h))
     where
-      go : (b : Bool) → p x ≡ b → together (map f (keep p l)) ≡ true → together (map f (keep p (x ∷ l))) ≡ true
+      go : (b : Bool) → p x ≡ b → together ports (map f (keep p l)) ≡ true
+          → together ports (map f (keep p (x ∷ l))) ≡ true
       go true e rec = rw (keep-pass p x l e) (together-keep-after x l h rec)
       go false e rec = rw (keep-fail p x l e) rec
 
 -- the places take no part
-pub together-places : {A : Type 0} (c : A → Cell) (u v : A → Place) (l : List A)
-    → together (map (λ x. record { cell = c x; place = u x }) l)
-    ≡ together (map (λ x. record { cell = c x; place = v x }) l)
+pub together-places : (ports : ℕ) {A : Type 0} (c : A → Cell) (u v : A → Place) (l : List A)
+    → together ports (map (λ x. record { cell = c x; place = u x }) l)
+    ≡ together ports (map (λ x. record { cell = c x; place = v x }) l)
 unfolding together
-together-places c u v [] = refl
-together-places c u v (x ∷ []) = refl
-together-places c u v (x ∷ y ∷ l) =
-    ap₂ (λ n t. ((sameFlow (c x) (c y) && over (c x) (c y)) || n) && t)
+together-places ports c u v [] = refl
+together-places ports c u v (x ∷ []) = refl
+together-places ports c u v (x ∷ y ∷ l) =
+    ap₂ (λ n t. ((sameFlow (c x) (c y) && over ports (c x) (c y)) || n) && t)
     (none?-map (λ g. sameFlow (c x) (g .cell)) (λ z. record { cell = c z; place = u z }) (y ∷ l)
     ∙ sym (none?-map (λ g. sameFlow (c x) (g .cell)) (λ z. record { cell = c z; place = v z }) (y ∷ l)))
-    (together-places c u v (y ∷ l))
+    (together-places ports c u v (y ∷ l))
 
 -- one more of the flow of e right after e adds nothing to the other flows
 none-insert : (a : Entry) (l : List Entry) (e n : Entry) (post : List Entry) → ofFlow e n ≡ true
@@ -199,23 +210,24 @@ none-insert a l e n post s h = none?-i (ofFlow a) (l ++ e ∷ n ∷ post) (λ g 
     front g (inr m) = first g (List·Memᴰ·cases-cons m)
 
 -- one more cell right after the last one of its flow
-pub together-insert : (pre : List Entry) (e n : Entry) (post : List Entry) → together (pre ++ e ∷ post) ≡ true
-    → ofFlow e n ≡ true → over (e .cell) (n .cell) ≡ true → none? (ofFlow n) post ≡ true
-    → together (pre ++ e ∷ n ∷ post) ≡ true
-together-insert [] e n post h s o z =
-    together-cons e n post (follows s o) (together-front n post z (together-tail e post h))
-together-insert (a ∷ []) e n post h s o z =
-    together-cons a e (n ∷ post) (more (together-next a e post h))
-    (together-insert [] e n post (together-tail a (e ∷ post) h) s o z)
+pub together-insert : (ports : ℕ) (pre : List Entry) (e n : Entry) (post : List Entry)
+    → together ports (pre ++ e ∷ post) ≡ true
+    → ofFlow e n ≡ true → over ports (e .cell) (n .cell) ≡ true → none? (ofFlow n) post ≡ true
+    → together ports (pre ++ e ∷ n ∷ post) ≡ true
+together-insert ports [] e n post h s o z =
+    together-cons ports e n post (follows s o) (together-front ports n post z (together-tail ports e post h))
+together-insert ports (a ∷ []) e n post h s o z =
+    together-cons ports a e (n ∷ post) (more (together-next ports a e post h))
+    (together-insert ports [] e n post (together-tail ports a (e ∷ post) h) s o z)
   where
-    more : Next a e post → Next a e (n ∷ post)
+    more : Next ports a e post → Next ports a e (n ∷ post)
     more (follows t k) = follows t k
     more (last k) = last (none-insert a [] e n post s k)
-together-insert (a ∷ b ∷ pre) e n post h s o z =
-    together-cons a b (pre ++ e ∷ n ∷ post) (more (together-next a b (pre ++ e ∷ post) h))
-    (together-insert (b ∷ pre) e n post (together-tail a (b ∷ pre ++ e ∷ post) h) s o z)
+together-insert ports (a ∷ b ∷ pre) e n post h s o z =
+    together-cons ports a b (pre ++ e ∷ n ∷ post) (more (together-next ports a b (pre ++ e ∷ post) h))
+    (together-insert ports (b ∷ pre) e n post (together-tail ports a (b ∷ pre ++ e ∷ post) h) s o z)
   where
-    more : Next a b (pre ++ e ∷ post) → Next a b (pre ++ e ∷ n ∷ post)
+    more : Next ports a b (pre ++ e ∷ post) → Next ports a b (pre ++ e ∷ n ∷ post)
     more (follows t k) = follows t k
     more (last k) = last (none-insert a (b ∷ pre) e n post s k)
 
@@ -252,7 +264,7 @@ entry-i ports clock k e s = search (and-i, eq-eqb, lt-ltb) depth 9
 pub record SoundSection (ports clock k : ℕ) (es : List Entry) : Type 0 where
   pub short : length es ≤ sectionRoom
   pub entries : (e : Entry) → List·Memᴰ e es → SoundEntry ports clock k e
-  pub flows : together (keep (λ e. isListed (e .place)) es) ≡ true
+  pub flows : together ports (keep (λ e. isListed (e .place)) es) ≡ true
   pub slots : pairwise otherSlot es ≡ true
   pub crosspoints : pairwise otherCrosspoint es ≡ true
 

@@ -105,14 +105,14 @@ module _ (ports clock : ℕ) (sections : List (List Entry)) (sound : soundSectio
   -- of two listed cells of one flow the one ahead is over the other
   pub sound-flows : (e f : Waiting) → List·Memᴰ e (waiting sections) → List·Memᴰ f (waiting sections)
       → isListed (e .place) ≡ true → isListed (f .place) ≡ true
-      → sameFlow (e .cell) (f .cell) ≡ true → ahead e f ≡ true → over (e .cell) (f .cell) ≡ true
+      → sameFlow (e .cell) (f .cell) ≡ true → ahead e f ≡ true → over ports (e .cell) (f .cell) ≡ true
   sound-flows e f m n le lf s a = go (mem-waiting sections m) (mem-waiting sections n)
     where
       listed : Entry → Bool
       listed g = isListed (g .place)
 
       within : (k : ℕ) → Placed (sectionRoom * k) (getD sections k []) e
-          → List·Memᴰ f (numberFrom (sectionRoom * k) (getD sections k [])) → over (e .cell) (f .cell) ≡ true
+          → List·Memᴰ f (numberFrom (sectionRoom * k) (getD sections k [])) → over ports (e .cell) (f .cell) ≡ true
       within k p i =
           let later : List·Memᴰ (entryOf f) (p .post) =
           placed-later (sectionRoom * k) (getD sections k []) e f p i (ahead-at e f a) in
@@ -120,11 +120,11 @@ module _ (ports clock : ℕ) (sections : List (List Entry)) (sound : soundSectio
           ap (keep listed) (p .split)
           ∙ keep-append listed (p .pre) (entryOf e ∷ p .post)
           ∙ ap (λ r. keep listed (p .pre) ++ r) (keep-pass listed (entryOf e) (p .post) le) in
-          together-split (keep listed (p .pre)) (entryOf e) (keep listed (p .post))
+          together-split ports (keep listed (p .pre)) (entryOf e) (keep listed (p .post))
           (rw parts at (sound-section k .flows))
           (keep-mem listed later lf) s
 
-      go : Stands sections e → Stands sections f → over (e .cell) (f .cell) ≡ true
+      go : Stands sections e → Stands sections f → over ports (e .cell) (f .cell) ≡ true
       go v w =
           let one : w .input ≡ v .input =
           sym (stands-input sections sound-housed f w)
@@ -132,7 +132,7 @@ module _ (ports clock : ℕ) (sections : List (List Entry)) (sound : soundSectio
           ∙ stands-input sections sound-housed e v in
           within (v .input) (v .placed) (rw one at (w .mem))
 
-  pub sound-orderly : Orderly (waiting sections)
+  pub sound-orderly : Orderly ports (waiting sections)
   sound-orderly =
       record {
         numbers = numbers-differ sections sound-short;

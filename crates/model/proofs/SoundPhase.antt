@@ -53,16 +53,16 @@ apart-otherCrosspoint v w i h = rw (eq-eqb _ _ i) at h
 ------------------------------------------------------------------------
 -- one section
 
-module _ (p : Phase) (ws : List Waiting)
+module _ (ports : ℕ) (p : Phase) (ws : List Waiting)
     (forward : (w : Waiting) → List·Memᴰ w ws → isListed (placeAfter p w) ≡ true → isListed (w .place) ≡ true) where
   -- the listed cells are some of those that were listed
-  flows-moved : together (keep (λ e. isListed (e .place)) (map entryOf ws)) ≡ true
-      → together (keep (λ e. isListed (e .place)) (map (entryAfter p) ws)) ≡ true
+  flows-moved : together ports (keep (λ e. isListed (e .place)) (map entryOf ws)) ≡ true
+      → together ports (keep (λ e. isListed (e .place)) (map (entryAfter p) ws)) ≡ true
   flows-moved h =
-      ap together (keep-map (λ e. isListed (e .place)) (entryAfter p) ws ∙ ap (map (entryAfter p)) fewer)
-      ∙ together-places (λ w. w .cell) (placeAfter p) (λ w. w .place) (keep later (keep now ws))
-      ∙ together-keep entryOf later (keep now ws)
-      (ap together (sym (keep-map (λ e. isListed (e .place)) entryOf ws)) ∙ h)
+      ap (together ports) (keep-map (λ e. isListed (e .place)) (entryAfter p) ws ∙ ap (map (entryAfter p)) fewer)
+      ∙ together-places ports (λ w. w .cell) (placeAfter p) (λ w. w .place) (keep later (keep now ws))
+      ∙ together-keep ports entryOf later (keep now ws)
+      (ap (together ports) (sym (keep-map (λ e. isListed (e .place)) entryOf ws)) ∙ h)
     where
       now : Waiting → Bool
       now w = isListed (w .place)
@@ -78,9 +78,9 @@ module _ (p : Phase) (ws : List Waiting)
           (λ t. and-r (now w) (later w) t))
           ∙ sym (keep-keep now later ws)
 
-  section-moved : (ports clock k : ℕ) → SoundSection ports clock k (map entryOf ws)
+  section-moved : (clock k : ℕ) → SoundSection ports clock k (map entryOf ws)
       → pairwise otherCrosspoint (map (entryAfter p) ws) ≡ true → SoundSection ports clock k (map (entryAfter p) ws)
-  section-moved ports clock k s c =
+  section-moved clock k s c =
       record {
         short = rw (length-map ws (entryAfter p)) (rw (length-map ws entryOf) at (s .short));
         entries = λ e m. each e (Memᴰ·of-map (entryAfter p) ws m);
@@ -132,17 +132,17 @@ module _ (ports clock : ℕ) (p : Phase) (sections : List (List Entry)) (h : sou
   moved-sound =
       sections-i ports clock (moved p sections) (λ k.
       rw (moved-at p sections k)
-      (section-moved p (numberFrom (sectionRoom * k) (getD sections k []))
-      (λ w m. forward w (section-waiting sections k m)) ports clock k
+      (section-moved ports p (numberFrom (sectionRoom * k) (getD sections k []))
+      (λ w m. forward w (section-waiting sections k m)) clock k
       (rw (numberFrom-entries (sectionRoom * k) (getD sections k [])) (sections-e ports clock sections h k))
       (crosspoint-at k)))
 
 pub phase-sound : (ports clock : ℕ) (sections : List (List Entry)) → soundSections ports clock 0 sections ≡ true
-    → soundSections ports clock 0 (moved (phase (waiting sections)) sections) ≡ true
+    → soundSections ports clock 0 (moved (phase ports (waiting sections)) sections) ≡ true
 phase-sound ports clock sections h =
-    moved-sound ports clock (phase (waiting sections)) sections h
-    (λ e m. listed-forward (waiting sections) orderly m)
+    moved-sound ports clock (phase ports (waiting sections)) sections h
+    (λ e m. listed-forward ports (waiting sections) orderly m)
     (phase-crosspoint (waiting sections) orderly (sound-one-crosspoint ports clock sections h))
   where
-    orderly : Orderly (waiting sections)
+    orderly : Orderly ports (waiting sections)
     orderly = sound-orderly ports clock sections h

@@ -90,9 +90,9 @@ came s records = map (accepted (s .clock)) records
 -- the cells that stay
 pub run-cells : (s : Switch) (cs : List Cell) → cells (run s cs .switch)
     ≡ map (λ w. w .cell)
-    (keep (λ e. not (among (leaving (waiting (run s cs .settled))) e)) (waiting (run s cs .settled)))
+    (keep (λ e. not (among (leaving (s .ports) (waiting (run s cs .settled))) e)) (waiting (run s cs .settled)))
 unfolding run cells
-run-cells s cs = without-cells (leaving (waiting (run s cs .settled))) (run s cs .settled)
+run-cells s cs = without-cells (leaving (s .ports) (waiting (run s cs .settled))) (run s cs .settled)
 
 -- the phases move the cells that have come and lose none
 pub settled-cells : (s : Switch) (cs : List Cell)
@@ -119,7 +119,7 @@ module _ (s : Switch) (records : List Arrival) (h : sound s ≡ true) (fits : al
   unfolding run
   settled-sound = phase-sound (s .ports) (s .clock + 1) (run s (came s records) .between) between-sound
 
-  pub settled-orderly : Orderly (waiting (run s (came s records) .settled))
+  pub settled-orderly : Orderly (s .ports) (waiting (run s (came s records) .settled))
   settled-orderly =
       sound-orderly (s .ports) (s .clock + 1) (run s (came s records) .settled) settled-sound
 
@@ -155,7 +155,7 @@ module _ (s : Switch) (records : List Arrival) (h : sound s ≡ true) (fits : al
       table = sound-e s h
 
       out : List Waiting
-      out = leaving (waiting (run s (came s records) .settled))
+      out = leaving (s .ports) (waiting (run s (came s records) .settled))
 
 -- the switch after a call, whatever its outcome
 pub after-sound : (s : Switch) (a : Option (List Arrival)) → sound s ≡ true → lent a ≡ true

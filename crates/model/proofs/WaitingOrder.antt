@@ -4,7 +4,7 @@
 --     ahead-strict, beats-strict    strict orders
 --     same-number, among-e          in an orderly list a number has one cell
 --     ahead-total, beats-total      and of two cells of one input, or to one output, one goes first
-use Prim.Native.Nat.{_<_, _≤_}
+use Prim.Native.Nat.{ℕ, _<_, _≤_}
 use native.Mathlib.Omega.{arith}
 use mathlib.Core.Bool.{Bool, true, false, _&&_}
 use mathlib.Core.Path.{_≡_, refl, sym, _∙_}
@@ -67,17 +67,18 @@ module _ (e f : Waiting) where
   unfolding ahead
   ahead-at h = ltb-true _ _ (and-r (sameInput e f) (ltb (e .at) (f .at)) h)
 
-  pub beats-i : e .cell .output ≡ f .cell .output → over (e .cell) (f .cell) ≡ true → beats e f ≡ true
+module _ (ports : ℕ) (e f : Waiting) where
+  pub beats-i : e .cell .output ≡ f .cell .output → over ports (e .cell) (f .cell) ≡ true → beats ports e f ≡ true
   unfolding beats
-  beats-i h k = and-i (sameOutput e f) (over (e .cell) (f .cell)) (output-i h) k
+  beats-i h k = and-i (sameOutput e f) (over ports (e .cell) (f .cell)) (output-i e f h) k
 
-  pub beats-output : beats e f ≡ true → e .cell .output ≡ f .cell .output
+  pub beats-output : beats ports e f ≡ true → e .cell .output ≡ f .cell .output
   unfolding beats
-  beats-output h = output-e (and-l (sameOutput e f) (over (e .cell) (f .cell)) h)
+  beats-output h = output-e e f (and-l (sameOutput e f) (over ports (e .cell) (f .cell)) h)
 
-  pub beats-over : beats e f ≡ true → over (e .cell) (f .cell) ≡ true
+  pub beats-over : beats ports e f ≡ true → over ports (e .cell) (f .cell) ≡ true
   unfolding beats
-  beats-over h = and-r (sameOutput e f) (over (e .cell) (f .cell)) h
+  beats-over h = and-r (sameOutput e f) (over ports (e .cell) (f .cell)) h
 
 ------------------------------------------------------------------------
 -- strict orders
@@ -96,17 +97,18 @@ ahead-trans e f g h k =
 pub ahead-strict : Strict ahead
 ahead-strict = record { irreflexive = ahead-irrefl; transitive = ahead-trans }
 
-pub beats-irrefl : (e : Waiting) → beats e e ≡ false
+pub beats-irrefl : (ports : ℕ) (e : Waiting) → beats ports e e ≡ false
 unfolding beats
-beats-irrefl e = and-false-r (sameOutput e e) (over (e .cell) (e .cell)) (over-irrefl (e .cell))
+beats-irrefl ports e = and-false-r (sameOutput e e) (over ports (e .cell) (e .cell)) (over-irrefl ports (e .cell))
 
-pub beats-trans : (e f g : Waiting) → beats e f ≡ true → beats f g ≡ true → beats e g ≡ true
-beats-trans e f g h k =
-    beats-i e g (beats-output e f h ∙ beats-output f g k)
-    (over-trans (e .cell) (f .cell) (g .cell) (beats-over e f h) (beats-over f g k))
+pub beats-trans : (ports : ℕ) (e f g : Waiting) → beats ports e f ≡ true → beats ports f g ≡ true
+    → beats ports e g ≡ true
+beats-trans ports e f g h k =
+    beats-i ports e g (beats-output ports e f h ∙ beats-output ports f g k)
+    (over-trans ports (e .cell) (f .cell) (g .cell) (beats-over ports e f h) (beats-over ports f g k))
 
-pub beats-strict : Strict beats
-beats-strict = record { irreflexive = beats-irrefl; transitive = beats-trans }
+pub beats-strict : (ports : ℕ) → Strict (beats ports)
+beats-strict ports = record { irreflexive = beats-irrefl ports; transitive = beats-trans ports }
 
 ------------------------------------------------------------------------
 -- a member is among
@@ -145,7 +147,7 @@ same-number {all} numbers {e} {f} m k h = go (pairwise-e otherNumber all numbers
     go (inr (inl n)) = absurd (eqb-false _ _ (not-true (eqb (e .at) (f .at)) n) h)
     go (inr (inr n)) = absurd (eqb-false _ _ (not-true (eqb (f .at) (e .at)) n) (sym h))
 
-module _ {all : List Waiting} (o : Orderly all) where
+module _ {ports : ℕ} {all : List Waiting} (o : Orderly ports all) where
   -- what is among members is a member
   pub among-e : (l : List Waiting) {e : Waiting} → ((f : Waiting) → List·Memᴰ f l → List·Memᴰ f all)
       → List·Memᴰ e all → among l e ≡ true → List·Memᴰ e l
@@ -166,21 +168,21 @@ module _ {all : List Waiting} (o : Orderly all) where
 
   -- of two cells that go to one output, one has the higher priority
   pub beats-total : {e f : Waiting} → List·Memᴰ e all → List·Memᴰ f all → e .cell .output ≡ f .cell .output
-      → (e ≡ f) ⊎ ((beats e f ≡ true) ⊎ (beats f e ≡ true))
+      → (e ≡ f) ⊎ ((beats ports e f ≡ true) ⊎ (beats ports f e ≡ true))
   beats-total {e} {f} m k h = go (pairwise-e otherArrival all (o .arrivals) m k)
     where
-      one : (over (e .cell) (f .cell) ≡ true) ⊎ (over (f .cell) (e .cell) ≡ true)
-          → (e ≡ f) ⊎ ((beats e f ≡ true) ⊎ (beats f e ≡ true))
-      one (inl a) = inr (inl (beats-i e f h a))
-      one (inr a) = inr (inr (beats-i f e (sym h) a))
+      one : (over ports (e .cell) (f .cell) ≡ true) ⊎ (over ports (f .cell) (e .cell) ≡ true)
+          → (e ≡ f) ⊎ ((beats ports e f ≡ true) ⊎ (beats ports f e ≡ true))
+      one (inl a) = inr (inl (beats-i ports e f h a))
+      one (inr a) = inr (inr (beats-i ports f e (sym h) a))
 
-      other : (over (f .cell) (e .cell) ≡ true) ⊎ (over (e .cell) (f .cell) ≡ true)
-          → (e ≡ f) ⊎ ((beats e f ≡ true) ⊎ (beats f e ≡ true))
+      other : (over ports (f .cell) (e .cell) ≡ true) ⊎ (over ports (e .cell) (f .cell) ≡ true)
+          → (e ≡ f) ⊎ ((beats ports e f ≡ true) ⊎ (beats ports f e ≡ true))
       other (inl a) = one (inr a)
       other (inr a) = one (inl a)
 
       go : (e ≡ f) ⊎ ((otherArrival e f ≡ true) ⊎ (otherArrival f e ≡ true))
-          → (e ≡ f) ⊎ ((beats e f ≡ true) ⊎ (beats f e ≡ true))
+          → (e ≡ f) ⊎ ((beats ports e f ≡ true) ⊎ (beats ports f e ≡ true))
       go (inl p) = inl p
-      go (inr (inl n)) = one (over-total (e .cell) (f .cell) (differ e f n))
-      go (inr (inr n)) = other (over-total (f .cell) (e .cell) (differ f e n))
+      go (inr (inl n)) = one (over-total ports (e .cell) (f .cell) (differ e f n))
+      go (inr (inr n)) = other (over-total ports (f .cell) (e .cell) (differ f e n))

@@ -39,8 +39,8 @@ arrive [] sections = sections
 arrive (c ∷ cs) sections = arrive cs (update (c .input) (enter c) sections)
 
 -- Departure. Each output sends the cell of highest output priority in its buffer, if it has one.
-unfoldable pub leaving : List Waiting → List Waiting
-leaving all = least beats (keep (λ e. isBuffered (e .place)) all)
+unfoldable pub leaving : ℕ → List Waiting → List Waiting
+leaving ports all = least (beats ports) (keep (λ e. isBuffered (e .place)) all)
 
 -- for each output the cell that it sends, or none
 unfoldable pub departuresOf : ℕ → List Waiting → List (Option Cell)
@@ -65,11 +65,11 @@ pub record Course : Type 0 where
 unfoldable pub run : Switch → List Cell → Course
 run s cs =
     let arrived = arrive cs (s .sections) in
-    let one = phase (waiting arrived) in
+    let one = phase (s .ports) (waiting arrived) in
     let between = moved one arrived in
-    let two = phase (waiting between) in
+    let two = phase (s .ports) (waiting between) in
     let settled = moved two between in
-    let out = leaving (waiting settled) in
+    let out = leaving (s .ports) (waiting settled) in
     record {
       arrived = arrived;
       one = one;

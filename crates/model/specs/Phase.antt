@@ -58,8 +58,8 @@ unfoldable pub ahead : Waiting → Waiting → Bool
 ahead e f = sameInput e f && ltb (e .at) (f .at)
 
 -- both go to one output, and e has the higher output priority
-unfoldable pub beats : Waiting → Waiting → Bool
-beats e f = sameOutput e f && over (e .cell) (f .cell)
+unfoldable pub beats : ℕ → Waiting → Waiting → Bool
+beats ports e f = sameOutput e f && over ports (e .cell) (f .cell)
 
 unfoldable pub among : List Waiting → Waiting → Bool
 among l e = some? (λ f. eqb (f .at) (e .at)) l
@@ -73,31 +73,31 @@ unfoldable pub heads : List Waiting → List Waiting
 heads lists = least (λ e f. sameFlow (e .cell) (f .cell) && ahead e f) lists
 
 -- a head is blocked if its crosspoint holds a cell of lower output priority; otherwise it is normal
-unfoldable pub blocked : List Waiting → Waiting → Bool
-blocked crosspoints h = some? (λ x. sameCrosspoint h x && beats h x) crosspoints
+unfoldable pub blocked : ℕ → List Waiting → Waiting → Bool
+blocked ports crosspoints h = some? (λ x. sameCrosspoint h x && beats ports h x) crosspoints
 
 -- its crosspoint is empty
 unfoldable pub crosspointEmpty : List Waiting → Waiting → Bool
 crosspointEmpty crosspoints h = none? (sameCrosspoint h) crosspoints
 
 -- it is normal, and its crosspoint is empty
-unfoldable pub ready : List Waiting → Waiting → Bool
-ready crosspoints h = not (blocked crosspoints h) && crosspointEmpty crosspoints h
+unfoldable pub ready : ℕ → List Waiting → Waiting → Bool
+ready ports crosspoints h = not (blocked ports crosspoints h) && crosspointEmpty crosspoints h
 
 -- 2. the scheduled cell of an input is the first normal head in its list whose crosspoint is empty, if there is one
-unfoldable pub scheduled : List Waiting → List Waiting → List Waiting
-scheduled crosspoints hs = least ahead (keep (ready crosspoints) hs)
+unfoldable pub scheduled : ℕ → List Waiting → List Waiting → List Waiting
+scheduled ports crosspoints hs = least ahead (keep (ready ports crosspoints) hs)
 
 -- 3. a blocked head is urgent if it stands before the scheduled cell of its input (or there is none) and has higher
 -- output priority than every cell in the crosspoints of its output
-unfoldable pub isUrgent : List Waiting → List Waiting → Waiting → Bool
-isUrgent crosspoints ss h =
-    blocked crosspoints h
+unfoldable pub isUrgent : ℕ → List Waiting → List Waiting → Waiting → Bool
+isUrgent ports crosspoints ss h =
+    blocked ports crosspoints h
     && (all? (ahead h) (keep (sameInput h) ss)
-    && all? (beats h) (keep (sameOutput h) crosspoints))
+    && all? (beats ports h) (keep (sameOutput h) crosspoints))
 
-unfoldable pub urgent : List Waiting → List Waiting → List Waiting → List Waiting
-urgent crosspoints ss hs = keep (isUrgent crosspoints ss) hs
+unfoldable pub urgent : ℕ → List Waiting → List Waiting → List Waiting → List Waiting
+urgent ports crosspoints ss hs = keep (isUrgent ports crosspoints ss) hs
 
 -- 4. the urgent cells and those scheduled cells that stand first in their list are matched, if a cell is urgent
 unfoldable pub takesPart : List Waiting → List Waiting → List Waiting → Waiting → Bool
@@ -124,8 +124,8 @@ unfoldable pub occupancy : ℕ → List Waiting → ℕ → ℕ
 occupancy ports filled output = count (λ input. some? (atCrosspoint input output) filled) (upTo ports)
 
 -- the cell of highest output priority among those of some cells that go to an output, if there is one
-unfoldable pub bestFor : List Waiting → ℕ → Option Waiting
-bestFor filled output = first? (keep (λ x. eqb (x .cell .output) output) (least beats filled))
+unfoldable pub bestFor : ℕ → List Waiting → ℕ → Option Waiting
+bestFor ports filled output = first? (keep (λ x. eqb (x .cell .output) output) (least (beats ports) filled))
 
 -- 6. The choice of an output, made after the sending, among the cells at its crosspoints, those just filled included: the
 -- one of highest output priority, if there is one, and how many of its crosspoints hold a cell. An output to which a
@@ -135,11 +135,11 @@ pub record OutputChoice : Type 0 where
   pub occupancy : ℕ
 
 unfoldable pub outputChoice : ℕ → List Waiting → ℕ → OutputChoice
-outputChoice ports filled output = record { best = bestFor filled output; occupancy = occupancy ports filled output }
+outputChoice ports filled output = record { best = bestFor ports filled output; occupancy = occupancy ports filled output }
 
 -- an output that got no straight cell takes the best
-unfoldable pub pulled : List Waiting → List Waiting → List Waiting
-pulled filled straights = keep (λ x. none? (sameOutput x) straights) (least beats filled)
+unfoldable pub pulled : ℕ → List Waiting → List Waiting → List Waiting
+pulled ports filled straights = keep (λ x. none? (sameOutput x) straights) (least (beats ports) filled)
 
 pub record Phase : Type 0 where
   pub scheduled : List Waiting
@@ -152,13 +152,14 @@ pub record Phase : Type 0 where
   pub filled : List Waiting
   pub pulled : List Waiting
 
-unfoldable pub phase : List Waiting → Phase
-phase all =
+-- a phase of a switch of so many ports
+unfoldable pub phase : ℕ → List Waiting → Phase
+phase ports all =
     let hs = heads (lists all) in
-    let ss = scheduled (crosspoints all) hs in
-    let us = urgent (crosspoints all) ss hs in
+    let ss = scheduled ports (crosspoints all) hs in
+    let us = urgent ports (crosspoints all) ss hs in
     let cs = candidates (lists all) us ss in
-    let ms = matched ahead beats cs in
+    let ms = matched ahead (beats ports) cs in
     let straights = straight us ms in
     let sents = sent ss straights in
     let full = crosspoints all ++ sents in
@@ -167,11 +168,11 @@ phase all =
       urgent = us;
       candidates = cs;
       matched = ms;
-      proposals = proposals ahead beats cs;
+      proposals = proposals ahead (beats ports) cs;
       straight = straights;
       sent = sents;
       filled = full;
-      pulled = pulled full straights;
+      pulled = pulled ports full straights;
     }
 
 -- where a cell is after rule 5, before the outputs choose

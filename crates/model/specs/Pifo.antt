@@ -33,13 +33,13 @@ join [] queues = queues
 join (c ∷ cs) queues = join cs (update (c .output) (λ q. q ++ (c ∷ [])) queues)
 
 -- the cell of highest output priority in a queue, if any
-unfoldable pub best : List Cell → Option Cell
-best q = first? (least over q)
+unfoldable pub best : ℕ → List Cell → Option Cell
+best ports q = first? (least (over ports) q)
 
 -- the queue without it: all cells that another is over. On the queues that occur, where no two cells share input and
 -- slot, just the best cell goes (`rest-just-best` in proofs/PifoRest).
-unfoldable pub rest : List Cell → List Cell
-rest q = keep (λ c. some? (λ d. over d c) q) q
+unfoldable pub rest : ℕ → List Cell → List Cell
+rest ports q = keep (λ c. some? (λ d. over ports d c) q) q
 
 -- An accepted slot: for each output the cell that it sends, or none, and the switch after it.
 pub record Sent : Type 0 where
@@ -50,8 +50,8 @@ unfoldable pub runPifo : Pifo → List Cell → Sent
 runPifo s cs =
     let queues = join cs (s .queues) in
     record {
-      departures = map best queues;
-      pifo = record { ports = s .ports; clock = s .clock + 1; queues = map rest queues };
+      departures = map (best (s .ports)) queues;
+      pifo = record { ports = s .ports; clock = s .clock + 1; queues = map (rest (s .ports)) queues };
     }
 
 -- 1. arrivals that are no whole number of records, then the clock's end; 2. the checks of the records, with the cells

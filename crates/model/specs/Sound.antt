@@ -22,12 +22,13 @@ soundEntry ports clock input e =
 
 -- in a list the cells of a flow stand together in output priority: the next one is of the same flow and comes after,
 -- or no later one is of the same flow
-unfoldable pub together : List Entry → Bool
-together [] = true
-together (e ∷ []) = true
-together (e ∷ f ∷ es) =
-    ((sameFlow (e .cell) (f .cell) && over (e .cell) (f .cell)) || none? (λ g. sameFlow (e .cell) (g .cell)) (f ∷ es))
-    && together (f ∷ es)
+unfoldable pub together : ℕ → List Entry → Bool
+together ports [] = true
+together ports (e ∷ []) = true
+together ports (e ∷ f ∷ es) =
+    ((sameFlow (e .cell) (f .cell) && over ports (e .cell) (f .cell))
+    || none? (λ g. sameFlow (e .cell) (g .cell)) (f ∷ es))
+    && together ports (f ∷ es)
 
 -- no two cells share input and slot
 unfoldable pub otherSlot : Entry → Entry → Bool
@@ -42,7 +43,7 @@ unfoldable pub soundSection : ℕ → ℕ → ℕ → List Entry → Bool
 soundSection ports clock input es =
     leb (length es) sectionRoom
     && (all? (soundEntry ports clock input) es
-    && (together (keep (λ e. isListed (e .place)) es)
+    && (together ports (keep (λ e. isListed (e .place)) es)
     && (pairwise otherSlot es
     && pairwise otherCrosspoint es)))
 

@@ -47,18 +47,18 @@ abbrev ofFlow : Entry → Entry → Bool
 ofFlow e g = sameFlow (e .cell) (g .cell)
 
 -- e may stand behind l, of which f is the last: f is of its flow and goes before it, or none of l is of its flow
-joins : Entry → Entry → List Entry → Bool
-joins f e l = cond (ofFlow f e) (over (f .cell) (e .cell)) (none? (λ x. ofFlow x e) l)
+joins : ℕ → Entry → Entry → List Entry → Bool
+joins ports f e l = cond (ofFlow f e) (over ports (f .cell) (e .cell)) (none? (λ x. ofFlow x e) l)
 
-module _ (x y f e : Entry) (r : List Entry) (last : List·Memᴰ f (y ∷ r)) where
+module _ (ports : ℕ) (x y f e : Entry) (r : List Entry) (last : List·Memᴰ f (y ∷ r)) where
   -- one of x's flow right behind it: where e is of that flow, so is one of those between
-  follows-some : (ofFlow x y && over (x .cell) (y .cell)) ≡ true → ofFlow x e ≡ true
+  follows-some : (ofFlow x y && over ports (x .cell) (y .cell)) ≡ true → ofFlow x e ≡ true
       → none? (λ g. ofFlow g e) (y ∷ r) ≡ false
   follows-some h t =
       none?-false (λ g. ofFlow g e) (y ∷ r)
       (some?-i (λ g. ofFlow g e) (List·Memᴰ·head refl)
       (flow-trans (y .cell) (x .cell) (e .cell)
-      (flow-sym (x .cell) (y .cell) (and-l (ofFlow x y) (over (x .cell) (y .cell)) h)) t))
+      (flow-sym (x .cell) (y .cell) (and-l (ofFlow x y) (over ports (x .cell) (y .cell)) h)) t))
 
   -- none of x's flow behind it: where e is of that flow, the last is not of e's
   none-last : none? (ofFlow x) (y ∷ r) ≡ true → ofFlow x e ≡ true → ofFlow f e ≡ false
@@ -66,13 +66,15 @@ module _ (x y f e : Entry) (r : List Entry) (last : List·Memᴰ f (y ∷ r)) wh
       by-fail (ofFlow f e) (λ s.
       clash (flow-trans (x .cell) (e .cell) (f .cell) t (flow-sym (f .cell) (e .cell) s)) (none?-e (ofFlow x) h last))
 
-  together-more : together ((y ∷ r) ++ (e ∷ [])) ≡ (together (y ∷ r) && joins f e (y ∷ r))
-      → together (x ∷ (y ∷ r) ++ (e ∷ [])) ≡ (together (x ∷ y ∷ r) && joins f e (x ∷ y ∷ r))
+  together-more : together ports ((y ∷ r) ++ (e ∷ [])) ≡ (together ports (y ∷ r) && joins ports f e (y ∷ r))
+      → together ports (x ∷ (y ∷ r) ++ (e ∷ [])) ≡ (together ports (x ∷ y ∷ r) && joins ports f e (x ∷ y ∷ r))
   unfolding together none? joins
   together-more rec =
-      ap₂ (λ a b. ((ofFlow x y && over (x .cell) (y .cell)) || a) && b) (none?-append (ofFlow x) (y ∷ r) (e ∷ [])) rec
-      ∙ go (ofFlow x y && over (x .cell) (y .cell)) (none? (ofFlow x) (y ∷ r)) (ofFlow x e) (together (y ∷ r))
-      (ofFlow f e) (over (f .cell) (e .cell)) (none? (λ g. ofFlow g e) (y ∷ r)) follows-some none-last
+      ap₂ (λ a b. ((ofFlow x y && over ports (x .cell) (y .cell)) || a) && b)
+      (none?-append (ofFlow x) (y ∷ r) (e ∷ [])) rec
+      ∙ go (ofFlow x y && over ports (x .cell) (y .cell)) (none? (ofFlow x) (y ∷ r)) (ofFlow x e)
+      (together ports (y ∷ r))
+      (ofFlow f e) (over ports (f .cell) (e .cell)) (none? (λ g. ofFlow g e) (y ∷ r)) follows-some none-last
     where
       go : (follows none this t same first others : Bool) → (follows ≡ true → this ≡ true → others ≡ false)
           → (none ≡ true → this ≡ true → same ≡ false)
@@ -85,18 +87,19 @@ module _ (x y f e : Entry) (r : List Entry) (last : List·Memᴰ f (y ∷ r)) wh
       go false true false t same first others h k = refl
       go false false this t same first others h k = refl
 
-together-snoc : (p : List Entry) (f e : Entry)
-    → together ((p ++ (f ∷ [])) ++ (e ∷ [])) ≡ (together (p ++ (f ∷ [])) && joins f e (p ++ (f ∷ [])))
+together-snoc : (ports : ℕ) (p : List Entry) (f e : Entry)
+    → together ports ((p ++ (f ∷ [])) ++ (e ∷ [])) ≡ (together ports (p ++ (f ∷ [])) && joins ports f e (p ++ (f ∷ [])))
 unfolding together none? joins
-together-snoc [] f e = go (ofFlow f e) (over (f .cell) (e .cell))
+together-snoc ports [] f e = go (ofFlow f e) (over ports (f .cell) (e .cell))
   where
     go : (s o : Bool) → (((s && o) || (not s && true)) && true) ≡ (true && cond s o (not s && true))
     go true true = refl
     go true false = refl
     go false o = refl
-together-snoc (x ∷ []) f e = together-more x f f e [] (List·Memᴰ·head refl) (together-snoc [] f e)
-together-snoc (x ∷ z ∷ q) f e =
-    together-more x z f e (q ++ (f ∷ [])) (Memᴰ·append-right (z ∷ q) (List·Memᴰ·head refl)) (together-snoc (z ∷ q) f e)
+together-snoc ports (x ∷ []) f e = together-more ports x f f e [] (List·Memᴰ·head refl) (together-snoc ports [] f e)
+together-snoc ports (x ∷ z ∷ q) f e =
+    together-more ports x z f e (q ++ (f ∷ [])) (Memᴰ·append-right (z ∷ q) (List·Memᴰ·head refl))
+    (together-snoc ports (z ∷ q) f e)
 
 ------------------------------------------------------------------------
 -- the flows of an input by number
@@ -151,9 +154,9 @@ module _ {first : ℕ} {e g : Entry} (he : Good first e) (hg : Good first g) whe
       flow-i (record { input = he .input ∙ sym (hg .input); output = omega arith; flow = omega arith }))
 
   -- which goes first, by key
-  key-first : over (e .cell) (g .cell) ≡ not (leb (key (g .cell)) (key (e .cell)))
-  key-first =
-      over-key-input (e .cell) (g .cell) (he .slot) (hg .slot) (he .input ∙ sym (hg .input))
+  key-first : (ports : ℕ) → over ports (e .cell) (g .cell) ≡ not (leb (key (g .cell)) (key (e .cell)))
+  key-first ports =
+      over-key-input ports (e .cell) (g .cell) (he .slot) (hg .slot) (he .input ∙ sym (hg .input))
       ∙ turned (key (e .cell)) (key (g .cell)) (either (ltb (key (e .cell)) (key (g .cell))))
     where
       turned : (m n : ℕ) → (ltb m n ≡ true) ⊎ (ltb m n ≡ false) → ltb m n ≡ not (leb n m)
@@ -248,7 +251,7 @@ pub record Flows (bs : List ℕ) (first set mark : ℕ) (marks : List ℕ) (brok
     : Type 0 where
   pub passed : List ℕ
   pub visited : Visited set passed left
-  pub stand : not broken ≡ together (entriesAt bs first passed)
+  pub stand : (ports : ℕ) → not broken ≡ together ports (entriesAt bs first passed)
   pub few : heads < 2 ^ positions
   pub gathered : (j : ℕ) → j < positions → has heads j ≡ (not (has left j) && isFirstOfFlow bs first set j)
   pub marked : Marked mark marks (λ n. some? (flowIs n) (entriesAt bs first passed))
@@ -262,7 +265,7 @@ module _ (bs : List ℕ) (first chosen mark : ℕ) (marks : List ℕ) where
       record {
         passed = [];
         visited = visited-start chosen fits;
-        stand = refl;
+        stand = λ ports. refl;
         few = omega arith;
         gathered = λ j h. has-past 0 0 j (omega arith) (omega arith) ∙ nothing (has chosen j) _;
         marked = marked-none mark marks (λ n. some? (flowIs n) []) below (λ n. refl);
@@ -275,9 +278,10 @@ module _ (bs : List ℕ) (first chosen mark : ℕ) (marks : List ℕ) where
 
   module _ (broken : Bool) (heads flow number left : ℕ)
       (w : Flows bs first chosen mark marks broken heads flow number left) where
-    pub flows-end : left ≡ 0 → not broken ≡ together (entriesIn bs first chosen)
+    pub flows-end : left ≡ 0 → (ports : ℕ) → not broken ≡ together ports (entriesIn bs first chosen)
     unfolding entriesIn
-    flows-end done = w .stand ∙ ap (λ js. together (entriesAt bs first js)) (sym (visited-end (w .visited) done))
+    flows-end done ports =
+        w .stand ports ∙ ap (λ js. together ports (entriesAt bs first js)) (sym (visited-end (w .visited) done))
 
     pub flows-heads : left ≡ 0 → heads ≡ headsIn bs first chosen
     unfolding headsIn
@@ -319,10 +323,11 @@ module _ (bs : List ℕ) (first chosen mark : ℕ) (marks : List ℕ) where
             ∙ some?-ext (flowIs n) (λ x. ofFlow x this) before
             (λ x m. ap (eqb (flowNumber x)) is ∙ sym (flow-number (before-good m) this-good))
 
-        fits-behind : (not broken && not (breaksFlow (eqb n flow) (leb k number) (eqb (getD marks n 0) mark)))
-            ≡ together (before ++ (this ∷ []))
+        fits-behind : (ports : ℕ)
+            → (not broken && not (breaksFlow (eqb n flow) (leb k number) (eqb (getD marks n 0) mark)))
+            ≡ together ports (before ++ (this ∷ []))
         unfolding breaksFlow together some? joins
-        fits-behind = go (w .ends)
+        fits-behind ports = go (w .ends)
           where
             split : (same early met : Bool) → not (cond same early met) ≡ cond same (not early) (not met)
             split true early met = refl
@@ -330,32 +335,32 @@ module _ (bs : List ℕ) (first chosen mark : ℕ) (marks : List ℕ) where
 
             go : Ends before flow number
                 → (not broken && not (breaksFlow (eqb n flow) (leb k number) (eqb (getD marks n 0) mark)))
-                ≡ together (before ++ (this ∷ []))
+                ≡ together ports (before ++ (this ∷ []))
             go (none empty start) =
                 let other : eqb n flow ≡ false = ne-eqb n flow (λ e. omega arith) in
-                ap₂ (λ b t. b && not t) (w .stand ∙ ap together empty)
+                ap₂ (λ b t. b && not t) (w .stand ports ∙ ap (together ports) empty)
                 (ap (λ s. breaksFlow s (leb k number) (eqb (getD marks n 0) mark)) other
                 ∙ met
                 ∙ ap (some? (λ x. ofFlow x this)) empty)
-                ∙ sym (ap (λ l. together (l ++ (this ∷ []))) empty)
+                ∙ sym (ap (λ l. together ports (l ++ (this ∷ []))) empty)
             go (last p f is-last flow-is number-is) =
                 let here : List·Memᴰ f before =
                 subst (List·Memᴰ f) (sym is-last) (Memᴰ·append-right p (List·Memᴰ·head refl)) in
                 let hf = before-good here in
                 let flows : eqb n flow ≡ ofFlow f this =
                 ap₂ eqb is flow-is ∙ eqb-turned (flowNumber this) (flowNumber f) ∙ sym (flow-number hf this-good) in
-                let order : not (leb k number) ≡ over (f .cell) (this .cell) =
-                ap₂ (λ x y. not (leb x y)) keyed number-is ∙ sym (key-first hf this-good) in
+                let order : not (leb k number) ≡ over ports (f .cell) (this .cell) =
+                ap₂ (λ x y. not (leb x y)) keyed number-is ∙ sym (key-first hf this-good ports) in
                 let others : not (eqb (getD marks n 0) mark) ≡ none? (λ x. ofFlow x this) before =
                 ap not met ∙ sym (none?-not-some? (λ x. ofFlow x this) before) in
-                ap₂ _&&_ (w .stand)
+                ap₂ _&&_ (w .stand ports)
                 (split (eqb n flow) (leb k number) (eqb (getD marks n 0) mark)
                 ∙ ap (λ s. cond s (not (leb k number)) (not (eqb (getD marks n 0) mark))) flows
                 ∙ ap₂ (λ o m. cond (ofFlow f this) o m) order others)
                 ∙ sym
-                (ap (λ l. together (l ++ (this ∷ []))) is-last
-                ∙ together-snoc p f this
-                ∙ ap (λ l. together l && joins f this l) (sym is-last))
+                (ap (λ l. together ports (l ++ (this ∷ []))) is-last
+                ∙ together-snoc ports p f this
+                ∙ ap (λ l. together ports l && joins ports f this l) (sym is-last))
 
         -- it is a head unless its flow was met
         head : isFirstOfFlow bs first chosen (firstOf left) ≡ not (eqb (getD marks n 0) mark)
@@ -409,7 +414,7 @@ module _ (bs : List ℕ) (first chosen mark : ℕ) (marks : List ℕ) where
             record {
               passed = w .passed ++ (firstOf left ∷ []);
               visited = visited-next (w .visited) some;
-              stand = not-or broken _ ∙ fits-behind ∙ ap together (sym more);
+              stand = λ ports. not-or broken _ ∙ fits-behind ports ∙ ap (together ports) (sym more);
               few = heads-few (not (eqb (getD marks n 0) mark));
               gathered = heads-next (not (eqb (getD marks n 0) mark)) head;
               marked =

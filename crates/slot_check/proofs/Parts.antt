@@ -202,7 +202,7 @@ record Asked (ports clock : ℕ) (bs : List ℕ) (i : ℕ) : Type 0 where
   count : countIn bs i ≤ roomOf ports i
   entries : all? (isEntry ports clock bs) (between (firstRecord i) (firstRecord i + countIn bs i)) ≡ true
   unused : all? (isUnused bs) (between (firstRecord i + countIn bs i) (firstRecord i + sectionRoom)) ≡ true
-  lists : together (keep (λ e. isListed (e .place)) (sectionAt bs i)) ≡ true
+  lists : together ports (keep (λ e. isListed (e .place)) (sectionAt bs i)) ≡ true
   slots : pairwise otherSlot (sectionAt bs i) ≡ true
   crosspoints : pairwise otherCrosspoint (sectionAt bs i) ≡ true
 

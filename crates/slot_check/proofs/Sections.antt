@@ -43,7 +43,7 @@ module _ (ports clock : ℕ) (bs : List ℕ) (first end : ℕ) where
   crosspointsDiffer = pairwise otherCrosspoint (entriesBetween bs first end)
 
   abbrev flowsTogether : Bool
-  flowsTogether = together (keep (λ e. isListed (e .place)) (entriesBetween bs first end))
+  flowsTogether = together ports (keep (λ e. isListed (e .place)) (entriesBetween bs first end))
 
   pub unsound-entry : entryByEntry ≡ false → false ≡ areSound ports clock bs first end
   unfolding areSound

@@ -44,7 +44,7 @@ areSound ports clock bs first end =
     all? (isEntry ports clock bs) (between first end)
     && (pairwise otherSlot (entriesBetween bs first end)
     && (pairwise otherCrosspoint (entriesBetween bs first end)
-    && together (keep (λ e. isListed (e .place)) (entriesBetween bs first end))))
+    && together ports (keep (λ e. isListed (e .place)) (entriesBetween bs first end))))
 
 -- the section of an input: its count, its unused records, and its entries
 unfoldable pub isSection : ℕ → ℕ → List ℕ → ℕ → Bool

@@ -10,7 +10,7 @@ use layout_table::entry;
 use layout_table::header;
 ghost use mathlib.Core.Bool.{true, false, not, _||_};
 ghost use mathlib.Core.Path.{_≡_};
-ghost use Prim.Native.Nat.{_+_, _-_, _*_, _/_, _%_, _<_, _≤_};
+ghost use Prim.Native.Nat.{ℕ, _+_, _-_, _*_, _/_, _%_, _<_, _≤_};
 ghost use lib.Dec.{eqb};
 ghost use lib.ListN.{length};
 ghost use Rattle.laws.specs.Lists.{some?, all?, pairwise, between};
@@ -395,13 +395,13 @@ fn crosspoints_differ(bytes: &[u8], first: usize, crossed: u64) -> bool
 }
 
 // Whether of the entries at these positions the cells of each flow stand together in output priority, and which are the
-// first of their flow. `last` is the flow of the entry before; the flows passed are marked. Nothing branches on them,
-// as that would be guessed badly.
+// first of their flow. They are of one input, so none ties with another, whatever the number of ports. `last` is the flow
+// of the entry before; the flows passed are marked. Nothing branches on them, as that would be guessed badly.
 fn flows_together(bytes: &[u8], first: usize, listed: u64, mark: u8, marks: &mut [u8; 256]) -> Flows
     requires { ⌜ (length (now bytes) ≡ tableSize) × (first + sectionRoom ≤ entryLimit) × (first % sectionRoom ≡ 0) ⌝ }
     requires { ⌜ all? inRange (entriesIn (now bytes) first listed) ≡ true ⌝ }
     requires { ⌜ MarksBelow mark (now marks) ⌝ }
-    ensures { λ r. ⌜ r .together ≡ together (entriesIn (now (bytes .entry)) first listed) ⌝ }
+    ensures { λ r. ⌜ ((ports : ℕ) → r .together ≡ together ports (entriesIn (now (bytes .entry)) first listed)) ⌝ }
     ensures { λ r. ⌜ r .heads ≡ headsIn (now (bytes .entry)) first listed ⌝ }
     ensures { λ _. ⌜ MarksBelow (mark + 1) (now (marks .exit)) ⌝ }
 {

@@ -118,7 +118,7 @@ module _ (table : List ℕ) (cross : List (List ℕ)) (output : ℕ) where
         -- two crosspoints of an output have cells of two inputs
         apart : x < nowhere → Crossed cross output n r → Ordered table x r
         apart k c =
-            inr (over-total (entryAt table x .cell) (entryAt table r .cell) (inl (λ e.
+            inr (over-total (portsIn table) (entryAt table x .cell) (entryAt table r .cell) (inl (λ e.
             let own = held-input x n s k refl in
             let other = held-input r (c .holder) (omega (arith, c .early)) (c .some) (c .held) in
             omega (arith, c .early))))
@@ -158,20 +158,20 @@ module _ (table : List ℕ) (cross : List (List ℕ)) (output : ℕ) where
           held = rw q at (h .filled e m);
         }
 
-    pub best-of : (r : ℕ) → portsIn table ≤ 16 → BestUpTo (portsIn table) r → r ≡ bestOf cells output
+    pub best-of : (r : ℕ) → portsIn table ≤ 16 → BestUpTo (portsIn table) r → r ≡ bestOf (portsIn table) cells output
     unfolding bestOf bestFor toOutput
     best-of r ports (empty e f) =
         e
-        ∙ sym (numberOf-none (toOutput output (least beats cells))
+        ∙ sym (numberOf-none (toOutput output (least (beats (portsIn table)) cells))
         (λ c m. none c (toOutput-in output _ m) (toOutput-output output _ m)))
       where
-        none : (c : Waiting) → List·Memᴰ c (least beats cells) → c .cell .output ≡ output → ⊥
+        none : (c : Waiting) → List·Memᴰ c (least (beats (portsIn table)) cells) → c .cell .output ≡ output → ⊥
         none c m q =
-            let k = mem-least-in beats cells m in
+            let k = mem-least-in (beats (portsIn table)) cells m in
             f (c .at) (stands ports k q)
     best-of r ports (best s b) =
-        sym (numberOf-first (toOutput output (least beats cells)) r
-        (toOutput-i output (least-mem beats (w .1) first) (w .4))
+        sym (numberOf-first (toOutput output (least (beats (portsIn table)) cells)) r
+        (toOutput-i output (least-mem (beats (portsIn table)) (w .1) first) (w .4))
         (λ g m. only g (toOutput-in output _ m) (toOutput-output output _ m)))
       where
         own : Crossed cross output (portsIn table) r
@@ -195,34 +195,38 @@ module _ (table : List ℕ) (cross : List (List ℕ)) (output : ℕ) where
 
         -- it is the best of each cell that goes to the output
         rank : (f : Waiting) → List·Memᴰ f cells → f .cell .output ≡ output
-            → (f .at ≡ r) ⊎ (over (w .0 .cell) (f .cell) ≡ true)
+            → (f .at ≡ r) ⊎ (over (portsIn table) (w .0 .cell) (f .cell) ≡ true)
         rank f m q = go (b .upper (f .at) (stands ports m q))
           where
-            go : (f .at ≡ r) ⊎ (over (entryAt table r .cell) (entryAt table (f .at) .cell) ≡ true)
-                → (f .at ≡ r) ⊎ (over (w .0 .cell) (f .cell) ≡ true)
+            go : (f .at ≡ r) ⊎ (over (portsIn table) (entryAt table r .cell) (entryAt table (f .at) .cell) ≡ true)
+                → (f .at ≡ r) ⊎ (over (portsIn table) (w .0 .cell) (f .cell) ≡ true)
             go (inl e) = inl e
-            go (inr t) = inr (ap₂ over (sym mine) (h .cell f m) ∙ t)
+            go (inr t) = inr (ap₂ (over (portsIn table)) (sym mine) (h .cell f m) ∙ t)
 
-        first : none? (λ f. beats f (w .0)) cells ≡ true
+        first : none? (λ f. beats (portsIn table) f (w .0)) cells ≡ true
         first =
-            none?-i (λ f. beats f (w .0)) cells
-            (λ f m. by-fail (beats f (w .0)) (λ t. go f m t (rank f m (beats-output f (w .0) t ∙ w .4))))
+            none?-i (λ f. beats (portsIn table) f (w .0)) cells
+            (λ f m. by-fail (beats (portsIn table) f (w .0)) (λ t. go f m t (rank f m (beats-output (portsIn table) f (w .0) t ∙ w .4))))
           where
-            go : (f : Waiting) → List·Memᴰ f cells → beats f (w .0) ≡ true
-                → (f .at ≡ r) ⊎ (over (w .0 .cell) (f .cell) ≡ true) → ⊥
+            go : (f : Waiting) → List·Memᴰ f cells → beats (portsIn table) f (w .0) ≡ true
+                → (f .at ≡ r) ⊎ (over (portsIn table) (w .0 .cell) (f .cell) ≡ true) → ⊥
             go f m t (inl e) =
                 let same = sym mine ∙ ap (λ k. entryAt table k .cell) (sym e) ∙ sym (h .cell f m) in
-                clash (ap (λ c. over c (w .0 .cell)) same ∙ beats-over f (w .0) t) (over-irrefl (w .0 .cell))
+                clash (ap (λ c. over (portsIn table) c (w .0 .cell)) same ∙ beats-over (portsIn table) f (w .0) t)
+                (over-irrefl (portsIn table) (w .0 .cell))
             go f m t (inr u) =
-                clash (over-trans (w .0 .cell) (f .cell) (w .0 .cell) u (beats-over f (w .0) t))
-                (over-irrefl (w .0 .cell))
+                clash
+                (over-trans (portsIn table) (w .0 .cell) (f .cell) (w .0 .cell) u (beats-over (portsIn table) f (w .0) t))
+                (over-irrefl (portsIn table) (w .0 .cell))
 
-        only : (g : Waiting) → List·Memᴰ g (least beats cells) → g .cell .output ≡ output → g .at ≡ r
-        only g m q = go (rank g (mem-least-in beats cells m) q)
+        only : (g : Waiting) → List·Memᴰ g (least (beats (portsIn table)) cells) → g .cell .output ≡ output → g .at ≡ r
+        only g m q = go (rank g (mem-least-in (beats (portsIn table)) cells m) q)
           where
-            go : (g .at ≡ r) ⊎ (over (w .0 .cell) (g .cell) ≡ true) → g .at ≡ r
+            go : (g .at ≡ r) ⊎ (over (portsIn table) (w .0 .cell) (g .cell) ≡ true) → g .at ≡ r
             go (inl e) = e
-            go (inr t) = absurd (clash (beats-i (w .0) g (w .4 ∙ sym q) t) (mem-least-first beats cells m (w .1)))
+            go (inr t) =
+                absurd
+                (clash (beats-i (portsIn table) (w .0) g (w .4 ∙ sym q) t) (mem-least-first (beats (portsIn table)) cells m (w .1)))
 
     -- the choice that is found input by input
     found : (n : ℕ) → n ≤ 16 → (r : ℕ) × BestUpTo n r
@@ -231,7 +235,7 @@ module _ (table : List ℕ) (cross : List (List ℕ)) (output : ℕ) where
         let w = found n (omega arith) in
         (betterOf table (w .0) (crosspointAt cross n output), rw (← add-one n) (best-more n (w .0) (omega arith) (w .1)))
 
-    pub of-best : portsIn table ≤ 16 → BestUpTo (portsIn table) (bestOf cells output)
+    pub of-best : portsIn table ≤ 16 → BestUpTo (portsIn table) (bestOf (portsIn table) cells output)
     of-best ports =
         let w = found (portsIn table) ports in
         subst (BestUpTo (portsIn table)) (best-of (w .0) ports (w .1)) (w .1)
@@ -245,27 +249,30 @@ module _ (table : List ℕ) (cross : List (List ℕ)) {cells : List Waiting} (h 
     pub chief : Waiting
     pub member : List·Memᴰ chief cells
     pub goes : chief .cell .output ≡ output
-    pub number : chief .at ≡ bestOf cells output
+    pub number : chief .at ≡ bestOf (portsIn table) cells output
     pub upper : (x : Waiting) → List·Memᴰ x cells → x .cell .output ≡ output
-        → (x .cell ≡ chief .cell) ⊎ (beats chief x ≡ true)
+        → (x .cell ≡ chief .cell) ⊎ (beats (portsIn table) chief x ≡ true)
 
   -- two of the best of one output are one
-  least-one : {x y : Waiting} → List·Memᴰ x (least beats cells) → List·Memᴰ y (least beats cells)
+  least-one : {x y : Waiting} → List·Memᴰ x (least (beats (portsIn table)) cells)
+      → List·Memᴰ y (least (beats (portsIn table)) cells)
       → x .cell .output ≡ y .cell .output → x .cell ≡ y .cell
   least-one {x} {y} m k o = go (compare (x .cell .input) (y .cell .input))
     where
       mx : List·Memᴰ x cells
-      mx = mem-least-in beats cells m
+      mx = mem-least-in (beats (portsIn table)) cells m
 
       my : List·Memᴰ y cells
-      my = mem-least-in beats cells k
+      my = mem-least-in (beats (portsIn table)) cells k
 
       no : (x .cell .input ≡ y .cell .input → ⊥) → ⊥
-      no d = one (over-total (x .cell) (y .cell) (inl d))
+      no d = one (over-total (portsIn table) (x .cell) (y .cell) (inl d))
         where
-          one : (over (x .cell) (y .cell) ≡ true) ⊎ (over (y .cell) (x .cell) ≡ true) → ⊥
-          one (inl t) = clash (beats-i x y o t) (mem-least-first beats cells k mx)
-          one (inr t) = clash (beats-i y x (sym o) t) (mem-least-first beats cells m my)
+          one : (over (portsIn table) (x .cell) (y .cell) ≡ true) ⊎ (over (portsIn table) (y .cell) (x .cell) ≡ true)
+              → ⊥
+          one (inl t) = clash (beats-i (portsIn table) x y o t) (mem-least-first (beats (portsIn table)) cells k mx)
+          one (inr t) =
+              clash (beats-i (portsIn table) y x (sym o) t) (mem-least-first (beats (portsIn table)) cells m my)
 
       go : Compared (x .cell .input) (y .cell .input) → x .cell ≡ y .cell
       go (below l) = absurd (no (λ e. omega arith))
@@ -287,30 +294,30 @@ module _ (table : List ℕ) (cross : List (List ℕ)) {cells : List Waiting} (h 
   unfolding bestOf bestFor toOutput
   chief-of output {x} m o = record {
     chief = b .0;
-    member = mem-least-in beats cells (toOutput-in output _ (b .1));
+    member = mem-least-in (beats (portsIn table)) cells (toOutput-in output _ (b .1));
     goes = toOutput-output output _ (b .1);
     number = b .2;
     upper = λ y k q. under y (below-of y k) q;
   }
     where
-      below-of : (y : Waiting) → List·Memᴰ y cells → Below beats cells y
-      below-of y k = least-below beats beats-strict cells k
+      below-of : (y : Waiting) → List·Memᴰ y cells → Below (beats (portsIn table)) cells y
+      below-of y k = least-below (beats (portsIn table)) (beats-strict (portsIn table)) cells k
 
-      goes-to : (y : Waiting) (w : Below beats cells y) → w .0 .cell .output ≡ y .cell .output
+      goes-to : (y : Waiting) (w : Below (beats (portsIn table)) cells y) → w .0 .cell .output ≡ y .cell .output
       goes-to y w = go (w .2)
         where
-          go : (w .0 ≡ y) ⊎ (beats (w .0) y ≡ true) → w .0 .cell .output ≡ y .cell .output
+          go : (w .0 ≡ y) ⊎ (beats (portsIn table) (w .0) y ≡ true) → w .0 .cell .output ≡ y .cell .output
           go (inl e) = ap (λ z. z .cell .output) e
-          go (inr t) = beats-output (w .0) y t
+          go (inr t) = beats-output (portsIn table) (w .0) y t
 
-      b : (f : Waiting) × List·Memᴰ f (toOutput output (least beats cells))
-          × (f .at ≡ numberOf (first? (toOutput output (least beats cells))))
+      b : (f : Waiting) × List·Memᴰ f (toOutput output (least (beats (portsIn table)) cells))
+          × (f .at ≡ numberOf (first? (toOutput output (least (beats (portsIn table)) cells))))
       b =
-          first-of (toOutput output (least beats cells))
+          first-of (toOutput output (least (beats (portsIn table)) cells))
           (toOutput-i output (below-of x m .1) (goes-to x (below-of x m) ∙ o))
 
-      under : (y : Waiting) (w : Below beats cells y) → y .cell .output ≡ output
-          → (y .cell ≡ b .0 .cell) ⊎ (beats (b .0) y ≡ true)
+      under : (y : Waiting) (w : Below (beats (portsIn table)) cells y) → y .cell .output ≡ output
+          → (y .cell ≡ b .0 .cell) ⊎ (beats (portsIn table) (b .0) y ≡ true)
       under y w q = go (w .2)
         where
           one : w .0 .cell ≡ b .0 .cell
@@ -318,8 +325,9 @@ module _ (table : List ℕ) (cross : List (List ℕ)) {cells : List Waiting} (h 
               least-one (w .1) (toOutput-in output _ (b .1))
               (goes-to y w ∙ q ∙ sym (toOutput-output output _ (b .1)))
 
-          go : (w .0 ≡ y) ⊎ (beats (w .0) y ≡ true) → (y .cell ≡ b .0 .cell) ⊎ (beats (b .0) y ≡ true)
+          go : (w .0 ≡ y) ⊎ (beats (portsIn table) (w .0) y ≡ true)
+              → (y .cell ≡ b .0 .cell) ⊎ (beats (portsIn table) (b .0) y ≡ true)
           go (inl e) = inl (ap (λ z. z .cell) (sym e) ∙ one)
           go (inr t) =
-              inr (beats-i (b .0) y (ap (λ c. c .output) (sym one) ∙ beats-output (w .0) y t)
-              (ap (λ c. over c (y .cell)) (sym one) ∙ beats-over (w .0) y t))
+              inr (beats-i (portsIn table) (b .0) y (ap (λ c. c .output) (sym one) ∙ beats-output (portsIn table) (w .0) y t)
+              (ap (λ c. over (portsIn table) c (y .cell)) (sym one) ∙ beats-over (portsIn table) (w .0) y t))

@@ -33,7 +33,7 @@ candidates-nil : (ls ss : List Waiting) → candidates ls [] ss ≡ []
 unfolding candidates
 candidates-nil ls ss = refl
 
-module _ (all : List Waiting)
+module _ (ports : ℕ) (all : List Waiting)
     (unique : (e f : Waiting) → List·Memᴰ e all → List·Memᴰ f all → e .at ≡ f .at → e ≡ f) where
   -- what is among a kept list passes
   among-keep : (q : Waiting → Bool) (l : List Waiting) → l ≡ keep q all → {e : Waiting} → List·Memᴰ e all
@@ -53,33 +53,35 @@ module _ (all : List Waiting)
   isFirst : Waiting → Bool
   isFirst e = isReady all e && none? (λ f. ahead f e) (keep (isReady all) all)
 
-  scheduled-kept : phase all .scheduled ≡ keep isFirst all
+  scheduled-kept : phase ports all .scheduled ≡ keep isFirst all
   unfolding isFirst
   scheduled-kept =
-      scheduled-ready all
+      scheduled-ready ports all
       ∙ least-keeps ahead (keep (isReady all) all)
       ∙ keep-keep (isReady all) (λ e. none? (λ f. ahead f e) (keep (isReady all) all)) all
 
   isUrgentHere : Waiting → Bool
-  isUrgentHere e = isPressing all e && foremost all e
+  isUrgentHere e = isPressing ports all e && foremost ports all e
 
   -- it stands first in its list
   stands : Waiting → Bool
   stands e = none? (λ f. ahead f e) (lists all)
 
-  module _ (input : ℕ) {u : Waiting} (some-urgent : List·Memᴰ u (phase all .urgent)) where
+  module _ (input : ℕ) {u : Waiting} (some-urgent : List·Memᴰ u (phase ports all .urgent)) where
     is : Waiting → Bool
     is e = eqb (e .cell .input) input
 
     takes : Waiting → Bool
-    takes e = isListed (e .place) && (among (phase all .urgent) e || (among (phase all .scheduled) e && stands e))
+    takes e =
+        isListed (e .place) && (among (phase ports all .urgent) e || (among (phase ports all .scheduled) e && stands e))
 
-    ofInput-candidates : ofInput input (phase all .candidates) ≡ keep takes (ofInput input all)
+    ofInput-candidates : ofInput input (phase ports all .candidates) ≡ keep takes (ofInput input all)
     unfolding ofInput is takes stands phase lists takesPart
     ofInput-candidates =
         ap (keep is)
-        (candidates-some (lists all) (phase all .urgent) (phase all .scheduled) some-urgent
-        ∙ keep-keep (λ e. isListed (e .place)) (takesPart (lists all) (phase all .urgent) (phase all .scheduled)) all)
+        (candidates-some (lists all) (phase ports all .urgent) (phase ports all .scheduled) some-urgent
+        ∙ keep-keep (λ e. isListed (e .place))
+        (takesPart (lists all) (phase ports all .urgent) (phase ports all .scheduled)) all)
         ∙ keep-comm takes is all
 
     -- a waiting cell of the input
@@ -87,45 +89,46 @@ module _ (all : List Waiting)
     unfolding ofInput is
     member m = (mem-keep-in is all m, eqb-true _ _ (mem-keep-passes is all m))
 
-    among-urgent : {e : Waiting} → List·Memᴰ e all → among (phase all .urgent) e ≡ isUrgentHere e
+    among-urgent : {e : Waiting} → List·Memᴰ e all → among (phase ports all .urgent) e ≡ isUrgentHere e
     unfolding isUrgentHere
-    among-urgent m = among-keep isUrgentHere (phase all .urgent) (urgent-pressing all) m
+    among-urgent m = among-keep isUrgentHere (phase ports all .urgent) (urgent-pressing ports all) m
 
-    among-scheduled : {e : Waiting} → List·Memᴰ e all → among (phase all .scheduled) e ≡ isFirst e
-    among-scheduled m = among-keep isFirst (phase all .scheduled) scheduled-kept m
+    among-scheduled : {e : Waiting} → List·Memᴰ e all → among (phase ports all .scheduled) e ≡ isFirst e
+    among-scheduled m = among-keep isFirst (phase ports all .scheduled) scheduled-kept m
 
     is-scheduled : {e : Waiting} → List·Memᴰ e (ofInput input all) → isFirst e ≡ true
-        → List·Memᴰ e (ofInput input (phase all .scheduled))
+        → List·Memᴰ e (ofInput input (phase ports all .scheduled))
     unfolding ofInput is
     is-scheduled {e} m t =
         keep-mem is (subst (List·Memᴰ e) (sym scheduled-kept) (keep-mem isFirst (member m .0) t))
         (mem-keep-passes is all m)
 
-    is-urgent : {e : Waiting} → List·Memᴰ e all → isUrgentHere e ≡ true → List·Memᴰ e (phase all .urgent)
+    is-urgent : {e : Waiting} → List·Memᴰ e all → isUrgentHere e ≡ true → List·Memᴰ e (phase ports all .urgent)
     unfolding isUrgentHere
-    is-urgent {e} m t = subst (List·Memᴰ e) (sym (urgent-pressing all)) (keep-mem isUrgentHere m t)
+    is-urgent {e} m t = subst (List·Memᴰ e) (sym (urgent-pressing ports all)) (keep-mem isUrgentHere m t)
 
     -- no scheduled cell stands first in the list: the urgent cells are matched
-    pub candidates-urgent : ((s : Waiting) → List·Memᴰ s (ofInput input (phase all .scheduled))
-        → none? (λ f. ahead f s) (lists all) ≡ true → ⊥) → candidatesOf (phase all) input ≡ urgentOf (phase all) input
+    pub candidates-urgent : ((s : Waiting) → List·Memᴰ s (ofInput input (phase ports all .scheduled))
+        → none? (λ f. ahead f s) (lists all) ≡ true
+        → ⊥) → candidatesOf (phase ports all) input ≡ urgentOf (phase ports all) input
     unfolding candidatesOf urgentOf ofInput is stands isUrgentHere takes
     candidates-urgent absent =
         ap (map (λ e. e .at))
         (ofInput-candidates
         ∙ keep-ext takes isUrgentHere (ofInput input all) same-test
-        ∙ sym (ap (keep is) (urgent-pressing all) ∙ keep-comm isUrgentHere is all))
+        ∙ sym (ap (keep is) (urgent-pressing ports all) ∙ keep-comm isUrgentHere is all))
       where
         no-scheduled : (e : Waiting) → List·Memᴰ e (ofInput input all)
-            → (among (phase all .scheduled) e && stands e) ≡ false
+            → (among (phase ports all .scheduled) e && stands e) ≡ false
         no-scheduled e m =
-            by-fail (among (phase all .scheduled) e && stands e) (λ t.
+            by-fail (among (phase ports all .scheduled) e && stands e) (λ t.
             absent e
             (is-scheduled m
-            (sym (among-scheduled (member m .0)) ∙ and-l (among (phase all .scheduled) e) (stands e) t))
-            (and-r (among (phase all .scheduled) e) (stands e) t))
+            (sym (among-scheduled (member m .0)) ∙ and-l (among (phase ports all .scheduled) e) (stands e) t))
+            (and-r (among (phase ports all .scheduled) e) (stands e) t))
 
         listed-too : (e : Waiting) → List·Memᴰ e all → isUrgentHere e ≡ true → isListed (e .place) ≡ true
-        listed-too e m t = lists-listed all (head-listed all (urgent-head all (is-urgent m t)))
+        listed-too e m t = lists-listed all (head-listed all (urgent-head ports all (is-urgent m t)))
 
         same-test : (e : Waiting) → List·Memᴰ e (ofInput input all) → takes e ≡ isUrgentHere e
         same-test e m =
@@ -136,8 +139,8 @@ module _ (all : List Waiting)
             (λ t. and-i (isListed (e .place)) (isUrgentHere e) (listed-too e (member m .0) t) t)
 
     -- the scheduled cell stands first in the list: it is matched alone
-    pub candidates-first : (s : Waiting) → ofInput input (phase all .scheduled) ≡ s ∷ []
-        → none? (λ f. ahead f s) (lists all) ≡ true → candidatesOf (phase all) input ≡ s .at ∷ []
+    pub candidates-first : (s : Waiting) → ofInput input (phase ports all .scheduled) ≡ s ∷ []
+        → none? (λ f. ahead f s) (lists all) ≡ true → candidatesOf (phase ports all) input ≡ s .at ∷ []
     unfolding candidatesOf ofInput is stands takes
     candidates-first s h first =
         ap (map (λ e. e .at))
@@ -146,24 +149,24 @@ module _ (all : List Waiting)
         ∙ sym (ap (keep is) scheduled-kept ∙ keep-comm isFirst is all)
         ∙ h)
       where
-        at-s : List·Memᴰ s (ofInput input (phase all .scheduled))
+        at-s : List·Memᴰ s (ofInput input (phase ports all .scheduled))
         at-s = subst (List·Memᴰ s) (sym h) (List·Memᴰ·head refl)
 
-        s-scheduled : List·Memᴰ s (phase all .scheduled)
-        s-scheduled = mem-keep-in is (phase all .scheduled) at-s
+        s-scheduled : List·Memᴰ s (phase ports all .scheduled)
+        s-scheduled = mem-keep-in is (phase ports all .scheduled) at-s
 
         s-input : s .cell .input ≡ input
-        s-input = eqb-true _ _ (mem-keep-passes is (phase all .scheduled) at-s)
+        s-input = eqb-true _ _ (mem-keep-passes is (phase ports all .scheduled) at-s)
 
         only : (e : Waiting) → List·Memᴰ e (ofInput input all) → isFirst e ≡ true → e ≡ s
         only e m t = List·Memᴰ·eq-of-singleton (subst (List·Memᴰ e) h (is-scheduled m t))
 
-        no-urgent : (e : Waiting) → List·Memᴰ e (ofInput input all) → among (phase all .urgent) e ≡ false
+        no-urgent : (e : Waiting) → List·Memᴰ e (ofInput input all) → among (phase ports all .urgent) e ≡ false
         no-urgent e m =
-            by-fail (among (phase all .urgent) e) (λ t.
+            by-fail (among (phase ports all .urgent) e) (λ t.
             let k = is-urgent (member m .0) (sym (among-urgent (member m .0)) ∙ t) in
-            none?-clash (λ f. ahead f s) first (head-listed all (urgent-head all k))
-            (urgent-ahead all k s-scheduled (input-i e s (member m .1 ∙ sym s-input))))
+            none?-clash (λ f. ahead f s) first (head-listed all (urgent-head ports all k))
+            (urgent-ahead ports all k s-scheduled (input-i e s (member m .1 ∙ sym s-input))))
 
         same-test : (e : Waiting) → List·Memᴰ e (ofInput input all) → takes e ≡ isFirst e
         same-test e m =
@@ -172,16 +175,17 @@ module _ (all : List Waiting)
             ∙ same (isListed (e .place) && (isFirst e && stands e)) (isFirst e)
             (λ t. and-l (isFirst e) (stands e) (and-r (isListed (e .place)) (isFirst e && stands e) t))
             (λ t. and-i (isListed (e .place)) (isFirst e && stands e)
-            (lists-listed all (head-listed all (scheduled-head all
-            (mem-keep-in is (phase all .scheduled) (is-scheduled m t)))))
+            (lists-listed all (head-listed all (scheduled-head ports all
+            (mem-keep-in is (phase ports all .scheduled) (is-scheduled m t)))))
             (and-i (isFirst e) (stands e) t (subst (λ x. stands x ≡ true) (sym (only e m t)) first)))
 
 -- where no cell is urgent, none is matched
-pub candidates-none : (all : List Waiting) (input : ℕ) → phase all .urgent ≡ [] → candidatesOf (phase all) input ≡ []
+pub candidates-none : (ports : ℕ) (all : List Waiting) (input : ℕ) → phase ports all .urgent ≡ []
+    → candidatesOf (phase ports all) input ≡ []
 unfolding candidatesOf ofInput phase keep
-candidates-none all input h =
-    ap (λ us. numbers (candidates (lists all) us (phase all .scheduled))) h
-    ∙ ap numbers (candidates-nil (lists all) (phase all .scheduled))
+candidates-none ports all input h =
+    ap (λ us. numbers (candidates (lists all) us (phase ports all .scheduled))) h
+    ∙ ap numbers (candidates-nil (lists all) (phase ports all .scheduled))
   where
     numbers : List Waiting → List ℕ
     numbers l = map (λ e. e .at) (keep (λ e. eqb (e .cell .input) input) l)

@@ -103,8 +103,8 @@ module _ (table : List ℕ) where
 
   -- some cell of the first n inputs is urgent
   pub data SomeTo (n : ℕ) : Bool → Type 0 where
-    some-urgent : {e : Waiting} → List·Memᴰ e (phase all .urgent) → SomeTo n true
-    none-urgent : ((i : ℕ) → i < n → urgentOf (phase all) i ≡ []) → SomeTo n false
+    some-urgent : {e : Waiting} → List·Memᴰ e (phase (portsIn table) all .urgent) → SomeTo n true
+    none-urgent : ((i : ℕ) → i < n → urgentOf (phase (portsIn table) all) i ≡ []) → SomeTo n false
 
   -- they are written down for the first n inputs, and nothing yet for the others
   pub record ScannedTo (n : ℕ) (scheduled urgent : List ℕ) (some : Bool) : Type 0 where
@@ -126,15 +126,16 @@ module _ (table : List ℕ) where
   }
 
   -- an urgent cell of an input
-  urgent-member : (i : ℕ) {k : ℕ} {l : List ℕ} → urgentOf (phase all) i ≡ k ∷ l
-      → (e : Waiting) × List·Memᴰ e (phase all .urgent)
+  urgent-member : (i : ℕ) {k : ℕ} {l : List ℕ} → urgentOf (phase (portsIn table) all) i ≡ k ∷ l
+      → (e : Waiting) × List·Memᴰ e (phase (portsIn table) all .urgent)
   unfolding urgentOf ofInput
   urgent-member i {k} e =
-      let m : List·Memᴰ k (urgentOf (phase all) i) = subst (List·Memᴰ k) (sym e) (List·Memᴰ·head refl) in
-      let w = Memᴰ·of-map (λ e. e .at) (keep (λ e. eqb (e .cell .input) i) (phase all .urgent)) m in
-      (w .0, mem-keep-in (λ e. eqb (e .cell .input) i) (phase all .urgent) (w .1))
+      let m : List·Memᴰ k (urgentOf (phase (portsIn table) all) i) = subst (List·Memᴰ k) (sym e) (List·Memᴰ·head refl) in
+      let w = Memᴰ·of-map (λ e. e .at) (keep (λ e. eqb (e .cell .input) i) (phase (portsIn table) all .urgent)) m in
+      (w .0, mem-keep-in (λ e. eqb (e .cell .input) i) (phase (portsIn table) all .urgent) (w .1))
 
-  some-more : (n u : ℕ) {b : Bool} → u < 2 ^ positions → numbersAt n u ≡ urgentOf (phase all) n → SomeTo n b
+  some-more : (n u : ℕ) {b : Bool} → u < 2 ^ positions → numbersAt n u ≡ urgentOf (phase (portsIn table) all) n
+      → SomeTo n b
       → SomeTo (n + 1) (b || not (eqb u 0))
   some-more n u fits e (some-urgent m) = some-urgent m
   some-more n u fits e (none-urgent h) = go (eqb u 0) refl
@@ -142,10 +143,10 @@ module _ (table : List ℕ) where
       go : (b : Bool) → eqb u 0 ≡ b → SomeTo (n + 1) (not b)
       go true z = none-urgent (λ i l. nil i (compare i n) l)
         where
-          nil : (i : ℕ) → Compared i n → i < n + 1 → urgentOf (phase all) i ≡ []
+          nil : (i : ℕ) → Compared i n → i < n + 1 → urgentOf (phase (portsIn table) all) i ≡ []
           nil i (below c) l = h i c
           nil i (equal c) l =
-              ap (urgentOf (phase all)) c
+              ap (urgentOf (phase (portsIn table) all)) c
               ∙ sym e
               ∙ ap (λ s. map (λ j. sectionRoom * n + j) s) (ap members (eqb-true u 0 z) ∙ members-none)
           nil i (above c) l = absurd (omega arith)
@@ -170,7 +171,7 @@ module _ (table : List ℕ) where
 
   module _ (r : Readable table) where
     -- an input that the switch does not have has no head
-    heads-none : (input : ℕ) → portsIn table ≤ input → headsOf all input ≡ []
+    heads-none : (input : ℕ) → portsIn table ≤ input → headsOf (portsIn table) all input ≡ []
     unfolding headsOf
     heads-none input l =
         ap (keep (isHead all)) (ofInput-none table places r input l) ∙ keep-nil (isHead all)
@@ -179,27 +180,27 @@ module _ (table : List ℕ) where
     unfolding scheduledOf urgentOf
     scanned-beyond input l =
         let nil = heads-none input l in
-        let none : none? (isReady all) (headsOf all input) ≡ true =
+        let none : none? (isReady all) (headsOf (portsIn table) all input) ≡ true =
         ap (none? (isReady all)) nil ∙ none?-nil (isReady all) in
         record {
-          scheduled-is = sym (ap (λ l. numberOf (first? l)) (scan-end-scheduled all input none) ∙ numberOf-nil);
+          scheduled-is = sym (ap (λ l. numberOf (first? l)) (scan-end-scheduled (portsIn table) all input none) ∙ numberOf-nil);
           fits = omega arith;
           urgent-are =
               ap (map (λ j. sectionRoom * input + j)) members-none
               ∙ sym (ap (map (λ e. e .at))
-              (scan-end-urgent all input none ∙ ap (keep (isPressing all)) nil ∙ keep-nil (isPressing all)));
+              (scan-end-urgent (portsIn table) all input none ∙ ap (keep (isPressing (portsIn table) all)) nil ∙ keep-nil (isPressing (portsIn table) all)));
         }
 
-    some-all : {n : ℕ} {b : Bool} → n ≡ portsIn table → SomeTo n b → b ≡ someUrgent (phase all)
+    some-all : {n : ℕ} {b : Bool} → n ≡ portsIn table → SomeTo n b → b ≡ someUrgent (phase (portsIn table) all)
     unfolding someUrgent urgentOf ofInput
     some-all e (some-urgent m) = sym (some?-i (λ e. true) m refl)
     some-all e (none-urgent h) =
-        sym (some?-false (λ e. true) (phase all .urgent)
-        (none?-i (λ e. true) (phase all .urgent) (λ x m. absurd (go x m))))
+        sym (some?-false (λ e. true) (phase (portsIn table) all .urgent)
+        (none?-i (λ e. true) (phase (portsIn table) all .urgent) (λ x m. absurd (go x m))))
       where
-        go : (x : Waiting) → List·Memᴰ x (phase all .urgent) → ⊥
+        go : (x : Waiting) → List·Memᴰ x (phase (portsIn table) all .urgent) → ⊥
         go x m =
-            let t = urgent-all all m in
+            let t = urgent-all (portsIn table) all m in
             let nil =
             h (x .cell .input)
             (omega (arith, inTable-input table places r t, inTable-e table places r t .1 .input)) in
@@ -227,65 +228,67 @@ module _ (table : List ℕ) where
     ------------------------------------------------------------------------
     -- the scheduled cell of an input
 
-    ordered : (input : ℕ) → pairwise ahead (headsOf all input) ≡ true
+    ordered : (input : ℕ) → pairwise ahead (headsOf (portsIn table) all input) ≡ true
     ordered input = go (compare input (portsIn table))
       where
-        beyond : portsIn table ≤ input → pairwise ahead (headsOf all input) ≡ true
+        beyond : portsIn table ≤ input → pairwise ahead (headsOf (portsIn table) all input) ≡ true
         beyond l = ap (pairwise ahead) (heads-none input l) ∙ pairwise-nil ahead
 
-        go : Compared input (portsIn table) → pairwise ahead (headsOf all input) ≡ true
+        go : Compared input (portsIn table) → pairwise ahead (headsOf (portsIn table) all input) ≡ true
         go (below l) = heads-ordered table input r l
         go (equal l) = beyond (omega arith)
         go (above l) = beyond (omega arith)
 
     -- there is one or none
     data Schedule (input : ℕ) : Type 0 where
-      nothing : ofInput input (phase all .scheduled) ≡ [] → Schedule input
-      one : (s : Waiting) → ofInput input (phase all .scheduled) ≡ s ∷ [] → Schedule input
+      nothing : ofInput input (phase (portsIn table) all .scheduled) ≡ [] → Schedule input
+      one : (s : Waiting) → ofInput input (phase (portsIn table) all .scheduled) ≡ s ∷ [] → Schedule input
 
     schedule : (input : ℕ) → Schedule input
-    schedule input = go (keep (isReady all) (headsOf all input)) refl
+    schedule input = go (keep (isReady all) (headsOf (portsIn table) all input)) refl
       where
-        go : (l : List Waiting) → keep (isReady all) (headsOf all input) ≡ l → Schedule input
-        go [] e = nothing (ofInput-scheduled all input ∙ ap (least ahead) e ∙ least-nil ahead)
+        go : (l : List Waiting) → keep (isReady all) (headsOf (portsIn table) all input) ≡ l → Schedule input
+        go [] e = nothing (ofInput-scheduled (portsIn table) all input ∙ ap (least ahead) e ∙ least-nil ahead)
         go (s ∷ l) e =
             one s
-            (ofInput-scheduled all input
+            (ofInput-scheduled (portsIn table) all input
             ∙ ap (least ahead) e
             ∙ least-ordered ahead ahead-strict s l
             (subst (λ k. pairwise ahead k ≡ true) e
-            (pairwise-keep ahead (isReady all) (headsOf all input) (ordered input))))
+            (pairwise-keep ahead (isReady all) (headsOf (portsIn table) all input) (ordered input))))
 
-    scheduledOf-nothing : (input : ℕ) → ofInput input (phase all .scheduled) ≡ []
-        → scheduledOf (phase all) input ≡ nowhere
+    scheduledOf-nothing : (input : ℕ) → ofInput input (phase (portsIn table) all .scheduled) ≡ []
+        → scheduledOf (phase (portsIn table) all) input ≡ nowhere
     unfolding scheduledOf
     scheduledOf-nothing input h = ap (λ l. numberOf (first? l)) h ∙ numberOf-nil
 
-    scheduledOf-one : (input : ℕ) (s : Waiting) → ofInput input (phase all .scheduled) ≡ s ∷ []
-        → scheduledOf (phase all) input ≡ s .at
+    scheduledOf-one : (input : ℕ) (s : Waiting) → ofInput input (phase (portsIn table) all .scheduled) ≡ s ∷ []
+        → scheduledOf (phase (portsIn table) all) input ≡ s .at
     unfolding scheduledOf
     scheduledOf-one input s h = ap (λ l. numberOf (first? l)) h ∙ numberOf-one s
 
     ------------------------------------------------------------------------
     -- whether it stands first in its list
 
-    module _ (input : ℕ) (s : Waiting) (h : ofInput input (phase all .scheduled) ≡ s ∷ []) where
+    module _ (input : ℕ) (s : Waiting) (h : ofInput input (phase (portsIn table) all .scheduled) ≡ s ∷ []) where
       abbrev listed : ℕ
       listed = listedSet table places input
 
       is : Waiting → Bool
       is e = eqb (e .cell .input) input
 
-      mine : List·Memᴰ s (ofInput input (phase all .scheduled))
+      mine : List·Memᴰ s (ofInput input (phase (portsIn table) all .scheduled))
       mine = subst (List·Memᴰ s) (sym h) (List·Memᴰ·head refl)
 
       s-listed : List·Memᴰ s (lists all)
       unfolding ofInput is
-      s-listed = head-listed all (scheduled-head all (mem-keep-in is (phase all .scheduled) mine))
+      s-listed =
+          head-listed all
+          (scheduled-head (portsIn table) all (mem-keep-in is (phase (portsIn table) all .scheduled) mine))
 
       s-input : s .cell .input ≡ input
       unfolding ofInput is
-      s-input = eqb-true _ _ (mem-keep-passes is (phase all .scheduled) mine)
+      s-input = eqb-true _ _ (mem-keep-passes is (phase (portsIn table) all .scheduled) mine)
 
       -- where a listed cell of the input stands
       record Stands (e : Waiting) : Type 0 where
@@ -385,21 +388,23 @@ module _ (table : List ℕ) where
         ∙ ap (waitingAt table places) q
         ∙ sym (inTable-e table places r k .0)
 
-    entered-candidates : (input : ℕ) {s u : ℕ} → someUrgent (phase all) ≡ true → Scanned table input s u
-        → numbersAt input (entered (listedSet table places input) s u) ≡ candidatesOf (phase all) input
+    entered-candidates : (input : ℕ) {s u : ℕ} → someUrgent (phase (portsIn table) all) ≡ true → Scanned table input s u
+        → numbersAt input (entered (listedSet table places input) s u) ≡ candidatesOf (phase (portsIn table) all) input
     unfolding someUrgent entered
     entered-candidates input {s} {u} t f = go (schedule input)
       where
-        some : Passing (λ e. true) (phase all .urgent)
-        some = some?-e (λ e. true) (phase all .urgent) t
+        some : Passing (λ e. true) (phase (portsIn table) all .urgent)
+        some = some?-e (λ e. true) (phase (portsIn table) all .urgent) t
 
         go : Schedule input
-            → numbersAt input (entered (listedSet table places input) s u) ≡ candidatesOf (phase all) input
+            → numbersAt input (entered (listedSet table places input) s u)
+            ≡ candidatesOf (phase (portsIn table) all) input
         go (nothing h) =
             let none : nowhere ≤ s = omega (arith, f .scheduled-is, scheduledOf-nothing input h) in
             rw (le-leb nowhere s none)
             (f .urgent-are
-            ∙ sym (candidates-urgent all unique input (some .1) (λ e m x. List·Memᴰ·not-nil (subst (List·Memᴰ e) h m))))
+            ∙ sym
+            (candidates-urgent (portsIn table) all unique input (some .1) (λ e m x. List·Memᴰ·not-nil (subst (List·Memᴰ e) h m))))
         go (one e h) = tested (eqb (firstOf (listedSet table places input)) (s % sectionRoom)) refl
           where
             number : s ≡ e .at
@@ -415,7 +420,8 @@ module _ (table : List ℕ) where
                 ∙ ap (λ n. eqb (firstOf (listedSet table places input)) (n % sectionRoom)) (sym number)
 
             tested : (b : Bool) → eqb (firstOf (listedSet table places input)) (s % sectionRoom) ≡ b
-                → numbersAt input (entered (listedSet table places input) s u) ≡ candidatesOf (phase all) input
+                → numbersAt input (entered (listedSet table places input) s u)
+                ≡ candidatesOf (phase (portsIn table) all) input
             tested true q =
                 let place : sectionRoom * input + s % sectionRoom ≡ e .at = omega (arith, number, s-place input e h) in
                 rw (lt-leb nowhere s small, q)
@@ -424,29 +430,29 @@ module _ (table : List ℕ) where
                 (λ i m. absurd (List·Memᴰ·not-nil (subst (List·Memᴰ i) members-none m)))
                 ∙ ap (λ l. l ++ ((s % sectionRoom) ∷ [])) members-none)
                 ∙ ap (λ k. k ∷ []) place
-                ∙ sym (candidates-first all unique input (some .1) e h (first ∙ q)))
+                ∙ sym (candidates-first (portsIn table) all unique input (some .1) e h (first ∙ q)))
             tested false q =
                 rw (lt-leb nowhere s small, q)
                 (f .urgent-are
-                ∙ sym (candidates-urgent all unique input (some .1) (λ x m y.
+                ∙ sym (candidates-urgent (portsIn table) all unique input (some .1) (λ x m y.
                 clash
                 (subst (λ x. none? (λ f. ahead f x) (lists all) ≡ true)
                 (List·Memᴰ·eq-of-singleton (subst (List·Memᴰ x) h m)) y)
                 (first ∙ q))))
 
     -- where no cell is urgent, the urgent cells are matched: none
-    none-candidates : (input : ℕ) → someUrgent (phase all) ≡ false
-        → urgentOf (phase all) input ≡ candidatesOf (phase all) input
+    none-candidates : (input : ℕ) → someUrgent (phase (portsIn table) all) ≡ false
+        → urgentOf (phase (portsIn table) all) input ≡ candidatesOf (phase (portsIn table) all) input
     unfolding someUrgent urgentOf ofInput
-    none-candidates input f = go (phase all .urgent) refl
+    none-candidates input f = go (phase (portsIn table) all .urgent) refl
       where
-        go : (us : List Waiting) → phase all .urgent ≡ us
-            → urgentOf (phase all) input ≡ candidatesOf (phase all) input
+        go : (us : List Waiting) → phase (portsIn table) all .urgent ≡ us
+            → urgentOf (phase (portsIn table) all) input ≡ candidatesOf (phase (portsIn table) all) input
         go (u ∷ us) e = absurd (clash (some?-i (λ e. true) (subst (List·Memᴰ u) (sym e) (List·Memᴰ·head refl)) refl) f)
         go [] e =
             ap (λ l. map (λ e. e .at) (keep (λ e. eqb (e .cell .input) input) l)) e
             ∙ ap (map (λ e. e .at)) (keep-nil (λ e. eqb (e .cell .input) input))
-            ∙ sym (candidates-none all input e)
+            ∙ sym (candidates-none (portsIn table) all input e)
 
     ------------------------------------------------------------------------
     -- all of it
@@ -454,7 +460,7 @@ module _ (table : List ℕ) where
     module _ {cross : List (List ℕ)} {best scheduled urgent : List ℕ}
         {some : Bool} (bests : Bests table cross best) (scanned : ScannedAll table scheduled urgent some) where
       chosen : {candidates : List ℕ} → length candidates ≡ 16
-          → ((i : ℕ) → i < 16 → numbersAt i (getD candidates i 0) ≡ candidatesOf (phase all) i)
+          → ((i : ℕ) → i < 16 → numbersAt i (getD candidates i 0) ≡ candidatesOf (phase (portsIn table) all) i)
           → Chosen table cross some scheduled candidates best
       chosen size each = record {
         urgent-is = scanned .some-is;

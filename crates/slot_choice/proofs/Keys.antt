@@ -219,17 +219,17 @@ module _ (table : List ℕ) (r : Readable table) (bytes : bytes? table ≡ true)
           upper : (k : ℕ) (c : Crossed cross output (portsIn table) k)
               → (least ≤ key (entryAt table k .cell)) × InTable table k × (c .holder < 16)
               × (getD row (c .holder) 0 ≡ key (entryAt table k .cell))
-              → (k ≡ held) ⊎ (over (entryAt table held .cell) (entryAt table k .cell) ≡ true)
+              → (k ≡ held) ⊎ (over (portsIn table) (entryAt table held .cell) (entryAt table k .cell) ≡ true)
           upper k c (low, t, small, own-key) = go (compare least (key (entryAt table k .cell)))
             where
               mine : least ≡ key (entryAt table held .cell)
               mine = least-held ∙ keyAt-cell table held s
 
               go : Compared least (key (entryAt table k .cell))
-                  → (k ≡ held) ⊎ (over (entryAt table held .cell) (entryAt table k .cell) ≡ true)
+                  → (k ≡ held) ⊎ (over (portsIn table) (entryAt table held .cell) (entryAt table k .cell) ≡ true)
               go (below l) =
                   inr (sym
-                  (over-keys (entryAt table held .cell) (entryAt table k .cell) (slot-of held here) (slot-of k t)
+                  (over-keys (portsIn table) (entryAt table held .cell) (entryAt table k .cell) (slot-of held here) (slot-of k t)
                   (λ e. omega (arith, mine)))
                   ∙ lt-ltb (key (entryAt table held .cell)) (key (entryAt table k .cell)) (omega (arith, mine)))
               go (above l) = absurd (omega arith)
@@ -239,10 +239,10 @@ module _ (table : List ℕ) (r : Readable table) (bytes : bytes? table ≡ true)
                   first = leading .holds .first (c .holder) (omega arith) small (own-key ∙ sym e) .0
 
                   tie : Compared (leading .holder) (c .holder)
-                      → (k ≡ held) ⊎ (over (entryAt table held .cell) (entryAt table k .cell) ≡ true)
+                      → (k ≡ held) ⊎ (over (portsIn table) (entryAt table held .cell) (entryAt table k .cell) ≡ true)
                   tie (below l) =
                       inr (sym
-                      (over-tie (entryAt table held .cell) (entryAt table k .cell) (slot-of held here) (slot-of k t)
+                      (over-tie (portsIn table) (entryAt table held .cell) (entryAt table k .cell) (slot-of held here) (slot-of k t)
                       (sym mine ∙ e))
                       ∙ lt-ltb (entryAt table held .cell .input) (entryAt table k .cell .input)
                       (omega (
@@ -253,7 +253,7 @@ module _ (table : List ℕ) (r : Readable table) (bytes : bytes? table ≡ true)
                   tie (equal q) = inl (sym (c .held) ∙ ap (λ i. crosspointAt cross i output) (sym q))
                   tie (above l) = absurd (omega (arith, first))
 
-      leading-best : number ≡ bestOf cells output
+      leading-best : number ≡ bestOf (portsIn table) cells output
       leading-best = best-of table cross output h o number (r .ports) (go (compare held nowhere))
         where
           go : Compared held nowhere → BestUpTo table cross output (portsIn table) number

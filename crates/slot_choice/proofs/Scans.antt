@@ -51,7 +51,7 @@ module _ {A : Type 0} (lt : A → A → Bool) (strict : Strict lt) where
 ------------------------------------------------------------------------
 -- rules 1 to 3 by tests of one cell
 
-module _ (all : List Waiting) where
+module _ (ports : ℕ) (all : List Waiting) where
   firsts-heads : firsts all ≡ keep (isHead all) all
   unfolding firsts heads lists isHead
   firsts-heads =
@@ -62,15 +62,15 @@ module _ (all : List Waiting) where
       before e f = sameFlow (e .cell) (f .cell) && ahead e f
 
   -- a cell whose crosspoint is empty is not blocked
-  empty-normal : (e : Waiting) → crosspointEmpty (crosspoints all) e ≡ true → blocked (crosspoints all) e ≡ false
+  empty-normal : (e : Waiting) → crosspointEmpty (crosspoints all) e ≡ true → blocked ports (crosspoints all) e ≡ false
   unfolding crosspointEmpty blocked
   empty-normal e h =
-      by-fail (some? (λ x. sameCrosspoint e x && beats e x) (crosspoints all)) (λ s.
-      let w : Passing (λ x. sameCrosspoint e x && beats e x) (crosspoints all) =
-      some?-e (λ x. sameCrosspoint e x && beats e x) (crosspoints all) s in
-      none?-clash (sameCrosspoint e) h (w .1) (and-l (sameCrosspoint e (w .0)) (beats e (w .0)) (w .2)))
+      by-fail (some? (λ x. sameCrosspoint e x && beats ports e x) (crosspoints all)) (λ s.
+      let w : Passing (λ x. sameCrosspoint e x && beats ports e x) (crosspoints all) =
+      some?-e (λ x. sameCrosspoint e x && beats ports e x) (crosspoints all) s in
+      none?-clash (sameCrosspoint e) h (w .1) (and-l (sameCrosspoint e (w .0)) (beats ports e (w .0)) (w .2)))
 
-  pub scheduled-ready : phase all .scheduled ≡ least ahead (keep (isReady all) all)
+  pub scheduled-ready : phase ports all .scheduled ≡ least ahead (keep (isReady all) all)
   unfolding phase scheduled ready firsts isReady
   scheduled-ready =
       ap (least ahead)
@@ -82,31 +82,31 @@ module _ (all : List Waiting) where
       empty e = crosspointEmpty (crosspoints all) e
 
       normal : Waiting → Bool
-      normal e = not (blocked (crosspoints all) e) && empty e
+      normal e = not (blocked ports (crosspoints all) e) && empty e
 
       go : (e : Waiting) → normal e ≡ empty e
       go e =
-          same (normal e) (empty e) (and-r (not (blocked (crosspoints all) e)) (empty e))
-          (λ h. and-i (not (blocked (crosspoints all) e)) (empty e)
-          (not-i (blocked (crosspoints all) e) (empty-normal e h)) h)
+          same (normal e) (empty e) (and-r (not (blocked ports (crosspoints all) e)) (empty e))
+          (λ h. and-i (not (blocked ports (crosspoints all) e)) (empty e)
+          (not-i (blocked ports (crosspoints all) e) (empty-normal e h)) h)
 
   -- before every scheduled cell of its input
   unfoldable pub foremost : Waiting → Bool
-  foremost e = all? (ahead e) (keep (sameInput e) (phase all .scheduled))
+  foremost e = all? (ahead e) (keep (sameInput e) (phase ports all .scheduled))
 
-  pub urgent-pressing : phase all .urgent ≡ keep (λ e. isPressing all e && foremost e) all
+  pub urgent-pressing : phase ports all .urgent ≡ keep (λ e. isPressing ports all e && foremost e) all
   unfolding phase urgent isUrgent firsts isPressing foremost
   urgent-pressing =
       ap (keep test) firsts-heads
       ∙ keep-keep (isHead all) test all
-      ∙ keep-ext (λ e. isHead all e && test e) (λ e. isPressing all e && foremost e) all
-      (λ e m. go (isHead all e) (blocked (crosspoints all) e) (foremost e) (upper e))
+      ∙ keep-ext (λ e. isHead all e && test e) (λ e. isPressing ports all e && foremost e) all
+      (λ e m. go (isHead all e) (blocked ports (crosspoints all) e) (foremost e) (upper e))
     where
       test : Waiting → Bool
-      test e = isUrgent (crosspoints all) (phase all .scheduled) e
+      test e = isUrgent ports (crosspoints all) (phase ports all .scheduled) e
 
       upper : Waiting → Bool
-      upper e = all? (beats e) (keep (sameOutput e) (crosspoints all))
+      upper e = all? (beats ports e) (keep (sameOutput e) (crosspoints all))
 
       go : (h b f u : Bool) → (h && (b && (f && u))) ≡ ((h && (b && u)) && f)
       go true true f u = and-comm f u
@@ -133,7 +133,7 @@ module _ (all : List Waiting) where
         same (p e) (isHead all e && p e) (λ t. and-i (isHead all e) (p e) (head e t) t) (and-r (isHead all e) (p e)))
         ∙ sym (keep-keep (isHead all) p (ofInput input all))
 
-    pub ofInput-scheduled : ofInput input (phase all .scheduled) ≡ least ahead (keep (isReady all) headsOf)
+    pub ofInput-scheduled : ofInput input (phase ports all .scheduled) ≡ least ahead (keep (isReady all) headsOf)
     unfolding ofInput is isReady
     ofInput-scheduled =
         ap (keep is) scheduled-ready
@@ -142,13 +142,13 @@ module _ (all : List Waiting) where
         ∙ ap (least ahead)
         (keep-comm (isReady all) is all ∙ of-heads (isReady all) (λ e t. and-l (isHead all e) _ t))
 
-    ofInput-urgent : ofInput input (phase all .urgent) ≡ keep (λ e. isPressing all e && foremost e) headsOf
+    ofInput-urgent : ofInput input (phase ports all .urgent) ≡ keep (λ e. isPressing ports all e && foremost e) headsOf
     unfolding ofInput is isPressing
     ofInput-urgent =
         ap (keep is) urgent-pressing
-        ∙ keep-comm (λ e. isPressing all e && foremost e) is all
-        ∙ of-heads (λ e. isPressing all e && foremost e)
-        (λ e t. and-l (isHead all e) _ (and-l (isPressing all e) (foremost e) t))
+        ∙ keep-comm (λ e. isPressing ports all e && foremost e) is all
+        ∙ of-heads (λ e. isPressing ports all e && foremost e)
+        (λ e t. and-l (isHead all e) _ (and-l (isPressing ports all e) (foremost e) t))
 
     -- the cells of its own input
     near : (e : Waiting) → e .cell .input ≡ input → (l : List Waiting) → keep (sameInput e) l ≡ ofInput input l
@@ -165,19 +165,19 @@ module _ (all : List Waiting) where
 
     -- where no cell is ready, none is scheduled, and each pressing cell is urgent
     module _ (none : none? (isReady all) headsOf ≡ true) where
-      pub scan-end-scheduled : ofInput input (phase all .scheduled) ≡ []
+      pub scan-end-scheduled : ofInput input (phase ports all .scheduled) ≡ []
       scan-end-scheduled =
           ofInput-scheduled ∙ ap (least ahead) (keep-none (isReady all) headsOf none) ∙ least-nil ahead
 
-      pub scan-end-urgent : ofInput input (phase all .urgent) ≡ keep (isPressing all) headsOf
+      pub scan-end-urgent : ofInput input (phase ports all .urgent) ≡ keep (isPressing ports all) headsOf
       unfolding foremost
       scan-end-urgent =
           ofInput-urgent
-          ∙ keep-ext (λ e. isPressing all e && foremost e) (isPressing all) headsOf (λ e m.
-          ap (λ b. isPressing all e && b)
-          (ap (all? (ahead e)) (near e (member-input m) (phase all .scheduled) ∙ scan-end-scheduled)
+          ∙ keep-ext (λ e. isPressing ports all e && foremost e) (isPressing ports all) headsOf (λ e m.
+          ap (λ b. isPressing ports all e && b)
+          (ap (all? (ahead e)) (near e (member-input m) (phase ports all .scheduled) ∙ scan-end-scheduled)
           ∙ all?-nil (ahead e))
-          ∙ and-true (isPressing all e))
+          ∙ and-true (isPressing ports all e))
 
     -- the first ready cell is scheduled, and each pressing cell before it is urgent
     module _ (front back : List Waiting) (e : Waiting) (split : headsOf ≡ front ++ (e ∷ back))
@@ -186,7 +186,7 @@ module _ (all : List Waiting) where
       in-order : pairwise ahead (front ++ (e ∷ back)) ≡ true
       in-order = ap (pairwise ahead) (sym split) ∙ ordered
 
-      pub scan-stop-scheduled : ofInput input (phase all .scheduled) ≡ e ∷ []
+      pub scan-stop-scheduled : ofInput input (phase ports all .scheduled) ≡ e ∷ []
       scan-stop-scheduled =
           ofInput-scheduled
           ∙ ap (λ l. least ahead (keep (isReady all) l)) split
@@ -199,38 +199,38 @@ module _ (all : List Waiting) where
               keep-append (isReady all) front (e ∷ back)
               ∙ ap₂ _++_ (keep-none (isReady all) front none) (keep-pass (isReady all) e back ready)
 
-      pub scan-stop-urgent : ofInput input (phase all .urgent) ≡ keep (isPressing all) front
+      pub scan-stop-urgent : ofInput input (phase ports all .urgent) ≡ keep (isPressing ports all) front
       unfolding foremost
       scan-stop-urgent =
           ofInput-urgent
           ∙ ap (keep test) split
           ∙ keep-append test front (e ∷ back)
-          ∙ ap₂ _++_ (keep-ext test (isPressing all) front before)
+          ∙ ap₂ _++_ (keep-ext test (isPressing ports all) front before)
           (keep-none test (e ∷ back) (none?-i test (e ∷ back) after))
-          ∙ append-nil (keep (isPressing all) front)
+          ∙ append-nil (keep (isPressing ports all) front)
         where
           test : Waiting → Bool
-          test f = isPressing all f && foremost f
+          test f = isPressing ports all f && foremost f
 
           -- a cell of the input stands before the scheduled cells of its input if it is ahead of this one
           alone : (f : Waiting) → List·Memᴰ f (front ++ (e ∷ back)) → foremost f ≡ (ahead f e && true)
           alone f m =
               ap (all? (ahead f))
-              (near f (member-input (subst (List·Memᴰ f) (sym split) m)) (phase all .scheduled) ∙ scan-stop-scheduled)
+              (near f (member-input (subst (List·Memᴰ f) (sym split) m)) (phase ports all .scheduled) ∙ scan-stop-scheduled)
               ∙ all?-cons (ahead f) e []
               ∙ ap (λ b. ahead f e && b) (all?-nil (ahead f))
 
-          before : (f : Waiting) → List·Memᴰ f front → test f ≡ isPressing all f
+          before : (f : Waiting) → List·Memᴰ f front → test f ≡ isPressing ports all f
           before f m =
-              ap (λ b. isPressing all f && b)
+              ap (λ b. isPressing ports all f && b)
               (alone f (Memᴰ·append-left (e ∷ back) m)
               ∙ and-true (ahead f e)
               ∙ pairwise-split ahead m (List·Memᴰ·head refl) in-order)
-              ∙ and-true (isPressing all f)
+              ∙ and-true (isPressing ports all f)
 
           after : (f : Waiting) → List·Memᴰ f (e ∷ back) → test f ≡ false
           after f m =
-              and-false-r (isPressing all f) (foremost f)
+              and-false-r (isPressing ports all f) (foremost f)
               (alone f (Memᴰ·append-right front m) ∙ and-true (ahead f e) ∙ go (List·Memᴰ·cases-cons m))
             where
               go : (f ≡ e) ⊎ List·Memᴰ f back → ahead f e ≡ false

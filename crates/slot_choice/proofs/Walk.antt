@@ -70,42 +70,46 @@ module _ (table : List ℕ) (cross : List (List ℕ)) {cells : List Waiting} (h 
     chief = let w = full l in chief-of table cross h (e .cell .output) (w .1) (sym (crosspoint-output e (w .0) (w .2)))
 
     -- the output has a best cell
-    best-number : bestOf cells (e .cell .output) < entryLimit
+    best-number : bestOf (portsIn table) cells (e .cell .output) < entryLimit
     best-number = omega (arith, chief .number, h .inside (chief .chief) (chief .member) .input)
 
     -- a head whose crosspoint is full is blocked and over all of its output if it is over the best
-    pressing-best : (blocked cells e && all? (beats e) (keep (sameOutput e) cells))
-        ≡ over (e .cell) (entryAt table (bestOf cells (e .cell .output)) .cell)
+    pressing-best : (blocked (portsIn table) cells e && all? (beats (portsIn table) e) (keep (sameOutput e) cells))
+        ≡ over (portsIn table) (e .cell) (entryAt table (bestOf (portsIn table) cells (e .cell .output)) .cell)
     unfolding blocked number
     pressing-best =
-        same (blocked cells e && upper) (over (e .cell) (entryAt table (bestOf cells (e .cell .output)) .cell))
-        (λ t. subst (λ c. over (e .cell) c ≡ true) best-cell
-        (beats-over e (chief .chief) (all?-e (beats e) (and-r (blocked cells e) upper t)
+        same (blocked (portsIn table) cells e && upper)
+        (over (portsIn table) (e .cell) (entryAt table (bestOf (portsIn table) cells (e .cell .output)) .cell))
+        (λ t. subst (λ c. over (portsIn table) (e .cell) c ≡ true) best-cell
+        (beats-over (portsIn table) e (chief .chief) (all?-e (beats (portsIn table) e) (and-r (blocked (portsIn table) cells e) upper t)
         (keep-mem (sameOutput e) (chief .member) (output-i e (chief .chief) (sym (chief .goes)))))))
-        (λ t. let u = subst (λ c. over (e .cell) c ≡ true) (sym best-cell) t in
-        and-i (blocked cells e) upper
-        (some?-i (λ x. sameCrosspoint e x && beats e x) (x .1)
-        (and-i (sameCrosspoint e (x .0)) (beats e (x .0)) (x .2)
+        (λ t. let u = subst (λ c. over (portsIn table) (e .cell) c ≡ true) (sym best-cell) t in
+        and-i (blocked (portsIn table) cells e) upper
+        (some?-i (λ x. sameCrosspoint e x && beats (portsIn table) e x) (x .1)
+        (and-i (sameCrosspoint e (x .0)) (beats (portsIn table) e (x .0)) (x .2)
         (over-each u (x .0) (x .1) (crosspoint-output e (x .0) (x .2)))))
-        (all?-i (beats e) (keep (sameOutput e) cells) (λ y m.
+        (all?-i (beats (portsIn table) e) (keep (sameOutput e) cells) (λ y m.
         over-each u y (mem-keep-in (sameOutput e) cells m) (output-e e y (mem-keep-passes (sameOutput e) cells m)))))
       where
         upper : Bool
-        upper = all? (beats e) (keep (sameOutput e) cells)
+        upper = all? (beats (portsIn table) e) (keep (sameOutput e) cells)
 
         x : Passing (sameCrosspoint e) cells
         x = full l
 
-        best-cell : chief .chief .cell ≡ entryAt table (bestOf cells (e .cell .output)) .cell
+        best-cell : chief .chief .cell ≡ entryAt table (bestOf (portsIn table) cells (e .cell .output)) .cell
         best-cell = h .cell (chief .chief) (chief .member) ∙ ap (λ n. entryAt table n .cell) (chief .number)
 
-        over-each : over (e .cell) (chief .chief .cell) ≡ true → (y : Waiting) → List·Memᴰ y cells
-            → e .cell .output ≡ y .cell .output → beats e y ≡ true
-        over-each u y m q = beats-i e y q (go (chief .upper y m (sym q)))
+        over-each : over (portsIn table) (e .cell) (chief .chief .cell) ≡ true → (y : Waiting) → List·Memᴰ y cells
+            → e .cell .output ≡ y .cell .output → beats (portsIn table) e y ≡ true
+        over-each u y m q = beats-i (portsIn table) e y q (go (chief .upper y m (sym q)))
           where
-            go : (y .cell ≡ chief .chief .cell) ⊎ (beats (chief .chief) y ≡ true) → over (e .cell) (y .cell) ≡ true
-            go (inl s) = ap (over (e .cell)) s ∙ u
-            go (inr t) = over-trans (e .cell) (chief .chief .cell) (y .cell) u (beats-over (chief .chief) y t)
+            go : (y .cell ≡ chief .chief .cell) ⊎ (beats (portsIn table) (chief .chief) y ≡ true)
+                → over (portsIn table) (e .cell) (y .cell) ≡ true
+            go (inl s) = ap (over (portsIn table) (e .cell)) s ∙ u
+            go (inr t) =
+                over-trans (portsIn table) (e .cell) (chief .chief .cell) (y .cell) u
+                (beats-over (portsIn table) (chief .chief) y t)
 
 ------------------------------------------------------------------------
 -- a step of the walk
@@ -153,7 +157,7 @@ module _ {table : List ℕ} {cross : List (List ℕ)} {best least : List ℕ} {i
     is-empty = empty-number table cross holds ports e small goes ∙ ap (leb nowhere) crosspoint
 
     -- its crosspoint is empty
-    pub step-ready : nowhere ≤ crosspointAt cross input o → Means all e true false
+    pub step-ready : nowhere ≤ crosspointAt cross input o → Means (portsIn table) all e true false
     unfolding isReady
     step-ready l =
         record {
@@ -170,7 +174,7 @@ module _ {table : List ℕ} {cross : List (List ℕ)} {best least : List ℕ} {i
       is-full = omega (arith, crosspoint)
 
       -- the best of its output
-      best-of-output : bestOf (crosspoints all) (e .cell .output) ≡ getD best o 0
+      best-of-output : bestOf (portsIn table) (crosspoints all) (e .cell .output) ≡ getD best o 0
       unfolding waitingAt
       best-of-output = sym (ap (λ p. getD best p 0) out ∙ w .bests (entryAt table k .cell .output) step-output)
 
@@ -181,14 +185,16 @@ module _ {table : List ℕ} {cross : List (List ℕ)} {best least : List ℕ} {i
       step-key = w .keys o (omega (arith, step-output)) ∙ keyAt-cell table (getD best o 0) step-best
 
       -- it is over the best of its output or not
-      pub step-pressing : {b : Bool} → b ≡ over (entryAt table k .cell) (entryAt table (getD best o 0) .cell)
-          → Means all e false b
+      pub step-pressing : {b : Bool}
+          → b ≡ over (portsIn table) (entryAt table k .cell) (entryAt table (getD best o 0) .cell)
+          → Means (portsIn table) all e false b
       unfolding isPressing
       step-pressing t =
           record {
             ready-is = not-ready;
             pressing-is = λ _.
                 ap₂ _&&_ (h .head) (pressing-best table cross holds ports e small goes is-full)
-                ∙ ap₂ over (waitingAt-cell table (placesIn table) k) (ap (λ b. entryAt table b .cell) best-of-output)
+                ∙ ap₂ (over (portsIn table)) (waitingAt-cell table (placesIn table) k)
+                (ap (λ b. entryAt table b .cell) best-of-output)
                 ∙ sym t;
           }

@@ -54,7 +54,7 @@ module _ (table : List ℕ) (input : ℕ) where
   ready j = isReady all (here j)
 
   abbrev pressing : ℕ → Bool
-  pressing j = isPressing all (here j)
+  pressing j = isPressing (portsIn table) all (here j)
 
   -- none of the heads passed was ready, and the positions of the pressing ones are gathered
   pub record Walked (urgent left : ℕ) : Type 0 where
@@ -77,7 +77,7 @@ module _ (table : List ℕ) (input : ℕ) where
     few : countIn table input ≤ sectionRoom
     few = r .counts input (omega (arith, r .ports))
 
-    heads-here : headsOf all input ≡ map here (members heads)
+    heads-here : headsOf (portsIn table) all input ≡ map here (members heads)
     unfolding headsOf headSet window
     heads-here =
         ap (keep (isHead all)) (ofInput-window table (placesIn table) r input port)
@@ -110,7 +110,7 @@ module _ (table : List ℕ) (input : ℕ) where
           head = and-r (ltb j (countIn table input)) _ both;
         }
 
-    pub heads-ordered : pairwise ahead (headsOf all input) ≡ true
+    pub heads-ordered : pairwise ahead (headsOf (portsIn table) all input) ≡ true
     unfolding headsOf
     heads-ordered =
         pairwise-keep ahead (isHead all) (ofInput input all)
@@ -127,11 +127,12 @@ module _ (table : List ℕ) (input : ℕ) where
 
     module _ {urgent left : ℕ} (w : Walked urgent left) where
       -- the urgent cells, where they are the pressing ones of those passed
-      gathered : ofInput input (phase all .urgent) ≡ keep (isPressing all) (map here (w .passed))
-          → map (λ j. sectionRoom * input + j) (members urgent) ≡ urgentOf (phase all) input
+      gathered : ofInput input (phase (portsIn table) all .urgent)
+          ≡ keep (isPressing (portsIn table) all) (map here (w .passed))
+          → map (λ j. sectionRoom * input + j) (members urgent) ≡ urgentOf (phase (portsIn table) all) input
       unfolding urgentOf
       gathered h =
-          sym (ap (map (λ e. e .at)) (h ∙ keep-map (isPressing all) here (w .passed))
+          sym (ap (map (λ e. e .at)) (h ∙ keep-map (isPressing (portsIn table) all) here (w .passed))
           ∙ numbers-here (keep pressing (w .passed))
           ∙ ap (map (λ j. sectionRoom * input + j)) (sym (w .urgents)))
 
@@ -143,13 +144,13 @@ module _ (table : List ℕ) (input : ℕ) where
       pub walked-end : left ≡ 0 → Scanned table input nowhere urgent
       unfolding scheduledOf
       walked-end z =
-          let whole : headsOf all input ≡ map here (w .passed) =
+          let whole : headsOf (portsIn table) all input ≡ map here (w .passed) =
           heads-here ∙ ap (map here) (visited-end (w .visited) z) in
-          let none : none? (isReady all) (headsOf all input) ≡ true = ap (none? (isReady all)) whole ∙ none-here in
+          let none : none? (isReady all) (headsOf (portsIn table) all input) ≡ true = ap (none? (isReady all)) whole ∙ none-here in
           record {
-            scheduled-is = sym (ap (λ l. numberOf (first? l)) (scan-end-scheduled all input none) ∙ numberOf-nil);
+            scheduled-is = sym (ap (λ l. numberOf (first? l)) (scan-end-scheduled (portsIn table) all input none) ∙ numberOf-nil);
             fits = w .fits;
-            urgent-are = gathered (scan-end-urgent all input none ∙ ap (keep (isPressing all)) whole);
+            urgent-are = gathered (scan-end-urgent (portsIn table) all input none ∙ ap (keep (isPressing (portsIn table) all)) whole);
           }
 
       module _ (some : 0 < left) where
@@ -166,10 +167,10 @@ module _ (table : List ℕ) (input : ℕ) where
         walked-stop t =
             record {
               scheduled-is = sym (ap (λ l. numberOf (first? l))
-                  (scan-stop-scheduled all input front back e split heads-ordered none-here t)
+                  (scan-stop-scheduled (portsIn table) all input front back e split heads-ordered none-here t)
                   ∙ numberOf-one e ∙ waitingAt-at table (placesIn table) (sectionRoom * input + next));
               fits = w .fits;
-              urgent-are = gathered (scan-stop-urgent all input front back e split heads-ordered none-here t);
+              urgent-are = gathered (scan-stop-urgent (portsIn table) all input front back e split heads-ordered none-here t);
             }
           where
             front : List Waiting
@@ -181,7 +182,7 @@ module _ (table : List ℕ) (input : ℕ) where
             back : List Waiting
             back = map here (members (restOf left))
 
-            split : headsOf all input ≡ front ++ (e ∷ back)
+            split : headsOf (portsIn table) all input ≡ front ++ (e ∷ back)
             split =
                 heads-here
                 ∙ ap (map here) (visited-cons (w .visited) some)
@@ -196,7 +197,7 @@ module _ (table : List ℕ) (input : ℕ) where
               ∙ and-i (not (ready next)) (none? ready []) (not-i (ready next) f) (none?-nil ready))
 
           -- past a cell that is not pressing
-          walked-on : isPressing all (here next) ≡ false → Walked urgent (restOf left)
+          walked-on : isPressing (portsIn table) all (here next) ≡ false → Walked urgent (restOf left)
           walked-on g = record {
             passed = w .passed ++ (next ∷ []);
             visited = visited-next (w .visited) some;
@@ -210,7 +211,7 @@ module _ (table : List ℕ) (input : ℕ) where
           }
 
           -- past a pressing one
-          walked-with : isPressing all (here next) ≡ true → Walked (withOne urgent next) (restOf left)
+          walked-with : isPressing (portsIn table) all (here next) ≡ true → Walked (withOne urgent next) (restOf left)
           walked-with t = record {
             passed = w .passed ++ (next ∷ []);
             visited = visited-next (w .visited) some;
@@ -234,7 +235,7 @@ module _ (table : List ℕ) (input : ℕ) where
                   ltb-true i next (pairwise-split ltb passed (List·Memᴰ·head refl) rising)
 
           -- past a cell, pressing or not
-          pub walked-next : (b : Bool) → isPressing all (here next) ≡ b
+          pub walked-next : (b : Bool) → isPressing (portsIn table) all (here next) ≡ b
               → Walked (cond b (withOne urgent next) urgent) (restOf left)
           walked-next true t = walked-with t
           walked-next false g = walked-on g

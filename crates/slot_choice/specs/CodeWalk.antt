@@ -15,6 +15,7 @@ use Rattle.layout_table.specs.CodeEntries.{nowhere}
 use Rattle.slot_view.specs.CodeChoices.{ofInput, scheduledOf, bestOf}
 use Rattle.slot_view.specs.CodeView.{placesIn, waitingIn, waitingAt, InTable, Agrees}
 use Rattle.slot_view.specs.CodeScan.{Readable, someUrgent}
+use Rattle.layout.specs.Code.{portsIn}
 use Rattle.slot_view.specs.CodeViewed.{isHead, keyAt}
 
 ------------------------------------------------------------------------
@@ -25,14 +26,14 @@ unfoldable pub isReady : List Waiting → Waiting → Bool
 isReady all e = isHead all e && crosspointEmpty (crosspoints all) e
 
 -- a blocked head that is over every cell in the crosspoints of its output
-unfoldable pub isPressing : List Waiting → Waiting → Bool
-isPressing all e =
-    isHead all e && (blocked (crosspoints all) e && all? (beats e) (keep (sameOutput e) (crosspoints all)))
+unfoldable pub isPressing : ℕ → List Waiting → Waiting → Bool
+isPressing ports all e =
+    isHead all e && (blocked ports (crosspoints all) e && all? (beats ports e) (keep (sameOutput e) (crosspoints all)))
 
 -- what the walk makes of a head
-pub record Means (all : List Waiting) (e : Waiting) (ready pressing : Bool) : Type 0 where
+pub record Means (ports : ℕ) (all : List Waiting) (e : Waiting) (ready pressing : Bool) : Type 0 where
   pub ready-is : isReady all e ≡ ready
-  pub pressing-is : ready ≡ false → isPressing all e ≡ pressing
+  pub pressing-is : ready ≡ false → isPressing ports all e ≡ pressing
 
 ------------------------------------------------------------------------
 -- what the walk asks
@@ -41,7 +42,8 @@ pub record Means (all : List Waiting) (e : Waiting) (ready pressing : Bool) : Ty
 pub record BestKnown (table : List ℕ) (cross : List (List ℕ)) (best least : List ℕ) : Type 0 where
   pub readable : Readable table
   pub agrees : Agrees table (placesIn table) cross
-  pub bests : (output : ℕ) → output < portLimit → getD best output 0 ≡ bestOf (crosspoints (waitingIn table)) output
+  pub bests : (output : ℕ) → output < portLimit
+      → getD best output 0 ≡ bestOf (portsIn table) (crosspoints (waitingIn table)) output
   pub keys : (output : ℕ) → output < portLimit → getD least output 0 ≡ keyAt table (getD best output 0)
 
 -- the cell with number k is a head of an input
@@ -63,15 +65,15 @@ urgentOf p input = map (λ e. e .at) (ofInput input (p .urgent))
 
 -- the scheduled cell of an input, and its urgent cells
 pub record Scanned (table : List ℕ) (input scheduled urgent : ℕ) : Type 0 where
-  pub scheduled-is : scheduled ≡ scheduledOf (phase (waitingIn table)) input
+  pub scheduled-is : scheduled ≡ scheduledOf (phase (portsIn table) (waitingIn table)) input
   pub fits : urgent < 2 ^ positions
-  pub urgent-are : numbersAt input urgent ≡ urgentOf (phase (waitingIn table)) input
+  pub urgent-are : numbersAt input urgent ≡ urgentOf (phase (portsIn table) (waitingIn table)) input
 
 -- those of each input, and whether some cell is urgent
 pub record ScannedAll (table scheduled urgent : List ℕ) (some : Bool) : Type 0 where
   pub sizes : (length scheduled ≡ portLimit) × (length urgent ≡ portLimit)
   pub each : (input : ℕ) → input < portLimit → Scanned table input (getD scheduled input 0) (getD urgent input 0)
-  pub some-is : some ≡ someUrgent (phase (waitingIn table))
+  pub some-is : some ≡ someUrgent (phase (portsIn table) (waitingIn table))
 
 ------------------------------------------------------------------------
 -- what is matched

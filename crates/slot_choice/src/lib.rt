@@ -219,7 +219,7 @@ fn kind_of(
 ) -> Kind
     requires { ⌜ BestKnown (now table) (now cross) (now best) (now least) ⌝ }
     requires { ⌜ HeadOf (now table) input k ⌝ }
-    ensures { λ r. ⌜ Means (waitingIn (now (table .entry)))
+    ensures { λ r. ⌜ Means (portsIn (now (table .entry))) (waitingIn (now (table .entry)))
         (waitingAt (now (table .entry)) (placesIn (now (table .entry))) k) (r .ready) (r .pressing) ⌝ }
 {
     let output = layout_table::entry::output_of(table, k) as usize;
@@ -243,7 +243,8 @@ fn kind_of(
 fn is_pressing(table: &[u8], k: usize, best: u16, key: u64) -> bool
     requires { ⌜ (length (now table) ≡ tableSize) × (k < entryLimit) × (best < entryLimit) ⌝ }
     requires { ⌜ key ≡ cellKey (entryAt (now table) best .cell) ⌝ }
-    ensures { λ r. ⌜ r ≡ over (entryAt (now (table .entry)) k .cell) (entryAt (now (table .entry)) best .cell) ⌝ }
+    ensures { λ r. ⌜ r ≡ over (portsIn (now (table .entry))) (entryAt (now (table .entry)) k .cell)
+        (entryAt (now (table .entry)) best .cell) ⌝ }
 {
     layout_table::priority::goes_first(
         table,

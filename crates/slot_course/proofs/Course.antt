@@ -61,7 +61,7 @@ four-parts a b c d = simp append-assoc
 
 -- how many crosspoints of each output hold a cell in the next phase of a switch
 abbrev told-by : Switch → List ℕ
-told-by s = occupancies (s .ports) (phase (waiting (s .sections)))
+told-by s = occupancies (s .ports) (phase (s .ports) (waiting (s .sections)))
 
 module _ (s : Switch) where
   pub phased-none : (table proposals : List ℕ) (occupancies : List (List ℕ)) → IsTable table → s ≡ stateOf table
@@ -76,7 +76,8 @@ module _ (s : Switch) where
 
   pub phased-more : (n r : ℕ) (held table new proposals : List ℕ) (occupancies : List (List ℕ))
       → Phased s n table proposals occupancies → n < length proposals → n < length occupancies
-      → new ≡ encode (afterPhase (stateOf table)) → r ≡ phase (waiting (stateOf table .sections)) .proposals
+      → new ≡ encode (afterPhase (stateOf table))
+      → r ≡ phase (stateOf table .ports) (waiting (stateOf table .sections)) .proposals
       → OccupanciesOf (stateOf table) held → Phased s (n + 1) new (set proposals n r) (set occupancies n held)
   unfolding afterPhases proposalsAfter
   phased-more n r held table new proposals occupancies h b d e p o =
@@ -89,11 +90,11 @@ module _ (s : Switch) where
       }
     where
       counted : (k : ℕ) → (eqb k n ≡ true) ⊎ (eqb k n ≡ false) → k < n + 1
-          → getD (set proposals n r) k 0 ≡ phase (waiting (afterPhases k s .sections)) .proposals
+          → getD (set proposals n r) k 0 ≡ proposalsAfter k s
       counted k (inl t) l =
           let q : k ≡ n = eqb-true k n t in
           ap (λ j. getD (set proposals n r) j 0) q ∙ getD-set-same proposals n r 0 b ∙ p
-          ∙ ap (λ u. phase (waiting (u .sections)) .proposals) (h .state ∙ ap (λ j. afterPhases j s) (sym q))
+          ∙ ap (λ u. phase (u .ports) (waiting (u .sections)) .proposals) (h .state ∙ ap (λ j. afterPhases j s) (sym q))
       counted k (inr f) l =
           let other : k ≢ n = eqb-false k n f in
           getD-set-other proposals n k r 0 other ∙ h .reported .counted k (omega arith)
@@ -141,10 +142,11 @@ module _ (s : Switch) where
     unfolding departed courseOf afterPhases afterPhase
     ran-table new w = w ∙ ap (λ u. encode (departed u)) (h .state)
 
-    answers : departuresOf (portsIn table) (leaving (waiting (stateOf table .sections))) ≡ course .departures
+    answers : departuresOf (portsIn table) (leaving (portsIn table) (waiting (stateOf table .sections)))
+        ≡ course .departures
     unfolding courseOf afterPhases afterPhase
     answers =
-        ap₂ (λ n u. departuresOf n (leaving (waiting (u .sections))))
+        ap₂ (λ n u. departuresOf n (leaving n (waiting (u .sections))))
         (decode-ports table (stateOf table) (h .good) ∙ ap (λ u. u .ports) (h .state)) (h .state)
 
     first-is : getD proposals 0 0 ≡ course .one .proposals
@@ -167,14 +169,14 @@ module _ (s : Switch) where
     made-bytes = bytesOf 4 (course .one .proposals) ++ bytesOf 4 (course .two .proposals)
 
     pub ran-answer : (answer sent made one new : List ℕ) → answerSize ≤ length answer
-        → sent ≡ filled (departuresBytes 16 (departuresOf (portsIn table) (leaving (waiting (stateOf table .sections))))) answer
+        → sent ≡ filled (departuresBytes 16 (departuresOf (portsIn table) (leaving (portsIn table) (waiting (stateOf table .sections))))) answer
         → made ≡ put departuresSize 8 (bytesOf 4 (getD proposals 0 0) ++ bytesOf 4 (getD proposals 1 0)) sent
         → one ≡ put firstOccupancy occupanciesSize (wordsBytes portLimit first) made
         → new ≡ put secondOccupancy occupanciesSize (wordsBytes portLimit second) one
         → new ≡ filled (answerBytes (answerOf course)) answer
     unfolding filled answerBytes answerOf bytesOf made-bytes
     ran-answer answer sent made one new room leaves proposed told-first told-second =
-        let out = departuresOf (portsIn table) (leaving (waiting (stateOf table .sections))) in
+        let out = departuresOf (portsIn table) (leaving (portsIn table) (waiting (stateOf table .sections))) in
         let ds : List ℕ = departuresBytes 16 out in
         let ps : List ℕ = bytesOf 4 (getD proposals 0 0) ++ bytesOf 4 (getD proposals 1 0) in
         let fs : List ℕ = wordsBytes portLimit first in

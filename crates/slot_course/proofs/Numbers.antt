@@ -63,13 +63,15 @@ unfolding candidates
 candidates-keep ls [] ss = ((λ e. false), sym (keep-none (λ e. false) ls (none?-i (λ e. false) ls (λ e m. refl))))
 candidates-keep ls (u ∷ us) ss = (takesPart ls (u ∷ us) ss, refl)
 
-matched-of : (all : List Waiting) → phase all .matched ≡ matched ahead beats (phase all .candidates)
+matched-of : (ports : ℕ) (all : List Waiting)
+    → phase ports all .matched ≡ matched ahead (beats ports) (phase ports all .candidates)
 unfolding phase
-matched-of all = refl
+matched-of ports all = refl
 
-proposals-of : (all : List Waiting) → phase all .proposals ≡ proposals ahead beats (phase all .candidates)
+proposals-of : (ports : ℕ) (all : List Waiting)
+    → phase ports all .proposals ≡ proposals ahead (beats ports) (phase ports all .candidates)
 unfolding phase
-proposals-of all = refl
+proposals-of ports all = refl
 
 module _ {table : List ℕ} (r : Readable table) (places : List ℕ) where
   abbrev all : List Waiting
@@ -100,13 +102,14 @@ module _ {table : List ℕ} (r : Readable table) (places : List ℕ) where
           ap (numbersFrom 0) e ∙ numbersFrom-add 0 n (16 - n) ∙ ap (λ k. numbersFrom 0 n ++ numbersFrom k (16 - n)) z
 
   -- a test that gives the candidates
-  candidate : (q : Waiting → Bool) × (phase all .candidates ≡ keep q all)
+  candidate : (q : Waiting → Bool) × (phase (portsIn table) all .candidates ≡ keep q all)
   unfolding phase lists
   candidate =
-      let w = candidates-keep (lists all) (phase all .urgent) (phase all .scheduled) in
+      let w = candidates-keep (lists all) (phase (portsIn table) all .urgent) (phase (portsIn table) all .scheduled) in
       ((λ e. isListed (e .place) && w .0 e), w .1 ∙ keep-keep (λ e. isListed (e .place)) (w .0) all)
 
-  candidates-sections : flatten (map (λ i. ofInput i (phase all .candidates)) (upTo portLimit)) ≡ phase all .candidates
+  candidates-sections : flatten (map (λ i. ofInput i (phase (portsIn table) all .candidates)) (upTo portLimit))
+      ≡ phase (portsIn table) all .candidates
   unfolding ofInput
   candidates-sections =
       ap (λ l. flatten (map (λ i. ofInput i l) (upTo portLimit))) (candidate .1)
@@ -120,8 +123,9 @@ module _ {table : List ℕ} (r : Readable table) (places : List ℕ) where
       q = candidate .0
 
   -- a candidate is the cell with its number
-  candidate-self : {e : Waiting} → List·Memᴰ e (phase all .candidates) → e ≡ waitingAt table places (e .at)
-  candidate-self m = inTable-e table places r (lists-all all (candidate-listed all m)) .0
+  candidate-self : {e : Waiting} → List·Memᴰ e (phase (portsIn table) all .candidates)
+      → e ≡ waitingAt table places (e .at)
+  candidate-self m = inTable-e table places r (lists-all all (candidate-listed (portsIn table) all m)) .0
 
   self-map : (l : List Waiting) → ((e : Waiting) → List·Memᴰ e l → e ≡ waitingAt table places (e .at))
       → l ≡ map (waitingAt table places) (map (λ e. e .at) l)
@@ -130,28 +134,31 @@ module _ {table : List ℕ} (r : Readable table) (places : List ℕ) where
 
   module _ (sets : List ℕ)
       (are : (input : ℕ) → input < portLimit → map (λ j. sectionRoom * input + j) (members (getD sets input 0))
-      ≡ candidatesOf (phase all) input) where
-    pub candidates-numbers : map (waitingAt table places) (numbersOf sets) ≡ phase all .candidates
+      ≡ candidatesOf (phase (portsIn table) all) input) where
+    pub candidates-numbers : map (waitingAt table places) (numbersOf sets) ≡ phase (portsIn table) all .candidates
     unfolding numbersOf numbersIn upTo ofInput candidatesOf
     candidates-numbers =
-        sym (flatten-through (waitingAt table places) (λ i. ofInput i (phase all .candidates))
+        sym (flatten-through (waitingAt table places) (λ i. ofInput i (phase (portsIn table) all .candidates))
         (λ i. numbersIn (getD sets i 0) i) (upTo portLimit) (λ i m. part i (omega (arith, mem-numbersFrom 0 portLimit m .1))))
         ∙ candidates-sections
       where
         part : (i : ℕ) → i < portLimit
-            → ofInput i (phase all .candidates) ≡ map (waitingAt table places) (numbersIn (getD sets i 0) i)
+            → ofInput i (phase (portsIn table) all .candidates)
+            ≡ map (waitingAt table places) (numbersIn (getD sets i 0) i)
         part i l =
-            self-map (ofInput i (phase all .candidates))
-            (λ e m. candidate-self (mem-keep-in (λ e. eqb (e .cell .input) i) (phase all .candidates) m))
+            self-map (ofInput i (phase (portsIn table) all .candidates))
+            (λ e m. candidate-self (mem-keep-in (λ e. eqb (e .cell .input) i) (phase (portsIn table) all .candidates) m))
             ∙ ap (map (waitingAt table places)) (sym (are i l))
 
     -- the cell with the number of a candidate is one
-    pub number-candidate : {k : ℕ} → List·Memᴰ k (numbersOf sets) → List·Memᴰ (waitingAt table places k) (phase all .candidates)
+    pub number-candidate : {k : ℕ} → List·Memᴰ k (numbersOf sets)
+        → List·Memᴰ (waitingAt table places k) (phase (portsIn table) all .candidates)
     number-candidate m = rw (← candidates-numbers) (Memᴰ·map (waitingAt table places) m)
 
     -- numbers stand to each other as their cells do
     agree : Agree (λ k l. ahead (waitingAt table places k) (waitingAt table places l))
-        (λ k l. beats (waitingAt table places k) (waitingAt table places l)) aheadAt (overAt table) (numbersOf sets)
+        (λ k l. beats (portsIn table) (waitingAt table places k) (waitingAt table places l)) aheadAt (overAt table)
+        (numbersOf sets)
     unfolding ahead sameInput beats sameOutput aheadAt overAt waitingAt
     agree =
         record {
@@ -159,16 +166,17 @@ module _ {table : List ℕ} (r : Readable table) (places : List ℕ) where
           on-over = λ k l _ _. refl;
         }
 
-    pub matched-numbers : phase all .matched ≡ map (waitingAt table places) (matched aheadAt (overAt table) (numbersOf sets))
+    pub matched-numbers : phase (portsIn table) all .matched
+        ≡ map (waitingAt table places) (matched aheadAt (overAt table) (numbersOf sets))
     matched-numbers =
-        matched-of all
-        ∙ ap (matched ahead beats) (sym candidates-numbers)
-        ∙ matched-map ahead beats (waitingAt table places) (numbersOf sets)
+        matched-of (portsIn table) all
+        ∙ ap (matched ahead (beats (portsIn table))) (sym candidates-numbers)
+        ∙ matched-map ahead (beats (portsIn table)) (waitingAt table places) (numbersOf sets)
         ∙ ap (map (waitingAt table places)) (matched-ext _ _ aheadAt (overAt table) (numbersOf sets) agree)
 
-    pub proposals-numbers : phase all .proposals ≡ proposals aheadAt (overAt table) (numbersOf sets)
+    pub proposals-numbers : phase (portsIn table) all .proposals ≡ proposals aheadAt (overAt table) (numbersOf sets)
     proposals-numbers =
-        proposals-of all
-        ∙ ap (proposals ahead beats) (sym candidates-numbers)
-        ∙ proposals-map ahead beats (waitingAt table places) (numbersOf sets)
+        proposals-of (portsIn table) all
+        ∙ ap (proposals ahead (beats (portsIn table))) (sym candidates-numbers)
+        ∙ proposals-map ahead (beats (portsIn table)) (waitingAt table places) (numbersOf sets)
         ∙ proposals-ext _ _ aheadAt (overAt table) (numbersOf sets) agree

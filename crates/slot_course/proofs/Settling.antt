@@ -34,9 +34,10 @@ use Rattle.slot_moves.proofs.Rules.{straight-free, straight-scheduled, straight
 use Rattle.slot_matching.specs.CodeFound.{numbersOf, Found}
 use Rattle.slot_moves.specs.CodeMoves.{straightOf, straightTo}
 use Rattle.slot_moves.specs.CodeMoved.{Settled}
+use Rattle.layout.specs.Code.{portsIn}
 use Rattle.slot_course.proofs.Numbers.{matched-numbers, proposals-numbers}
 
-module _ {table : List ℕ} (r : Readable table) (o : Orderly (waitingIn table)) {cross : List (List ℕ)} {urgent : Bool}
+module _ {table : List ℕ} (r : Readable table) (o : Orderly (portsIn table) (waitingIn table)) {cross : List (List ℕ)} {urgent : Bool}
     {scheduled sets best held : List ℕ} {made : ℕ} (c : Chosen table cross urgent scheduled sets best)
     (found : Found table sets held made) where
   abbrev places : List ℕ
@@ -52,13 +53,13 @@ module _ {table : List ℕ} (r : Readable table) (o : Orderly (waitingIn table))
   test : ℕ → Bool
   test k = eqb (getD held (entryAt table k .cell .output) nowhere) k
 
-  matches-are : phase all .matched ≡ map cell (keep test (numbersOf sets))
+  matches-are : phase (portsIn table) all .matched ≡ map cell (keep test (numbersOf sets))
   unfolding test
   matches-are = matched-numbers r places sets (c .candidates-are) ∙ ap (map cell) (found .matching)
 
   -- the match that an output holds
   record Held (x : ℕ) : Type 0 where
-    mem : List·Memᴰ (cell (getD held x 0)) (phase all .matched)
+    mem : List·Memᴰ (cell (getD held x 0)) (phase (portsIn table) all .matched)
     to : outputOf (cell (getD held x 0)) ≡ x
 
   match-held : (x : ℕ) → x < portLimit → getD held x 0 < nowhere → Held x
@@ -75,7 +76,7 @@ module _ {table : List ℕ} (r : Readable table) (o : Orderly (waitingIn table))
       }
 
   -- an output holds each match that goes to it
-  match-of : {e : Waiting} → List·Memᴰ e (phase all .matched) → getD held (outputOf e) nowhere ≡ e .at
+  match-of : {e : Waiting} → List·Memᴰ e (phase (portsIn table) all .matched) → getD held (outputOf e) nowhere ≡ e .at
   unfolding test
   match-of {e} m = go (Memᴰ·of-map cell (keep test (numbersOf sets)) (rw matches-are at m))
     where
@@ -87,27 +88,28 @@ module _ {table : List ℕ} (r : Readable table) (o : Orderly (waitingIn table))
           ∙ sym (waitingAt-at table places k)
           ∙ ap (λ w. w .at) q
 
-  straight-is : (x : ℕ) → x < portLimit → straightTo scheduled held x ≡ straightOf (phase all) x
-  straight-is x l = go (either (ltb k nowhere)) ∙ sym (straightOf-by (phase all) x)
+  straight-is : (x : ℕ) → x < portLimit → straightTo scheduled held x ≡ straightOf (phase (portsIn table) all) x
+  straight-is x l = go (either (ltb k nowhere)) ∙ sym (straightOf-by (phase (portsIn table) all) x)
     where
       k : ℕ
       k = getD held x 0
 
       chosen : ℕ
-      chosen = numberBy outputOf (phase all .straight) x
+      chosen = numberBy outputOf (phase (portsIn table) all .straight) x
 
       -- no straight cell goes to the output
-      none : ((e : Waiting) → List·Memᴰ e (phase all .straight) → outputOf e ≡ x → ⊥) → chosen ≡ nowhere
-      none u = by-none outputOf (phase all .straight) x u
+      none : ((e : Waiting) → List·Memᴰ e (phase (portsIn table) all .straight) → outputOf e ≡ x → ⊥) → chosen ≡ nowhere
+      none u = by-none outputOf (phase (portsIn table) all .straight) x u
 
       go : (ltb k nowhere ≡ true) ⊎ (ltb k nowhere ≡ false) → straightTo scheduled held x ≡ chosen
       go (inr t) =
           sym (straight-free scheduled held x (ltb-false _ _ t))
           ∙ sym (none (λ e m q.
-          let w : Known r places e = known r places (match-all all (straight-matched all m)) in
+          let w : Known r places e = known r places (match-all (portsIn table) all (straight-matched (portsIn table) all m)) in
           let room : x < length held = omega (arith, found .size) in
           let b : k ≡ e .at =
-          getD-any held x 0 nowhere room ∙ ap (λ y. getD held y nowhere) (sym q) ∙ match-of (straight-matched all m) in
+          getD-any held x 0 nowhere room ∙ ap (λ y. getD held y nowhere) (sym q)
+          ∙ match-of (straight-matched (portsIn table) all m) in
           let h : nowhere ≤ k = ltb-false _ _ t in
           omega (arith, w .small)))
       go (inl t) = case (either (eqb k (getD scheduled i 0)))
@@ -134,43 +136,45 @@ module _ {table : List ℕ} (r : Readable table) (o : Orderly (waitingIn table))
           port = omega (arith, small)
 
           -- the scheduled cell of the input
-          due : getD scheduled i 0 ≡ numberBy inputOf (phase all .scheduled) i
-          due = c .schedules .at i port ∙ scheduledOf-by (phase all) i
+          due : getD scheduled i 0 ≡ numberBy inputOf (phase (portsIn table) all .scheduled) i
+          due = c .schedules .at i port ∙ scheduledOf-by (phase (portsIn table) all) i
 
           -- the match is the scheduled cell, which is not urgent
-          not-urgent : k ≡ getD scheduled i 0 → List·Memᴰ e (phase all .urgent) → ⊥
-          not-urgent q u = here (by-cases inputOf (phase all .scheduled) i)
+          not-urgent : k ≡ getD scheduled i 0 → List·Memᴰ e (phase (portsIn table) all .urgent) → ⊥
+          not-urgent q u = here (by-cases inputOf (phase (portsIn table) all .scheduled) i)
             where
-              here : ByPort inputOf (phase all .scheduled) i → ⊥
+              here : ByPort inputOf (phase (portsIn table) all .scheduled) i → ⊥
               here (has s j _ n) =
-                  let one : e ≡ s = same-number (o .numbers) (match-all all (w .mem)) (scheduled-all all j) (number ∙ q ∙ due ∙ n) in
-                  clash (urgent-blocked all u) (ap (blocked (crosspoints all)) one ∙ scheduled-normal all j)
+                  let one : e ≡ s = same-number (o .numbers) (match-all (portsIn table) all (w .mem)) (scheduled-all (portsIn table) all j) (number ∙ q ∙ due ∙ n) in
+                  clash (urgent-blocked (portsIn table) all u)
+                  (ap (blocked (portsIn table) (crosspoints all)) one ∙ scheduled-normal (portsIn table) all j)
               here (lacks _ n) = omega (arith, q, due, n, small)
 
           -- another match is urgent
-          urgent-match : (k ≡ getD scheduled i 0 → ⊥) → List·Memᴰ e (phase all .urgent)
-          urgent-match n = here (match-kind all o (w .mem))
+          urgent-match : (k ≡ getD scheduled i 0 → ⊥) → List·Memᴰ e (phase (portsIn table) all .urgent)
+          urgent-match n = here (match-kind (portsIn table) all o (w .mem))
             where
-              here : List·Memᴰ e (phase all .urgent) ⊎ List·Memᴰ e (phase all .scheduled) → List·Memᴰ e (phase all .urgent)
+              here : List·Memᴰ e (phase (portsIn table) all .urgent) ⊎ List·Memᴰ e (phase (portsIn table) all .scheduled)
+                  → List·Memᴰ e (phase (portsIn table) all .urgent)
               here (inl u) = u
               here (inr j) =
                   absurd (n (sym number
-                  ∙ sym (by-one inputOf (phase all .scheduled) (scheduled-input all o) j)
-                  ∙ ap (numberBy inputOf (phase all .scheduled)) from
+                  ∙ sym (by-one inputOf (phase (portsIn table) all .scheduled) (scheduled-input all o) j)
+                  ∙ ap (numberBy inputOf (phase (portsIn table) all .scheduled)) from
                   ∙ sym due))
 
           case : (eqb k (getD scheduled i 0) ≡ true) ⊎ (eqb k (getD scheduled i 0) ≡ false) → straightTo scheduled held x ≡ chosen
           case (inl q) =
               sym (straight-scheduled scheduled held x (eqb-true _ _ q))
               ∙ sym (none (λ f j to.
-              let one : f ≡ e = match-output all o (straight-matched all j) (w .mem) (to ∙ sym (w .to)) in
-              not-urgent (eqb-true _ _ q) (Memᴰ·cast (sym one) (straight-urgent all o j))))
+              let one : f ≡ e = match-output (portsIn table) all o (straight-matched (portsIn table) all j) (w .mem) (to ∙ sym (w .to)) in
+              not-urgent (eqb-true _ _ q) (Memᴰ·cast (sym one) (straight-urgent (portsIn table) all o j))))
           case (inr q) =
               sym (straight-match scheduled held x small (eqb-false _ _ q))
               ∙ sym number
-              ∙ sym (ap (numberBy outputOf (phase all .straight)) (sym (w .to))
-              ∙ by-one outputOf (phase all .straight) (straight-output all o)
-              (straight-i all (urgent-match (eqb-false _ _ q)) (w .mem)))
+              ∙ sym (ap (numberBy outputOf (phase (portsIn table) all .straight)) (sym (w .to))
+              ∙ by-one outputOf (phase (portsIn table) all .straight) (straight-output all o)
+              (straight-i (portsIn table) all (urgent-match (eqb-false _ _ q)) (w .mem)))
 
   pub settled : Settled table scheduled held
   settled =
@@ -181,5 +185,5 @@ module _ {table : List ℕ} (r : Readable table) (o : Orderly (waitingIn table))
         straight-is = straight-is;
       }
 
-  pub proposals-are : made ≡ phase all .proposals
+  pub proposals-are : made ≡ phase (portsIn table) all .proposals
   proposals-are = found .counted ∙ sym (proposals-numbers r places sets (c .candidates-are))

@@ -25,6 +25,7 @@ use Rattle.slot_view.proofs.Window.{waitingAt-cell}
 use Rattle.slot_choice.proofs.Candidates.{candidates-none}
 use Rattle.slot_moves.proofs.Known.{known}
 use Rattle.slot_matching.specs.CodeFound.{numbersIn, numbersOf, Found, ToOutputs, aheadAt, overAt}
+use Rattle.layout.specs.Code.{portsIn}
 use Rattle.slot_course.proofs.Numbers.{flatten-empty, number-candidate}
 
 mem-upTo : {n : ℕ} (i : ℕ) → List·Memᴰ i (upTo n) → i < n
@@ -79,7 +80,8 @@ module _ {table : List ℕ} (r : Readable table) {cross : List (List ℕ)} {urge
   unmatched f =
       flatten-empty _ (upTo portLimit) (λ i m.
       c .candidates-are i (few i m)
-      ∙ candidates-none (waitingIn table) i (no-urgent (phase (waitingIn table)) (sym (c .urgent-is) ∙ f)))
+      ∙ candidates-none (portsIn table) (waitingIn table) i
+      (no-urgent (phase (portsIn table) (waitingIn table)) (sym (c .urgent-is) ∙ f)))
     where
       few : (i : ℕ) → List·Memᴰ i (upTo portLimit) → i < portLimit
       few i m = omega (arith, mem-upTo i m)
@@ -89,7 +91,7 @@ module _ {table : List ℕ} (r : Readable table) {cross : List (List ℕ)} {urge
   to-outputs =
       record {
         small = λ k m.
-            let e = known r (placesIn table) (lists-all (waitingIn table) (candidate-listed (waitingIn table)
+            let e = known r (placesIn table) (lists-all (waitingIn table) (candidate-listed (portsIn table) (waitingIn table)
             (number-candidate r (placesIn table) sets (c .candidates-are) m))) in
             omega (arith, e .to, r .ports, ap (λ d. d .output) (waitingAt-cell table (placesIn table) k));
       }

@@ -15,11 +15,11 @@ use Rattle.slot_moves.specs.CodeMoved.{afterPhase, OccupanciesOf}
 unfoldable pub courseOf : Switch → Course
 courseOf s =
     let arrived = s .sections in
-    let one = phase (waiting arrived) in
+    let one = phase (s .ports) (waiting arrived) in
     let between = moved one arrived in
-    let two = phase (waiting between) in
+    let two = phase (s .ports) (waiting between) in
     let settled = moved two between in
-    let out = leaving (waiting settled) in
+    let out = leaving (s .ports) (waiting settled) in
     record {
       arrived = arrived;
       one = one;
@@ -37,7 +37,7 @@ afterPhases (suc n) s = afterPhase (afterPhases n s)
 
 -- the proposals that the phase after so many phases makes
 unfoldable pub proposalsAfter : ℕ → Switch → ℕ
-proposalsAfter n s = phase (waiting (afterPhases n s .sections)) .proposals
+proposalsAfter n s = phase (afterPhases n s .ports) (waiting (afterPhases n s .sections)) .proposals
 
 -- the first n phases have reported: the proposals of each, and the occupancy of each output in each
 pub record Reported (s : Switch) (n : ℕ) (proposals : List ℕ) (occupancies : List (List ℕ)) : Type 0 where

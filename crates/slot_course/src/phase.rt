@@ -34,7 +34,8 @@ pub fn phase(
     ensures { λ _. ⌜ now (table .exit) ≡ encode (afterPhase (stateOf (now (table .entry)))) ⌝ }
     ensures { λ _. ⌜ Viewed (now (table .exit)) (now (listed .exit)) (now (heads .exit)) (now (cross .exit))
         (now (keys .exit)) (now (best .exit)) ⌝ }
-    ensures { λ r. ⌜ r .proposals ≡ phase (waiting (stateOf (now (table .entry)) .sections)) .proposals ⌝ }
+    ensures { λ r. ⌜ r .proposals ≡ phase (stateOf (now (table .entry)) .ports)
+        (waiting (stateOf (now (table .entry)) .sections)) .proposals ⌝ }
     ensures { λ r. ⌜ OccupanciesOf (stateOf (now (table .entry))) (r .occupancy) ⌝ }
 {
     let choice = choose(table, listed, heads, cross, keys);

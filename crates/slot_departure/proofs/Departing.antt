@@ -116,7 +116,7 @@ module _ (table : List ℕ) where
   old = stateOf table .sections
 
   abbrev after : List (List Entry)
-  after = without (leaving (waiting (stateOf table .sections))) (stateOf table .sections)
+  after = without (leaving (portsIn table) (waiting (stateOf table .sections))) (stateOf table .sections)
 
   -- the switch whose first inputs are without the cells that leave
   pub partly : ℕ → Switch
@@ -144,14 +144,14 @@ module _ (table : List ℕ) (good : IsTable table) where
   old-short = section-short table (stateOf table) good
 
   lengths : length (after table) ≡ length (old table)
-  lengths = length-without (leaving (waiting (old table))) (old table)
+  lengths = length-without (leaving (portsIn table) (waiting (old table))) (old table)
 
   pub partly-none : table ≡ encode (partly table 0)
   unfolding partly mixed
   partly-none = sym (encode-decode table (stateOf table) good)
 
   pub partly-all : encode (partly table (portsIn table)) ≡ encode (departed (stateOf table))
-  unfolding partly departed
+  unfolding partly departed stateOf portsIn
   partly-all =
       ap (λ n. encode (partly table n)) (sym length-old)
       ∙ ap (λ l. encode (record { ports = stateOf table .ports; clock = stateOf table .clock; sections = l }))
@@ -163,7 +163,7 @@ module _ (table : List ℕ) (good : IsTable table) where
         → getD (after table) i [] ≡ staying table numbers (sectionRoom * i) (countIn table i)
     unfolding staying stays
     staying-new i l =
-        without-at (leaving (waiting (old table))) (old table) i
+        without-at (leaving (portsIn table) (waiting (old table))) (old table) i
         ∙ ap (λ w. map entryOf (keep stay w)) numbered
         ∙ ap (map entryOf) (keep-ext stay (stays numbers) (map (waitsAt table) ks) agree)
       where
@@ -171,7 +171,7 @@ module _ (table : List ℕ) (good : IsTable table) where
         ks = numbersFrom (sectionRoom * i) (countIn table i)
 
         stay : Waiting → Bool
-        stay e = not (among (leaving (waiting (old table))) e)
+        stay e = not (among (leaving (portsIn table) (waiting (old table))) e)
 
         numbered : numberFrom (sectionRoom * i) (getD (old table) i []) ≡ map (waitsAt table) ks
         numbered =
@@ -180,7 +180,7 @@ module _ (table : List ℕ) (good : IsTable table) where
         agree : (e : Waiting) → List·Memᴰ e (map (waitsAt table) ks) → stay e ≡ stays numbers e
         agree e m =
             ap not
-            (ap (λ all. among (leaving all) e) (sym (waitingIn-state table good))
+            (ap (λ all. among (leaving (portsIn table) all) e) (sym (waitingIn-state table good))
             ∙ among-leaving table good c
             (subst (List·Memᴰ e) (sym (waitingIn-state table good))
             (section-waiting (old table) i (subst (List·Memᴰ e) (sym numbered) m))))

@@ -89,43 +89,49 @@ module _ (table : List ℕ) (good : IsTable table) where
         goes = ap (λ w. w .cell .output) (sym (x .0));
       }
 
-  leaves-i : (output n : ℕ) → Best table (Held output) n → List·Memᴰ (cellAt n) (leaving all)
+  leaves-i : (output n : ℕ) → Best table (Held output) n → List·Memᴰ (cellAt n) (leaving (portsIn table) all)
   unfolding leaving waitingAt isIn
   leaves-i output n h =
-      least-mem beats (keep-mem isIn (known-i (h .own .entry)) (h .own .place))
-      (none?-i (λ e. beats e (cellAt n)) (keep isIn all)
+      least-mem (beats (portsIn table)) (keep-mem isIn (known-i (h .own .entry)) (h .own .place))
+      (none?-i (λ e. beats (portsIn table) e (cellAt n)) (keep isIn all)
       (λ e m. by-fail _ (λ w. go e (mem-keep-in isIn all m) (mem-keep-passes isIn all m) w)))
     where
-      go : (e : Waiting) → List·Memᴰ e all → isBuffered (e .place) ≡ true → beats e (cellAt n) ≡ true → ⊥
+      go : (e : Waiting) → List·Memᴰ e all → isBuffered (e .place) ≡ true → beats (portsIn table) e (cellAt n) ≡ true
+          → ⊥
       go e m b w =
-          past (h .upper (e .at) (subst (λ o. Held o (e .at)) (beats-output e (cellAt n) w ∙ h .own .goes) (buffered-e m b)))
+          past (h .upper (e .at) (subst (λ o. Held o (e .at)) (beats-output (portsIn table) e (cellAt n) w ∙ h .own .goes) (buffered-e m b)))
         where
-          wins : over (entryAt table (e .at) .cell) (entryAt table n .cell) ≡ true
-          wins = ap (λ d. over (d .cell) (entryAt table n .cell)) (sym (known m .0)) ∙ beats-over e (cellAt n) w
+          wins : over (portsIn table) (entryAt table (e .at) .cell) (entryAt table n .cell) ≡ true
+          wins =
+              ap (λ d. over (portsIn table) (d .cell) (entryAt table n .cell)) (sym (known m .0))
+              ∙ beats-over (portsIn table) e (cellAt n) w
 
-          past : (e .at ≡ n) ⊎ (over (entryAt table n .cell) (entryAt table (e .at) .cell) ≡ true) → ⊥
-          past (inl q) = clash (rw q at wins) (over-irrefl (entryAt table n .cell))
-          past (inr q) = clash (over-trans _ _ _ wins q) (over-irrefl (entryAt table (e .at) .cell))
+          past : (e .at ≡ n) ⊎ (over (portsIn table) (entryAt table n .cell) (entryAt table (e .at) .cell) ≡ true) → ⊥
+          past (inl q) = clash (rw q at wins) (over-irrefl (portsIn table) (entryAt table n .cell))
+          past (inr q) =
+              clash (over-trans (portsIn table) _ _ _ wins q)
+              (over-irrefl (portsIn table) (entryAt table (e .at) .cell))
 
   module _ {numbers : List ℕ} (c : BestBuffered table (placesIn table) numbers) where
-    leaves-e : {e : Waiting} → List·Memᴰ e (leaving all) → getD numbers (e .cell .output) 0 ≡ e .at
+    leaves-e : {e : Waiting} → List·Memᴰ e (leaving (portsIn table) all) → getD numbers (e .cell .output) 0 ≡ e .at
     unfolding waitingAt
     leaves-e {e} m = go (c .each (e .cell .output) (port mem))
       where
         mem : List·Memᴰ e all
-        mem = leaving-in all m
+        mem = leaving-in (portsIn table) all m
 
         own : Held (e .cell .output) (e .at)
-        own = buffered-e mem (leaving-buffered all m)
+        own = buffered-e mem (leaving-buffered (portsIn table) all m)
 
         past : (n : ℕ) → Best table (Held (e .cell .output)) n
-            → (e .at ≡ n) ⊎ (over (entryAt table n .cell) (entryAt table (e .at) .cell) ≡ true) → n ≡ e .at
+            → (e .at ≡ n) ⊎ (over (portsIn table) (entryAt table n .cell) (entryAt table (e .at) .cell) ≡ true)
+            → n ≡ e .at
         past n b (inl q) = sym q
         past n b (inr q) =
             absurd
             (clash
-            (beats-i (cellAt n) e (b .own .goes) (ap (λ w. over (entryAt table n .cell) (w .cell)) (known mem .0) ∙ q))
-            (leaving-first all m (known-i (b .own .entry)) (b .own .place)))
+            (beats-i (portsIn table) (cellAt n) e (b .own .goes) (ap (λ w. over (portsIn table) (entryAt table n .cell) (w .cell)) (known mem .0) ∙ q))
+            (leaving-first (portsIn table) all m (known-i (b .own .entry)) (b .own .place)))
 
         go : BestAmong table (Held (e .cell .output)) (getD numbers (e .cell .output) 0)
             → getD numbers (e .cell .output) 0 ≡ e .at
@@ -134,14 +140,15 @@ module _ (table : List ℕ) (good : IsTable table) where
 
     -- a cell leaves if it is its output's choice
     pub among-leaving : {e : Waiting} → List·Memᴰ e all
-        → among (leaving all) e ≡ eqb (getD numbers (e .cell .output) 0) (e .at)
+        → among (leaving (portsIn table) all) e ≡ eqb (getD numbers (e .cell .output) 0) (e .at)
     among-leaving {e} m =
         same _ _
-        (λ h. eq-eqb _ _ (leaves-e (among-e (waitingIn-orderly table good) (leaving all) (λ f. leaving-in all) m h)))
+        (λ h. eq-eqb _ _ (leaves-e (among-e (waitingIn-orderly table good) (leaving (portsIn table) all) (λ f. leaving-in (portsIn table) all) m h)))
         (λ h. go (eqb-true _ _ h) (c .each (e .cell .output) (port m)))
       where
         go : getD numbers (e .cell .output) 0 ≡ e .at
-            → BestAmong table (Held (e .cell .output)) (getD numbers (e .cell .output) 0) → among (leaving all) e ≡ true
+            → BestAmong table (Held (e .cell .output)) (getD numbers (e .cell .output) 0)
+            → among (leaving (portsIn table) all) e ≡ true
         go q (empty d f) = absurd (omega (arith, Window.inTable-below readable (known m .1)))
         go q (best s b) = among-i (Memᴰ·cast (known m .0 ∙ ap cellAt (sym q)) (leaves-i (e .cell .output) _ b))
 
@@ -266,7 +273,7 @@ goesTo o e = eqb (e .cell .output) o
 module _ (table : List ℕ) (good : IsTable table) {numbers : List ℕ} (c : BestBuffered table (placesIn table) numbers)
   where
     abbrev out : List Waiting
-    out = leaving (waitingIn table)
+    out = leaving (portsIn table) (waitingIn table)
 
     -- the cells that leave for an output
     abbrev sendsTo : ℕ → List Waiting
@@ -283,11 +290,11 @@ module _ (table : List ℕ) (good : IsTable table) {numbers : List ℕ} (c : Bes
       is-buffered : Buffered table (placesIn table) o (e .at)
       is-buffered =
           subst (λ p. Buffered table (placesIn table) p (e .at)) output-is
-          (buffered-e table good (leaving-in (waitingIn table) member) (leaving-buffered (waitingIn table) member))
+          (buffered-e table good (leaving-in (portsIn table) (waitingIn table) member) (leaving-buffered (portsIn table) (waitingIn table) member))
 
       chosen-is : e ≡ waitingAt table (placesIn table) (getD numbers o 0)
       chosen-is =
-          known table good (leaving-in (waitingIn table) member) .0
+          known table good (leaving-in (portsIn table) (waitingIn table) member) .0
           ∙ ap (waitingAt table (placesIn table)) (sym (leaves-e table good c member) ∙ ap (λ p. getD numbers p 0) output-is)
 
     -- what an output sends
@@ -344,7 +351,8 @@ module _ (table : List ℕ) (good : IsTable table) {numbers : List ℕ} (c : Bes
         go o l (above h) = past o l (omega arith)
 
     pub departures-chosen : departuresBytes 16 (map (departureAt table) numbers)
-        ≡ departuresBytes 16 (departuresOf (portsIn table) (leaving (waiting (stateOf table .sections))))
+        ≡ departuresBytes 16 (departuresOf (portsIn table) (leaving (portsIn table) (waiting (stateOf table .sections))))
     departures-chosen =
         departures-out
-        ∙ ap (λ all. departuresBytes 16 (departuresOf (portsIn table) (leaving all))) (waitingIn-state table good)
+        ∙ ap (λ all. departuresBytes 16 (departuresOf (portsIn table) (leaving (portsIn table) all)))
+        (waitingIn-state table good)

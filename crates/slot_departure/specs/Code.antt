@@ -29,7 +29,7 @@ departed s =
     record {
       ports = s .ports;
       clock = s .clock;
-      sections = without (leaving (waiting (s .sections))) (s .sections);
+      sections = without (leaving (s .ports) (waiting (s .sections))) (s .sections);
     }
 
 ------------------------------------------------------------------------

@@ -29,7 +29,7 @@ pub fn depart(table: &mut [u8], best: &[u16; PORTS], answer: &mut [u8])
     ensures { λ _. ⌜ now (table .exit) ≡ encode (departed (stateOf (now (table .entry)))) ⌝ }
     ensures { λ _. ⌜ now (answer .exit)
         ≡ filled (departuresBytes portLimit (departuresOf (portsIn (now (table .entry)))
-        (leaving (waiting (stateOf (now (table .entry)) .sections))))) (now (answer .entry)) ⌝ }
+        (leaving (portsIn (now (table .entry))) (waiting (stateOf (now (table .entry)) .sections))))) (now (answer .entry)) ⌝ }
 {
     send(table, best, answer);
     remove(table, best);

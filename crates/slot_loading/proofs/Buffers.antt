@@ -74,7 +74,8 @@ module _ (table : List ℕ) (good : IsTable table) where
     small = inTable-below (table-readable table good) t
 
     -- by the order of the cells
-    pub better-order : held < nowhere → (r : Bool) → r ≡ over (entryAt table k .cell) (entryAt table held .cell)
+    pub better-order : held < nowhere → (r : Bool)
+        → r ≡ over (portsIn table) (entryAt table k .cell) (entryAt table held .cell)
         → betterOf table held k ≡ cond r k held
     better-order l true e = better-over table held k small l (sym e)
     better-order l false e = better-under table held k small l (sym e)
@@ -96,7 +97,8 @@ module _ (table : List ℕ) (good : IsTable table) where
             let rival = keyAt-cell table held l in
             better-order l (ltb (key (entryAt table k .cell)) (keyAt table held))
             (ap (ltb (key (entryAt table k .cell))) rival
-            ∙ over-keys (entryAt table k .cell) (entryAt table held .cell) (slot-fits k small) (slot-fits held l)
+            ∙ over-keys (portsIn table) (entryAt table k .cell) (entryAt table held .cell) (slot-fits k small)
+            (slot-fits held l)
             (λ e. d (e ∙ sym rival)))
         go (equal l) = first (omega arith)
         go (above l) = first (omega arith)
@@ -160,12 +162,12 @@ module _ (table : List ℕ) (good : IsTable table) (k output : ℕ) (b : Buffere
       mem j b = inTable-i table (placesIn table) (table-readable table good) j (b .entry)
 
       go : (waitingAt table (placesIn table) k ≡ waitingAt table (placesIn table) n)
-          ⊎ ((beats (waitingAt table (placesIn table) k) (waitingAt table (placesIn table) n) ≡ true)
-          ⊎ (beats (waitingAt table (placesIn table) n) (waitingAt table (placesIn table) k) ≡ true))
+          ⊎ ((beats (portsIn table) (waitingAt table (placesIn table) k) (waitingAt table (placesIn table) n) ≡ true)
+          ⊎ (beats (portsIn table) (waitingAt table (placesIn table) n) (waitingAt table (placesIn table) k) ≡ true))
           → Ordered table k n
       go (inl p) = inl (ap (λ w. w .at) p)
-      go (inr (inl p)) = inr (inl (beats-over _ _ p))
-      go (inr (inr p)) = inr (inr (beats-over _ _ p))
+      go (inr (inl p)) = inr (inl (beats-over (portsIn table) _ _ p))
+      go (inr (inr p)) = inr (inr (beats-over (portsIn table) _ _ p))
 
   -- its output's choice
   chosen : BestAmong table (BufferedBelow table (placesIn table) output (k + 1)) (betterOf table held k)

@@ -19,6 +19,7 @@ use Rattle.laws.proofs.Count.{count-split, count-ext, count-zero}
 use Rattle.cell.specs.Order.{over}
 use Rattle.matching.proofs.Refusing.{refusing-part}
 use Rattle.layout.specs.Table.{entryLimit}
+use Rattle.layout.specs.Code.{portsIn}
 use Rattle.layout_table.specs.CodeEntries.{nowhere}
 use Rattle.slot_matching.specs.CodeFound.{numbersOf, cellAt, outputAt, overAt, ToOutputs}
 use Rattle.slot_matching.specs.CodeProposing.{without, Proposed, kept, wins, loses}
@@ -192,7 +193,7 @@ module _ (table candidates : List ℕ) (to : ToOutputs table (numbersOf candidat
           to .small _ (refusing-part _ overs (a .sound .refusing) _ (w .there)) in
           w .new (subst (Proposal left) e (a .holds _ i (omega arith) .proposal))
 
-      after-wins : over (cellAt table k) (cellAt table holder) ≡ true
+      after-wins : over (portsIn table) (cellAt table k) (cellAt table holder) ≡ true
           → Asking table candidates (without left holder) held′ n (next overs left holder) (made + 1)
       after-wins w =
           record {
@@ -250,7 +251,7 @@ module _ (table candidates : List ℕ) (to : ToOutputs table (numbersOf candidat
               let q : c ≢ holder = eqb-false c holder t in
               ap₂ (λ x y. not x || y) (gone .kept c q) (taken-other c e (λ f. q (sym f)))
 
-      after-loses : over (cellAt table k) (cellAt table holder) ≡ false
+      after-loses : over (portsIn table) (cellAt table k) (cellAt table holder) ≡ false
           → Asking table candidates (without left k) held n (next overs left k) (made + 1)
       after-loses w =
           record {

@@ -33,6 +33,7 @@ use Rattle.layout.proofs.Records.{entryAt-input}
 use Rattle.matching.specs.Matching.{proposed}
 use Rattle.matching.proofs.Proposed.{proposed-keeps, mem-proposed-in, mem-proposed-first}
 use Rattle.layout.specs.Table.{entryLimit}
+use Rattle.layout.specs.Code.{portsIn}
 use Rattle.layout_table.specs.CodeEntries.{nowhere}
 use Rattle.slot_matching.specs.CodeFound.{numbersIn, numbersOf, aheadAt, cellAt, outputAt, overAt}
 use Rattle.slot_matching.specs.CodeProposing.{nextIn, rest, without}
@@ -186,7 +187,7 @@ module _ (table : List ℕ) where
   abbrev cell : ℕ → Cell
   cell = cellAt table
 
-  pub overAt-i : (k l : ℕ) → out k ≡ out l → over (cell k) (cell l) ≡ true → overAt table k l ≡ true
+  pub overAt-i : (k l : ℕ) → out k ≡ out l → over (portsIn table) (cell k) (cell l) ≡ true → overAt table k l ≡ true
   unfolding overAt
   overAt-i k l e h = and-i _ _ (eq-eqb _ _ e) h
 
@@ -194,7 +195,7 @@ module _ (table : List ℕ) where
   unfolding overAt
   overAt-output k l h = eqb-true _ _ (and-l _ _ h)
 
-  overAt-cells : (k l : ℕ) → overAt table k l ≡ true → over (cell k) (cell l) ≡ true
+  overAt-cells : (k l : ℕ) → overAt table k l ≡ true → over (portsIn table) (cell k) (cell l) ≡ true
   unfolding overAt
   overAt-cells k l h = and-r (eqb (out k) (out l)) _ h
 
@@ -202,20 +203,21 @@ module _ (table : List ℕ) where
   unfolding overAt
   overAt-strict =
       record {
-        irreflexive = λ k. and-false-r (eqb (out k) (out k)) _ (over-irrefl (cell k));
+        irreflexive = λ k. and-false-r (eqb (out k) (out k)) _ (over-irrefl (portsIn table) (cell k));
         transitive = λ k l m p q.
             overAt-i k m (overAt-output k l p ∙ overAt-output l m q)
-            (over-trans (cell k) (cell l) (cell m) (overAt-cells k l p) (overAt-cells l m q));
+            (over-trans (portsIn table) (cell k) (cell l) (cell m) (overAt-cells k l p) (overAt-cells l m q));
       }
 
   -- of two candidates of different inputs for one output, one is over the other
-  pub overAt-total : (k l : ℕ) → k / 64 ≢ l / 64 → out k ≡ out l → over (cell k) (cell l) ≡ false
+  pub overAt-total : (k l : ℕ) → k / 64 ≢ l / 64 → out k ≡ out l → over (portsIn table) (cell k) (cell l) ≡ false
       → overAt table l k ≡ true
   overAt-total k l n e f =
-      go (over-total (cell k) (cell l)
+      go (over-total (portsIn table) (cell k) (cell l)
       (inl (λ q. n (sym (entryAt-input table k) ∙ q ∙ entryAt-input table l))))
     where
-      go : (over (cell k) (cell l) ≡ true) ⊎ (over (cell l) (cell k) ≡ true) → overAt table l k ≡ true
+      go : (over (portsIn table) (cell k) (cell l) ≡ true) ⊎ (over (portsIn table) (cell l) (cell k) ≡ true)
+          → overAt table l k ≡ true
       go (inl t) = absurd (clash t f)
       go (inr t) = overAt-i l k (sym e) t
 

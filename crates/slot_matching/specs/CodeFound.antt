@@ -12,6 +12,7 @@ use Rattle.cell.specs.declared.Cell.{Cell}
 use Rattle.cell.specs.Limits.{portLimit, sectionRoom}
 use Rattle.cell.specs.Order.{over}
 use Rattle.matching.specs.Matching.{matched, proposals}
+use Rattle.layout.specs.Code.{portsIn}
 use Rattle.layout.specs.Entry.{entryAt}
 use Rattle.layout_table.specs.CodeEntries.{nowhere}
 
@@ -36,7 +37,7 @@ module _ (table : List ℕ) where
 
   -- both go to one output, and k has the higher output priority
   unfoldable pub overAt : ℕ → ℕ → Bool
-  overAt k l = eqb (outputAt k) (outputAt l) && over (cellAt k) (cellAt l)
+  overAt k l = eqb (outputAt k) (outputAt l) && over (portsIn table) (cellAt k) (cellAt l)
 
   -- each candidate goes to one of sixteen outputs
   pub record ToOutputs (numbers : List ℕ) : Type 0 where

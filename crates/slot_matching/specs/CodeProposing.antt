@@ -10,6 +10,7 @@ use Rattle.sets.specs.Sets.{headOr}
 use Rattle.sets.specs.Code.{withoutOne}
 use Rattle.cell.specs.Limits.{sectionRoom}
 use Rattle.cell.specs.Order.{over}
+use Rattle.layout.specs.Code.{portsIn}
 use Rattle.layout_table.specs.CodeEntries.{nowhere}
 use Rattle.slot_matching.specs.CodeFound.{numbersIn, cellAt, outputAt}
 
@@ -39,7 +40,7 @@ module _ (table left held : List ℕ) (k : ℕ) where
 
   pub data Proposed (left′ held′ : List ℕ) (next : ℕ) : Type 0 where
     kept : nowhere ≤ holder → left′ ≡ left → held′ ≡ taken → next ≡ nowhere → Proposed left′ held′ next
-    wins : holder < nowhere → over (cellAt table k) (cellAt table holder) ≡ true
+    wins : holder < nowhere → over (portsIn table) (cellAt table k) (cellAt table holder) ≡ true
         → held′ ≡ taken → Refused left holder left′ next → Proposed left′ held′ next
-    loses : holder < nowhere → over (cellAt table k) (cellAt table holder) ≡ false
+    loses : holder < nowhere → over (portsIn table) (cellAt table k) (cellAt table holder) ≡ false
         → held′ ≡ held → Refused left k left′ next → Proposed left′ held′ next

@@ -29,6 +29,7 @@ use Rattle.slot_view.proofs.Window.{inTable-i, inTable-below, waitingAt-at, wai
 use Rattle.slot_moves.specs.CodeMoves.{written, entered, entering}
 use Rattle.slot_moves.proofs.Agreeing.{outputAt, output-small}
 use Rattle.slot_moves.proofs.Entering.{entered-none, entered-own, entered-other, length-entered}
+use Rattle.layout.specs.Code.{portsIn}
 use Rattle.slot_moves.proofs.Written.{hit-miss, length-written, written-miss}
 
 abbrev pub bufferedAt : List ℕ → ℕ → Bool
@@ -38,7 +39,7 @@ in-buffer : isBuffered (placeOf 3) ≡ true
 unfolding isBuffered placeOf
 in-buffer = refl
 
-module _ {table : List ℕ} (r : Readable table) (start : List ℕ) (orderly : Orderly (inTable table start)) where
+module _ {table : List ℕ} (r : Readable table) (start : List ℕ) (orderly : Orderly (portsIn table) (inTable table start)) where
   -- of two cells that go to one output one goes first
   ordered : (k n : ℕ) → InTable table k → InTable table n → outputAt table k ≡ outputAt table n → Ordered table k n
   ordered k n s t e =
@@ -51,13 +52,13 @@ module _ {table : List ℕ} (r : Readable table) (start : List ℕ) (orderly : O
       b : Waiting
       b = waitingAt table start n
 
-      cells : (x y : ℕ) → beats (waitingAt table start x) (waitingAt table start y) ≡ true
-          → over (entryAt table x .cell) (entryAt table y .cell) ≡ true
+      cells : (x y : ℕ) → beats (portsIn table) (waitingAt table start x) (waitingAt table start y) ≡ true
+          → over (portsIn table) (entryAt table x .cell) (entryAt table y .cell) ≡ true
       cells x y h =
-          ap₂ over (sym (waitingAt-cell table start x)) (sym (waitingAt-cell table start y))
-          ∙ beats-over (waitingAt table start x) (waitingAt table start y) h
+          ap₂ (over (portsIn table)) (sym (waitingAt-cell table start x)) (sym (waitingAt-cell table start y))
+          ∙ beats-over (portsIn table) (waitingAt table start x) (waitingAt table start y) h
 
-      go : (a ≡ b) ⊎ ((beats a b ≡ true) ⊎ (beats b a ≡ true)) → Ordered table k n
+      go : (a ≡ b) ⊎ ((beats (portsIn table) a b ≡ true) ⊎ (beats (portsIn table) b a ≡ true)) → Ordered table k n
       go (inl p) = inl (sym (waitingAt-at table start k) ∙ ap (λ w. w .at) p ∙ waitingAt-at table start n)
       go (inr (inl p)) = inr (inl (cells k n p))
       go (inr (inr p)) = inr (inr (cells n k p))

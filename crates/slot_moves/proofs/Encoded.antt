@@ -114,15 +114,17 @@ module _ (table : List ℕ) (good : IsTable table) where
       (upTo (portsIn table))
       ∙ ap (map length) (own-sections table good)
 
-  sections-after : (places : List ℕ) → inTable table places ≡ relocated (phase (waitingIn table)) (waitingIn table)
-      → sectionsPlaced table places ≡ moved (phase (waiting (s .sections))) (s .sections)
+  sections-after : (places : List ℕ)
+      → inTable table places ≡ relocated (phase (portsIn table) (waitingIn table)) (waitingIn table)
+      → sectionsPlaced table places ≡ moved (phase (s .ports) (waiting (s .sections))) (s .sections)
   sections-after places h =
-      waiting-injective (sectionsPlaced table places) (moved (phase (waiting (s .sections))) (s .sections))
-      (lengths-placed places ∙ sym (lengths-moved (phase (waiting (s .sections))) (s .sections)))
-      (inTable-waiting table places ∙ h ∙ ap (λ l. relocated (phase l) l) (waitingIn-state table good)
-      ∙ sym (waiting-moved (phase (waiting (s .sections))) (s .sections)))
+      waiting-injective (sectionsPlaced table places) (moved (phase (s .ports) (waiting (s .sections))) (s .sections))
+      (lengths-placed places ∙ sym (lengths-moved (phase (s .ports) (waiting (s .sections))) (s .sections)))
+      (inTable-waiting table places ∙ h ∙ ap₂ (λ n l. relocated (phase n l) l) (decode-ports table s good) (waitingIn-state table good)
+      ∙ sym (waiting-moved (phase (s .ports) (waiting (s .sections))) (s .sections)))
 
-  pub encode-end : (places : List ℕ) → inTable table places ≡ relocated (phase (waitingIn table)) (waitingIn table)
+  pub encode-end : (places : List ℕ)
+      → inTable table places ≡ relocated (phase (portsIn table) (waitingIn table)) (waitingIn table)
       → encode (statePlaced table places) ≡ encode (afterPhase s)
   unfolding afterPhase
   encode-end places h =
@@ -142,7 +144,7 @@ module _ (table : List ℕ) (good : IsTable table) where
       (record {
         ports = w .ports;
         clock = w .clock;
-        inputs = length-moved (phase (waiting (s .sections))) (s .sections) ∙ w .inputs;
+        inputs = length-moved (phase (s .ports) (waiting (s .sections))) (s .sections) ∙ w .inputs;
         sections = phase-sound (s .ports) (s .clock) (s .sections) (w .sections);
       })
 

@@ -138,7 +138,7 @@ module _ {table : List ℕ} (r : Readable table) where
 
     ordered : (j : ℕ) → Crossed cross o ports j → Ordered table k j
     ordered j c =
-        inr (over-total (entryAt table k .cell) (entryAt table j .cell) (inl (λ e.
+        inr (over-total (portsIn table) (entryAt table k .cell) (entryAt table j .cell) (inl (λ e.
         apart j c (sym (held-input j c) ∙ sym e ∙ entryAt-input table k))))
 
     best-entered : (best : List ℕ) → length best ≡ 16 → BestOfEach table cross best → BestOfEach table cross′ (entered table best k)

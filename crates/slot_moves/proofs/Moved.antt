@@ -122,7 +122,7 @@ module _ {table : List ℕ} (good : IsTable table) {listed heads : List ℕ} {cr
   abbrev r : Readable table
   r = table-readable table good
 
-  o : Orderly all
+  o : Orderly (portsIn table) all
   o = waitingIn-orderly table good
 
   ports : portsIn table ≤ portLimit
@@ -133,42 +133,43 @@ module _ {table : List ℕ} (good : IsTable table) {listed heads : List ℕ} {cr
 
   -- a straight cell of a port
   StraightBy : (Waiting → ℕ) → ℕ → Type 0
-  StraightBy key x = (e : Waiting) × List·Memᴰ e (phase all .straight) × (key e ≡ x)
+  StraightBy key x = (e : Waiting) × List·Memᴰ e (phase (portsIn table) all .straight) × (key e ≡ x)
 
   straight-cell : (x : ℕ) → x < portLimit → F x < nowhere
-      → (e : Waiting) × List·Memᴰ e (phase all .straight) × (outputOf e ≡ x) × (F x ≡ e .at)
-  straight-cell x l h = go (by-cases outputOf (phase all .straight) x)
+      → (e : Waiting) × List·Memᴰ e (phase (portsIn table) all .straight) × (outputOf e ≡ x) × (F x ≡ e .at)
+  straight-cell x l h = go (by-cases outputOf (phase (portsIn table) all .straight) x)
     where
-      is : F x ≡ numberBy outputOf (phase all .straight) x
-      is = se .straight-is x l ∙ straightOf-by (phase all) x
+      is : F x ≡ numberBy outputOf (phase (portsIn table) all .straight) x
+      is = se .straight-is x l ∙ straightOf-by (phase (portsIn table) all) x
 
-      go : ByPort outputOf (phase all .straight) x
-          → (e : Waiting) × List·Memᴰ e (phase all .straight) × (outputOf e ≡ x) × (F x ≡ e .at)
+      go : ByPort outputOf (phase (portsIn table) all .straight) x
+          → (e : Waiting) × List·Memᴰ e (phase (portsIn table) all .straight) × (outputOf e ≡ x) × (F x ≡ e .at)
       go (has e m k n) = (e, m, k, is ∙ n)
       go (lacks u n) = absurd (omega (arith, is))
 
-  straight-number : {e : Waiting} → List·Memᴰ e (phase all .straight) → F (outputOf e) ≡ e .at
+  straight-number : {e : Waiting} → List·Memᴰ e (phase (portsIn table) all .straight) → F (outputOf e) ≡ e .at
   straight-number {e} m =
-      let k : Known r places e = known r places (straight-all all m) in
+      let k : Known r places e = known r places (straight-all (portsIn table) all m) in
       se .straight-is (outputOf e) (omega (arith, k .to, ports))
-      ∙ straightOf-by (phase all) (outputOf e)
-      ∙ by-one outputOf (phase all .straight) (straight-output all o) m
+      ∙ straightOf-by (phase (portsIn table) all) (outputOf e)
+      ∙ by-one outputOf (phase (portsIn table) all .straight) (straight-output all o) m
 
   straight-entry : (x : ℕ) → x < portLimit → F x < nowhere → InTable table (F x)
   straight-entry x l h =
       let w = straight-cell x l h in
-      subst (InTable table) (sym (w .3)) (known r places (straight-all all (w .1)) .entry)
+      subst (InTable table) (sym (w .3)) (known r places (straight-all (portsIn table) all (w .1)) .entry)
 
   -- it is a head of its input, and goes to this output
   straight-leaver : (x : ℕ) → x < portLimit → F x < nowhere → HeadAt table places (F x)
   straight-leaver x l h =
       let w = straight-cell x l h in
-      subst (HeadAt table places) (sym (w .3)) (firsts-head r places (urgent-head all (straight-urgent all o (w .1))))
+      subst (HeadAt table places) (sym (w .3))
+      (firsts-head r places (urgent-head (portsIn table) all (straight-urgent (portsIn table) all o (w .1))))
 
   straight-goes : (x : ℕ) → x < portLimit → F x < nowhere → outputAt table (F x) ≡ x
   straight-goes x l h =
       let w = straight-cell x l h in
-      ap (outputAt table) (w .3) ∙ sym (known r places (straight-all all (w .1)) .output) ∙ w .2
+      ap (outputAt table) (w .3) ∙ sym (known r places (straight-all (portsIn table) all (w .1)) .output) ∙ w .2
 
   straight-other : (a b : ℕ) → a < b → b < portLimit → F b < nowhere → F a ≢ F b
   straight-other a b l m h e =
@@ -205,13 +206,13 @@ module _ {table : List ℕ} (good : IsTable table) {listed heads : List ℕ} {cr
         go : Hit (λ x. F x / sectionRoom) portLimit i → StraightBy inputOf i
         go (x, b, q) =
             let w = straight-cell x b (omega arith) in
-            let k : Known r places (w .0) = known r places (straight-all all (w .1)) in
+            let k : Known r places (w .0) = known r places (straight-all (portsIn table) all (w .1)) in
             (w .0, w .1, k .input ∙ ap (λ n. n / sectionRoom) (sym (w .3)) ∙ q)
 
     input-unmarked : (i : ℕ) → i < portLimit → getD inputs i false ≡ false → StraightBy inputOf i → ⊥
     unfolding StraightBy
     input-unmarked i l h (e, m, k) =
-        let n : Known r places e = known r places (straight-all all m) in
+        let n : Known r places e = known r places (straight-all (portsIn table) all m) in
         clash
         (hit-i (λ x. F x / sectionRoom) portLimit (outputOf e) (omega (arith, n .to, ports))
         (ap (λ x. x / sectionRoom) (straight-number m) ∙ sym (n .input) ∙ k))
@@ -233,7 +234,7 @@ module _ {table : List ℕ} (good : IsTable table) {listed heads : List ℕ} {cr
     output-unmarked : (x : ℕ) → x < portLimit → getD outputs x false ≡ false → StraightBy outputOf x → ⊥
     unfolding StraightBy
     output-unmarked x l h (e, m, k) =
-        let n : Known r places e = known r places (straight-all all m) in
+        let n : Known r places e = known r places (straight-all (portsIn table) all m) in
         let q : F x ≡ e .at = ap F (sym k) ∙ straight-number m in
         clash
         (hit-i (λ y. markOf (F y) y) portLimit x l (mark-some (F x) x (omega (arith, n .small))))
@@ -242,29 +243,32 @@ module _ {table : List ℕ} (good : IsTable table) {listed heads : List ℕ} {cr
     abbrev G : ℕ → ℕ
     G = sendOf inputs scheduled
 
-    pub send-is : (i : ℕ) → i < portLimit → G i ≡ sentOf (phase all) i
+    pub send-is : (i : ℕ) → i < portLimit → G i ≡ sentOf (phase (portsIn table) all) i
     unfolding StraightBy
-    send-is i l = go (either (getD inputs i false)) ∙ sym (sentOf-by (phase all) i)
+    send-is i l = go (either (getD inputs i false)) ∙ sym (sentOf-by (phase (portsIn table) all) i)
       where
-        go : (getD inputs i false ≡ true) ⊎ (getD inputs i false ≡ false) → G i ≡ numberBy inputOf (phase all .sent) i
+        go : (getD inputs i false ≡ true) ⊎ (getD inputs i false ≡ false)
+            → G i ≡ numberBy inputOf (phase (portsIn table) all .sent) i
         go (inl t) =
             send-none inputs scheduled i t
-            ∙ sym (by-none inputOf (phase all .sent) i (λ f m h.
+            ∙ sym (by-none inputOf (phase (portsIn table) all .sent) i (λ f m h.
             let w : StraightBy inputOf i = input-marked i l t in
-            clash (input-i f (w .0) (h ∙ sym (w .2))) (sent-free all m (w .1))))
+            clash (input-i f (w .0) (h ∙ sym (w .2))) (sent-free (portsIn table) all m (w .1))))
         go (inr t) =
-            send-scheduled inputs scheduled i t ∙ se .scheduled-is i l ∙ scheduledOf-by (phase all) i
-            ∙ case (by-cases inputOf (phase all .scheduled) i)
+            send-scheduled inputs scheduled i t ∙ se .scheduled-is i l ∙ scheduledOf-by (phase (portsIn table) all) i
+            ∙ case (by-cases inputOf (phase (portsIn table) all .scheduled) i)
           where
-            case : ByPort inputOf (phase all .scheduled) i
-                → numberBy inputOf (phase all .scheduled) i ≡ numberBy inputOf (phase all .sent) i
+            case : ByPort inputOf (phase (portsIn table) all .scheduled) i
+                → numberBy inputOf (phase (portsIn table) all .scheduled) i
+                ≡ numberBy inputOf (phase (portsIn table) all .sent) i
             case (has e m k n) =
-                n ∙ sym (by-is inputOf (phase all .sent) i
-                (sent-i all m (none?-i (sameInput e) (phase all .straight) (λ u j.
+                n ∙ sym (by-is inputOf (phase (portsIn table) all .sent) i
+                (sent-i (portsIn table) all m (none?-i (sameInput e) (phase (portsIn table) all .straight) (λ u j.
                 by-fail (sameInput e u) (λ b. input-unmarked i l t (u, j, sym (input-e e u b) ∙ k)))))
-                k (λ f j h. ap (λ x. x .at) (scheduled-input all o f e (sent-scheduled all j) m (h ∙ sym k))))
+                k (λ f j h. ap (λ x. x .at) (scheduled-input all o f e (sent-scheduled (portsIn table) all j) m (h ∙ sym k))))
             case (lacks u n) =
-                n ∙ sym (by-none inputOf (phase all .sent) i (λ f j h. u f (sent-scheduled all j) h))
+                n ∙ sym
+                (by-none inputOf (phase (portsIn table) all .sent) i (λ f j h. u f (sent-scheduled (portsIn table) all j) h))
 
     straight-out : {e : Waiting} → List·Memᴰ e all → isListed (e .place) ≡ true → crossedAt places (e .at) ≡ false
     straight-out {e} m h = sym (known r places m .crossed) ∙ listed-not-crossed (e .place) h
@@ -274,7 +278,8 @@ module _ {table : List ℕ} (good : IsTable table) {listed heads : List ℕ} {cr
         rw straight-places
         (agrees-straight r F portLimit places cross size (view .agrees) (λ x l h.
         let w = straight-cell x l h in
-        rw (w .3) (straight-out (straight-all all (w .1)) (straight-listed all (w .1)))))
+        rw (w .3)
+        (straight-out (straight-all (portsIn table) all (w .1)) (straight-listed (portsIn table) all (w .1)))))
 
     -- a cell in a list is at no crosspoint then
     straight-still : (k : ℕ) → k < nowhere → crossedAt places k ≡ false → crossedAt places₁ k ≡ false
@@ -292,41 +297,42 @@ module _ {table : List ℕ} (good : IsTable table) {listed heads : List ℕ} {cr
         miss =
             hit-miss F portLimit k (λ x b q.
             let w = straight-cell x b (omega arith) in
-            clash h (ap (crossedAt places) (sym q ∙ w .3) ∙ straight-out (straight-all all (w .1)) (straight-listed all (w .1))))
+            clash h
+            (ap (crossedAt places) (sym q ∙ w .3) ∙ straight-out (straight-all (portsIn table) all (w .1)) (straight-listed (portsIn table) all (w .1))))
 
     send-cell : (i : ℕ) → i < portLimit → G i < nowhere
-        → (e : Waiting) × List·Memᴰ e (phase all .sent) × (inputOf e ≡ i) × (G i ≡ e .at)
-    send-cell i l h = go (by-cases inputOf (phase all .sent) i)
+        → (e : Waiting) × List·Memᴰ e (phase (portsIn table) all .sent) × (inputOf e ≡ i) × (G i ≡ e .at)
+    send-cell i l h = go (by-cases inputOf (phase (portsIn table) all .sent) i)
       where
-        is : G i ≡ numberBy inputOf (phase all .sent) i
-        is = send-is i l ∙ sentOf-by (phase all) i
+        is : G i ≡ numberBy inputOf (phase (portsIn table) all .sent) i
+        is = send-is i l ∙ sentOf-by (phase (portsIn table) all) i
 
-        go : ByPort inputOf (phase all .sent) i
-            → (e : Waiting) × List·Memᴰ e (phase all .sent) × (inputOf e ≡ i) × (G i ≡ e .at)
+        go : ByPort inputOf (phase (portsIn table) all .sent) i
+            → (e : Waiting) × List·Memᴰ e (phase (portsIn table) all .sent) × (inputOf e ≡ i) × (G i ≡ e .at)
         go (has e m k n) = (e, m, k, is ∙ n)
         go (lacks u n) = absurd (omega (arith, is))
 
-    send-number : {e : Waiting} → List·Memᴰ e (phase all .sent) → hit G portLimit (e .at) ≡ true
+    send-number : {e : Waiting} → List·Memᴰ e (phase (portsIn table) all .sent) → hit G portLimit (e .at) ≡ true
     send-number {e} m =
-        let k : Known r places e = known r places (sent-all all m) in
+        let k : Known r places e = known r places (sent-all (portsIn table) all m) in
         let port : inputOf e < portLimit = omega (arith, k .from, ports) in
         hit-i G portLimit (inputOf e) port
-        (send-is (inputOf e) port ∙ sentOf-by (phase all) (inputOf e) ∙ by-one inputOf (phase all .sent) (sent-input all o) m)
+        (send-is (inputOf e) port ∙ sentOf-by (phase (portsIn table) all) (inputOf e) ∙ by-one inputOf (phase (portsIn table) all .sent) (sent-input all o) m)
 
     sendable : Sendable r places₁ cross G portLimit
     sendable i l h = rw (w .3) (k .entry, sym (k .input) ∙ w .2, straight-still (e .at) (k .small) out, empty)
       where
-        w : (e : Waiting) × List·Memᴰ e (phase all .sent) × (inputOf e ≡ i) × (G i ≡ e .at)
+        w : (e : Waiting) × List·Memᴰ e (phase (portsIn table) all .sent) × (inputOf e ≡ i) × (G i ≡ e .at)
         w = send-cell i l h
 
         e : Waiting
         e = w .0
 
         k : Known r places e
-        k = known r places (sent-all all (w .1))
+        k = known r places (sent-all (portsIn table) all (w .1))
 
         out : crossedAt places (e .at) ≡ false
-        out = straight-out (sent-all all (w .1)) (sent-listed all (w .1))
+        out = straight-out (sent-all (portsIn table) all (w .1)) (sent-listed (portsIn table) all (w .1))
 
         empty : nowhere ≤ crosspointAt cross i (outputAt table (e .at))
         empty = go (either (ltb (crosspointAt cross i (outputAt table (e .at))) entryLimit))
@@ -336,7 +342,7 @@ module _ {table : List ℕ} (good : IsTable table) {listed heads : List ℕ} {cr
                 → nowhere ≤ crosspointAt cross i (outputAt table (e .at))
             go (inl t) =
                 absurd (clash (crosspoint-i e x row column)
-                (scheduled-empty all (sent-scheduled all (w .1)) (crosspoints-i all (inTable-i table places r c (v .0)) there)))
+                (scheduled-empty (portsIn table) all (sent-scheduled (portsIn table) all (w .1)) (crosspoints-i all (inTable-i table places r c (v .0)) there)))
               where
                 c : ℕ
                 c = crosspointAt cross i (outputAt table (e .at))
@@ -369,21 +375,23 @@ module _ {table : List ℕ} (good : IsTable table) {listed heads : List ℕ} {cr
         ∙ ap (λ b. isListed (placeOf b)) (written-miss F 3 portLimit places (G i) 0 miss)
         ∙ send-leaver .in-list
       where
-        w : (e : Waiting) × List·Memᴰ e (phase all .sent) × (inputOf e ≡ i) × (G i ≡ e .at)
+        w : (e : Waiting) × List·Memᴰ e (phase (portsIn table) all .sent) × (inputOf e ≡ i) × (G i ≡ e .at)
         w = send-cell i l h
 
         send-leaver : HeadAt table places (G i)
-        send-leaver = subst (HeadAt table places) (sym (w .3)) (firsts-head r places (scheduled-head all (sent-scheduled all (w .1))))
+        send-leaver =
+            subst (HeadAt table places) (sym (w .3))
+            (firsts-head r places (scheduled-head (portsIn table) all (sent-scheduled (portsIn table) all (w .1))))
 
         miss : hit F portLimit (G i) ≡ false
         miss =
             hit-miss F portLimit (G i) (λ x b q.
             let v = straight-cell x b (omega arith) in
             let same : w .0 .cell .input ≡ v .0 .cell .input =
-            known r places (sent-all all (w .1)) .input
+            known r places (sent-all (portsIn table) all (w .1)) .input
             ∙ ap (λ n. n / sectionRoom) (sym (w .3) ∙ sym q ∙ v .3)
-            ∙ sym (known r places (straight-all all (v .1)) .input) in
-            clash (input-i (w .0) (v .0) same) (sent-free all (w .1) (v .1)))
+            ∙ sym (known r places (straight-all (portsIn table) all (v .1)) .input) in
+            clash (input-i (w .0) (v .0) same) (sent-free (portsIn table) all (w .1) (v .1)))
 
     straight-fewer : (a : ℕ) → InTable table a → listedAt places₁ a ≡ true → listedAt places a ≡ true
     straight-fewer a t h =
@@ -396,7 +404,7 @@ module _ {table : List ℕ} (good : IsTable table) {listed heads : List ℕ} {cr
           head = λ i l h.
               let w = send-cell i l h in
               head-fewer straight-fewer (send-listed i l h)
-              (subst (HeadAt table places) (sym (w .3)) (firsts-head r places (scheduled-head all (sent-scheduled all (w .1)))));
+              (subst (HeadAt table places) (sym (w .3)) (firsts-head r places (scheduled-head (portsIn table) all (sent-scheduled (portsIn table) all (w .1)))));
           other = λ a b l m h e. omega (arith, sendable a (omega arith) (omega arith) .1, sendable b m h .1, ap (λ n. n / sectionRoom) e);
         }
 
@@ -451,15 +459,15 @@ module _ {table : List ℕ} (good : IsTable table) {listed heads : List ℕ} {cr
 
       -- the cells at the crosspoints, those just filled included
       cells : List Waiting
-      cells = crosspoints all ++ phase all .sent
+      cells = crosspoints all ++ phase (portsIn table) all .sent
 
       cells-all : {e : Waiting} → List·Memᴰ e cells → List·Memᴰ e all
       unfolding cells
       cells-all {e} m = go (List·Memᴰ·append-cases (crosspoints all) m)
         where
-          go : List·Memᴰ e (crosspoints all) ⊎ List·Memᴰ e (phase all .sent) → List·Memᴰ e all
+          go : List·Memᴰ e (crosspoints all) ⊎ List·Memᴰ e (phase (portsIn table) all .sent) → List·Memᴰ e all
           go (inl i) = crosspoints-all all i
-          go (inr i) = sent-all all i
+          go (inr i) = sent-all (portsIn table) all i
 
       -- they are at the crosspoints by the column
       cells-crossed : {e : Waiting} → List·Memᴰ e cells → crossedAt places₂ (e .at) ≡ true
@@ -475,7 +483,8 @@ module _ {table : List ℕ} (good : IsTable table) {listed heads : List ℕ} {cr
           go (inr h) =
               crossed-miss G 2 portLimit places₁ (e .at) h ∙ case (List·Memᴰ·append-cases (crosspoints all) m)
             where
-              case : List·Memᴰ e (crosspoints all) ⊎ List·Memᴰ e (phase all .sent) → crossedAt places₁ (e .at) ≡ true
+              case : List·Memᴰ e (crosspoints all) ⊎ List·Memᴰ e (phase (portsIn table) all .sent)
+                  → crossedAt places₁ (e .at) ≡ true
               case (inl i) = straight-kept (e .at) (k .small) (sym (k .crossed) ∙ crosspoints-crossed all i)
               case (inr i) = absurd (clash (send-number i) h)
 
@@ -496,10 +505,10 @@ module _ {table : List ℕ} (good : IsTable table) {listed heads : List ℕ} {cr
                   let w = send-cell j l (omega (arith, inTable-below r i)) in
                   Memᴰ·append-right (crosspoints all)
                   (Memᴰ·cast
-                  (ap (waitingAt table places) (sym q ∙ w .3) ∙ sym (known r places (sent-all all (w .1)) .self))
+                  (ap (waitingAt table places) (sym q ∙ w .3) ∙ sym (known r places (sent-all (portsIn table) all (w .1)) .self))
                   (w .1))
           go (inr h) (inl b) =
-              Memᴰ·append-left (phase all .sent)
+              Memᴰ·append-left (phase (portsIn table) all .sent)
               (crosspoints-i all (inTable-i table places r k i) (ap isCrossed (waitingAt-place table places k) ∙ b))
           go (inr h) (inr b) =
               absurd (clash now (crossed-miss G 2 portLimit places₁ k h ∙ straight-still k (inTable-below r i) b))
@@ -531,22 +540,24 @@ module _ {table : List ℕ} (good : IsTable table) {listed heads : List ℕ} {cr
       pub told-occupancies : {told : List ℕ} → Counted cross₂ portLimit told → OccupanciesOf (stateOf table) told
       unfolding cells phase
       told-occupancies {told} c x l =
-          counted-occupancies r cells-held (phase all) told refl c x l
-          ∙ ap₂ (λ n a. getD (occupancies n (phase a)) x 0) (decode-ports table (stateOf table) good) (waitingIn-state table good)
+          counted-occupancies r cells-held (phase (portsIn table) all) told refl c x l
+          ∙ ap₂ (λ n a. getD (occupancies n (phase n a)) x 0) (decode-ports table (stateOf table) good)
+          (waitingIn-state table good)
 
       abbrev H : ℕ → ℕ
       H = takeOf outputs crossed₂
 
       -- the cells that an output without a straight cell takes from
-      pulled-best : (x : ℕ) → (StraightBy outputOf x → ⊥) → pulledOf (phase all) x ≡ bestOf cells x
+      pulled-best : (x : ℕ) → (StraightBy outputOf x → ⊥)
+          → pulledOf (phase (portsIn table) all) x ≡ bestOf (portsIn table) cells x
       unfolding pulledOf bestOf bestFor toOutput phase pulled cells StraightBy
       pulled-best x none = ap (λ l. numberOf (first? l)) (keep-comm free to L ∙ keep-all free (keep to L) pass)
         where
           L : List Waiting
-          L = least beats cells
+          L = least (beats (portsIn table)) cells
 
           free : Waiting → Bool
-          free e = none? (sameOutput e) (phase all .straight)
+          free e = none? (sameOutput e) (phase (portsIn table) all .straight)
 
           to : Waiting → Bool
           to e = eqb (e .cell .output) x
@@ -554,20 +565,22 @@ module _ {table : List ℕ} (good : IsTable table) {listed heads : List ℕ} {cr
           pass : all? free (keep to L) ≡ true
           pass =
               all?-i free (keep to L) (λ e m.
-              none?-i (sameOutput e) (phase all .straight) (λ u j.
+              none?-i (sameOutput e) (phase (portsIn table) all .straight) (λ u j.
               by-fail (sameOutput e u) (λ b.
               none (u, j, sym (output-e e u b) ∙ eqb-true _ _ (mem-keep-passes to L m)))))
 
-      take-is : (x : ℕ) → x < portLimit → H x ≡ pulledOf (phase all) x
+      take-is : (x : ℕ) → x < portLimit → H x ≡ pulledOf (phase (portsIn table) all) x
       unfolding StraightBy
       take-is x l = go (either (getD outputs x false))
         where
-          go : (getD outputs x false ≡ true) ⊎ (getD outputs x false ≡ false) → H x ≡ pulledOf (phase all) x
+          go : (getD outputs x false ≡ true) ⊎ (getD outputs x false ≡ false)
+              → H x ≡ pulledOf (phase (portsIn table) all) x
           go (inl h) =
               take-none outputs crossed₂ x h
-              ∙ sym (pulledOf-by (phase all) x ∙ by-none outputOf (phase all .pulled) x (λ f m q.
+              ∙ sym
+              (pulledOf-by (phase (portsIn table) all) x ∙ by-none outputOf (phase (portsIn table) all .pulled) x (λ f m q.
               let w : StraightBy outputOf x = output-marked x l h in
-              clash (output-i f (w .0) (q ∙ sym (w .2))) (pulled-free all m (w .1))))
+              clash (output-i f (w .0) (q ∙ sym (w .2))) (pulled-free (portsIn table) all m (w .1))))
           go (inr h) =
               take-best outputs crossed₂ x h
               ∙ best-of table cross₂ x cells-held l (getD crossed₂ x 0) ports (sent-best x l)
@@ -639,28 +652,31 @@ module _ {table : List ℕ} (good : IsTable table) {listed heads : List ℕ} {cr
           k : Known r places e
           k = known r places m
 
-          among-straight : among (phase all .straight) e ≡ hit F portLimit (e .at)
+          among-straight : among (phase (portsIn table) all .straight) e ≡ hit F portLimit (e .at)
           among-straight =
-              among-hit o outputOf (phase all .straight) (λ x i. straight-all all i) (straight-output all o) F portLimit
-              (λ x l. se .straight-is x l ∙ straightOf-by (phase all) x)
-              (λ x i. omega (arith, known r places (straight-all all i) .to, ports)) m (k .small)
+              among-hit o outputOf (phase (portsIn table) all .straight) (λ x i. straight-all (portsIn table) all i)
+              (straight-output all o) F portLimit
+              (λ x l. se .straight-is x l ∙ straightOf-by (phase (portsIn table) all) x)
+              (λ x i. omega (arith, known r places (straight-all (portsIn table) all i) .to, ports)) m (k .small)
 
-          among-sent : among (phase all .sent) e ≡ hit G portLimit (e .at)
+          among-sent : among (phase (portsIn table) all .sent) e ≡ hit G portLimit (e .at)
           among-sent =
-              among-hit o inputOf (phase all .sent) (λ x i. sent-all all i) (sent-input all o) G portLimit
-              (λ x l. send-is x l ∙ sentOf-by (phase all) x)
-              (λ x i. omega (arith, known r places (sent-all all i) .from, ports)) m (k .small)
+              among-hit o inputOf (phase (portsIn table) all .sent) (λ x i. sent-all (portsIn table) all i)
+              (sent-input all o) G portLimit
+              (λ x l. send-is x l ∙ sentOf-by (phase (portsIn table) all) x)
+              (λ x i. omega (arith, known r places (sent-all (portsIn table) all i) .from, ports)) m (k .small)
 
-          among-pulled : among (phase all .pulled) e ≡ hit H portLimit (e .at)
+          among-pulled : among (phase (portsIn table) all .pulled) e ≡ hit H portLimit (e .at)
           among-pulled =
-              among-hit o outputOf (phase all .pulled) (λ x i. pulled-all all i) (pulled-output all o) H portLimit
-              (λ x l. take-is x l ∙ pulledOf-by (phase all) x)
-              (λ x i. omega (arith, known r places (pulled-all all i) .to, ports)) m (k .small)
+              among-hit o outputOf (phase (portsIn table) all .pulled) (λ x i. pulled-all (portsIn table) all i)
+              (pulled-output all o) H portLimit
+              (λ x l. take-is x l ∙ pulledOf-by (phase (portsIn table) all) x)
+              (λ x i. omega (arith, known r places (pulled-all (portsIn table) all i) .to, ports)) m (k .small)
 
           -- the byte of a cell's place
           moved-byte : getD places₃ (e .at) 0
-              ≡ cond (among (phase all .pulled) e) 3
-              (cond (among (phase all .sent) e) 2 (cond (among (phase all .straight) e) 3 (getD places (e .at) 0)))
+              ≡ cond (among (phase (portsIn table) all .pulled) e) 3
+              (cond (among (phase (portsIn table) all .sent) e) 2 (cond (among (phase (portsIn table) all .straight) e) 3 (getD places (e .at) 0)))
           moved-byte =
               rw (among-pulled, among-sent, among-straight)
               (ap (λ q. getD q (e .at) 0) moved-places
@@ -673,25 +689,27 @@ module _ {table : List ℕ} (good : IsTable table) {listed heads : List ℕ} {cr
               ∙ written-is F 3 portLimit places (e .at) 0 (omega (arith, k .small, size)))))
 
           -- no straight cell is sent
-          apart : among (phase all .straight) e ≡ true → among (phase all .sent) e ≡ true → ⊥
+          apart : among (phase (portsIn table) all .straight) e ≡ true
+              → among (phase (portsIn table) all .sent) e ≡ true → ⊥
           apart p q =
-              let i = among-e o (phase all .straight) (λ x j. straight-all all j) m p in
-              let j = among-e o (phase all .sent) (λ x j. sent-all all j) m q in
-              clash (input-i e e refl) (sent-free all j i)
+              let i = among-e o (phase (portsIn table) all .straight) (λ x j. straight-all (portsIn table) all j) m p in
+              let j = among-e o (phase (portsIn table) all .sent) (λ x j. sent-all (portsIn table) all j) m q in
+              clash (input-i e e refl) (sent-free (portsIn table) all j i)
 
-          moved-place : placeOf (getD places₃ (e .at) 0) ≡ placeAfter (phase all) e
+          moved-place : placeOf (getD places₃ (e .at) 0) ≡ placeAfter (phase (portsIn table) all) e
           unfolding placeAfter placeSent
           moved-place =
               ap placeOf moved-byte
-              ∙ places-after (among (phase all .straight) e) (among (phase all .pulled) e) (among (phase all .sent) e)
+              ∙ places-after (among (phase (portsIn table) all .straight) e)
+              (among (phase (portsIn table) all .pulled) e) (among (phase (portsIn table) all .sent) e)
               (getD places (e .at) 0) apart
-              ∙ ap (λ q. cond (among (phase all .pulled) e) buffered
-              (cond (among (phase all .straight) e) buffered (cond (among (phase all .sent) e) crossed q)))
+              ∙ ap (λ q. cond (among (phase (portsIn table) all .pulled) e) buffered
+              (cond (among (phase (portsIn table) all .straight) e) buffered (cond (among (phase (portsIn table) all .sent) e) crossed q)))
               (sym (ap (λ x. x .place) (k .self) ∙ waitingAt-place table places (e .at)))
 
-        moved-cells : inTable table places₃ ≡ relocated (phase all) all
+        moved-cells : inTable table places₃ ≡ relocated (phase (portsIn table) all) all
         moved-cells =
-            inTable-relocated r (phase all) places places₃ (λ k i.
+            inTable-relocated r (phase (portsIn table) all) places places₃ (λ k i.
             ap (λ n. placeOf (getD places₃ n 0)) (sym (waitingAt-at table places k)) ∙ moved-place (inTable-i table places r k i))
 
         ------------------------------------------------------------------------

@@ -71,12 +71,12 @@ pub by-one : (key : Waiting → ℕ) (l : List Waiting) → OnePort key l → {e
 by-one key l one {e} m = by-is key l (key e) m refl (λ f k h. ap (λ x. x .at) (one f e k m h))
 
 -- a cell is among those that the ports chose where its number is the choice of a port
-pub among-hit : {all : List Waiting} → Orderly all → (key : Waiting → ℕ) (l : List Waiting)
+pub among-hit : {ports : ℕ} {all : List Waiting} → Orderly ports all → (key : Waiting → ℕ) (l : List Waiting)
     → ((x : Waiting) → List·Memᴰ x l → List·Memᴰ x all) → OnePort key l
     → (f : ℕ → ℕ) (n : ℕ) → ((i : ℕ) → i < n → f i ≡ numberBy key l i) → ((x : Waiting) → List·Memᴰ x l → key x < n)
     → {e : Waiting} → List·Memᴰ e all → e .at < nowhere → among l e ≡ hit f n (e .at)
 unfolding among
-among-hit {all} o key l within one f n choice port {e} m small = same (among l e) (hit f n (e .at)) there back
+among-hit {ports} {all} o key l within one f n choice port {e} m small = same (among l e) (hit f n (e .at)) there back
   where
     there : among l e ≡ true → hit f n (e .at) ≡ true
     there h =
@@ -102,28 +102,28 @@ inputOf e = e .cell .input
 abbrev pub outputOf : Waiting → ℕ
 outputOf e = e .cell .output
 
-module _ (all : List Waiting) (o : Orderly all) where
-  pub straight-output : OnePort outputOf (phase all .straight)
-  straight-output x y m n h = match-output all o (straight-matched all m) (straight-matched all n) h
+module _ {ports : ℕ} (all : List Waiting) (o : Orderly ports all) where
+  pub straight-output : OnePort outputOf (phase ports all .straight)
+  straight-output x y m n h = match-output ports all o (straight-matched ports all m) (straight-matched ports all n) h
 
-  pub scheduled-input : OnePort inputOf (phase all .scheduled)
-  scheduled-input x y m n h = go (ahead-total o (scheduled-all all m) (scheduled-all all n) h)
+  pub scheduled-input : OnePort inputOf (phase ports all .scheduled)
+  scheduled-input x y m n h = go (ahead-total o (scheduled-all ports all m) (scheduled-all ports all n) h)
     where
       go : (x ≡ y) ⊎ ((ahead x y ≡ true) ⊎ (ahead y x ≡ true)) → x ≡ y
       go (inl e) = e
-      go (inr (inl a)) = absurd (clash a (scheduled-one all m n))
-      go (inr (inr a)) = absurd (clash a (scheduled-one all n m))
+      go (inr (inl a)) = absurd (clash a (scheduled-one ports all m n))
+      go (inr (inr a)) = absurd (clash a (scheduled-one ports all n m))
 
-  pub sent-input : OnePort inputOf (phase all .sent)
-  sent-input x y m n h = scheduled-input x y (sent-scheduled all m) (sent-scheduled all n) h
+  pub sent-input : OnePort inputOf (phase ports all .sent)
+  sent-input x y m n h = scheduled-input x y (sent-scheduled ports all m) (sent-scheduled ports all n) h
 
-  pub pulled-output : OnePort outputOf (phase all .pulled)
-  pulled-output x y m n h = go (beats-total o (pulled-all all m) (pulled-all all n) h)
+  pub pulled-output : OnePort outputOf (phase ports all .pulled)
+  pulled-output x y m n h = go (beats-total o (pulled-all ports all m) (pulled-all ports all n) h)
     where
-      go : (x ≡ y) ⊎ ((beats x y ≡ true) ⊎ (beats y x ≡ true)) → x ≡ y
+      go : (x ≡ y) ⊎ ((beats ports x y ≡ true) ⊎ (beats ports y x ≡ true)) → x ≡ y
       go (inl e) = e
-      go (inr (inl a)) = absurd (clash a (pulled-one all m n))
-      go (inr (inr a)) = absurd (clash a (pulled-one all n m))
+      go (inr (inl a)) = absurd (clash a (pulled-one ports all m n))
+      go (inr (inr a)) = absurd (clash a (pulled-one ports all n m))
 
 ------------------------------------------------------------------------
 -- the definitions are such choices

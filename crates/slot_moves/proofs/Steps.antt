@@ -76,7 +76,7 @@ module _ (k : ℕ) (none : nowhere ≤ k) where
 module _ {old new : List ℕ} (kept : Kept old new) where
   better-kept : (held k : ℕ) → betterOf new held k ≡ betterOf old held k
   unfolding betterOf
-  better-kept held k = rw (kept .cells k, kept .cells held)
+  better-kept held k = rw (kept .ports, kept .cells k, kept .cells held)
 
   pub entered-kept : (best : List ℕ) (k : ℕ) → entered new best k ≡ entered old best k
   unfolding entered

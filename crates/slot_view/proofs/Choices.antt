@@ -12,6 +12,7 @@ use Rattle.cell.proofs.Order.{over-trans}
 use Rattle.layout.specs.Entry.{entryAt}
 use Rattle.slot_view.specs.CodeChoices.{BestAmong, empty, best}
 use Rattle.layout_table.proofs.Better.{better-first, better-over, better-under}
+use Rattle.layout.specs.Code.{portsIn}
 use Rattle.layout_table.specs.CodeEntries.{nowhere, betterOf}
 
 ------------------------------------------------------------------------
@@ -22,8 +23,8 @@ module _ (table : List ℕ) where
   abbrev pub Ordered : ℕ → ℕ → Type 0
   Ordered k n =
       (k ≡ n)
-      ⊎ ((over (entryAt table k .cell) (entryAt table n .cell) ≡ true)
-      ⊎ (over (entryAt table n .cell) (entryAt table k .cell) ≡ true))
+      ⊎ ((over (portsIn table) (entryAt table k .cell) (entryAt table n .cell) ≡ true)
+      ⊎ (over (portsIn table) (entryAt table n .cell) (entryAt table k .cell) ≡ true))
 
   module _ {Old New : ℕ → Type 0} (more : (k : ℕ) → Old k → New k) where
     pub best-same : (n : ℕ) → ((k : ℕ) → New k → Old k) → BestAmong table Old n → BestAmong table New n
@@ -40,29 +41,34 @@ module _ (table : List ℕ) where
         only : (k : ℕ) → Old k ⊎ (k ≡ n) → k ≡ n
         only k (inl m) = absurd (f k m)
         only k (inr q) = q
-    best-more held n small new back total (best s b) = go (over (entryAt table n .cell) (entryAt table held .cell)) refl
+    best-more held n small new back total (best s b) =
+        go (over (portsIn table) (entryAt table n .cell) (entryAt table held .cell)) refl
       where
-        wins : over (entryAt table n .cell) (entryAt table held .cell) ≡ true → (k : ℕ) → Old k ⊎ (k ≡ n)
-            → (k ≡ n) ⊎ (over (entryAt table n .cell) (entryAt table k .cell) ≡ true)
+        wins : over (portsIn table) (entryAt table n .cell) (entryAt table held .cell) ≡ true → (k : ℕ)
+            → Old k ⊎ (k ≡ n)
+            → (k ≡ n) ⊎ (over (portsIn table) (entryAt table n .cell) (entryAt table k .cell) ≡ true)
         wins o k (inl m) = past (b .upper k m)
           where
-            past : (k ≡ held) ⊎ (over (entryAt table held .cell) (entryAt table k .cell) ≡ true)
-                → (k ≡ n) ⊎ (over (entryAt table n .cell) (entryAt table k .cell) ≡ true)
+            past : (k ≡ held) ⊎ (over (portsIn table) (entryAt table held .cell) (entryAt table k .cell) ≡ true)
+                → (k ≡ n) ⊎ (over (portsIn table) (entryAt table n .cell) (entryAt table k .cell) ≡ true)
             past (inl e) = inr (rw e o)
-            past (inr u) = inr (over-trans (entryAt table n .cell) (entryAt table held .cell) (entryAt table k .cell) o u)
+            past (inr u) =
+                inr (over-trans (portsIn table) (entryAt table n .cell) (entryAt table held .cell) (entryAt table k .cell) o u)
         wins o k (inr q) = inl q
 
-        holds : over (entryAt table n .cell) (entryAt table held .cell) ≡ false → (k : ℕ) → Old k ⊎ (k ≡ n)
-            → (k ≡ held) ⊎ (over (entryAt table held .cell) (entryAt table k .cell) ≡ true)
+        holds : over (portsIn table) (entryAt table n .cell) (entryAt table held .cell) ≡ false → (k : ℕ)
+            → Old k ⊎ (k ≡ n)
+            → (k ≡ held) ⊎ (over (portsIn table) (entryAt table held .cell) (entryAt table k .cell) ≡ true)
         holds o k (inl m) = b .upper k m
         holds o k (inr q) = past (total (b .own))
           where
-            past : Ordered n held → (k ≡ held) ⊎ (over (entryAt table held .cell) (entryAt table k .cell) ≡ true)
+            past : Ordered n held
+                → (k ≡ held) ⊎ (over (portsIn table) (entryAt table held .cell) (entryAt table k .cell) ≡ true)
             past (inl e) = inl (q ∙ e)
             past (inr (inl u)) = absurd (clash u o)
             past (inr (inr u)) = inr (rw q u)
 
-        go : (t : Bool) → over (entryAt table n .cell) (entryAt table held .cell) ≡ t
+        go : (t : Bool) → over (portsIn table) (entryAt table n .cell) (entryAt table held .cell) ≡ t
             → BestAmong table New (betterOf table held n)
         go true o =
             subst (BestAmong table New) (sym (better-over table held n small s o))

@@ -14,7 +14,7 @@ use Rattle.model.specs.CodeSlackness.{Orderly, OneCrosspoint}
 use Rattle.model.specs.Sound.{soundSections}
 use Rattle.model.proofs.SoundOrderly.{sound-orderly, sound-one-crosspoint}
 use Rattle.layout.specs.Entry.{entryAt}
-use Rattle.layout.specs.Code.{placeByteAt}
+use Rattle.layout.specs.Code.{portsIn, placeByteAt}
 use Rattle.layout.specs.Table.{placeOf, stateOf, IsTable, entryLimit}
 use Rattle.layout.proofs.Records.{entryAt-place}
 use Rattle.layout.proofs.Table.{placeByte-range, decode-sound, sound-sections}
@@ -59,8 +59,10 @@ module _ (table : List ℕ) (good : IsTable table) where
   sound : soundSections (s .ports) (s .clock) 0 (s .sections) ≡ true
   sound = sound-sections s (decode-sound table s good)
 
-  pub waitingIn-orderly : Orderly (waitingIn table)
-  waitingIn-orderly = subst Orderly (sym waitingIn-state) (sound-orderly (s .ports) (s .clock) (s .sections) sound)
+  pub waitingIn-orderly : Orderly (portsIn table) (waitingIn table)
+  unfolding portsIn stateOf
+  waitingIn-orderly =
+      subst (Orderly (portsIn table)) (sym waitingIn-state) (sound-orderly (s .ports) (s .clock) (s .sections) sound)
 
   pub waitingIn-single : OneCrosspoint (waitingIn table)
   waitingIn-single =

@@ -239,7 +239,7 @@ module _ {old new : List ℕ} (kept : Kept old new) (r : Readable old) where
             (record {
               own =
                   record { entry = kept-entry (own .entry); place = own .place; goes = rw (kept .cells n) (own .goes) };
-              upper = λ k m. rw (kept .cells n, kept .cells k) (u .upper k (back o k m));
+              upper = λ k m. rw (kept .ports, kept .cells n, kept .cells k) (u .upper k (back o k m));
             })
 
   pub kept-view : {places listed heads : List ℕ} {cross keys : List (List ℕ)} {bests : List ℕ}

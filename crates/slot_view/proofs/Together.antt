@@ -31,18 +31,18 @@ Contiguous table places =
     → sameFlow (entryAt table a .cell) (entryAt table b .cell) ≡ true
 
 -- the same in a list of entries
-together-between : (e : Entry) (mid : List Entry) (f : Entry) (post : List Entry) {g : Entry}
-    → together (e ∷ mid ++ f ∷ post) ≡ true → List·Memᴰ g post → ofFlow e g ≡ true → ofFlow e f ≡ true
-together-between e [] f post {g} h m s = go (together-next e f post h)
+together-between : (ports : ℕ) (e : Entry) (mid : List Entry) (f : Entry) (post : List Entry) {g : Entry}
+    → together ports (e ∷ mid ++ f ∷ post) ≡ true → List·Memᴰ g post → ofFlow e g ≡ true → ofFlow e f ≡ true
+together-between ports e [] f post {g} h m s = go (together-next ports e f post h)
   where
-    go : Next e f post → ofFlow e f ≡ true
+    go : Next ports e f post → ofFlow e f ≡ true
     go (follows t o) = t
     go (last n) = absurd (none?-clash (ofFlow e) n (List·Memᴰ·tail m) s)
-together-between e (x ∷ mid) f post {g} h m s =
-    go (together-next e x (mid ++ f ∷ post) h)
-    (together-between x mid f post (together-tail e (x ∷ mid ++ f ∷ post) h) m)
+together-between ports e (x ∷ mid) f post {g} h m s =
+    go (together-next ports e x (mid ++ f ∷ post) h)
+    (together-between ports x mid f post (together-tail ports e (x ∷ mid ++ f ∷ post) h) m)
   where
-    go : Next e x (mid ++ f ∷ post) → (ofFlow x g ≡ true → ofFlow x f ≡ true) → ofFlow e f ≡ true
+    go : Next ports e x (mid ++ f ∷ post) → (ofFlow x g ≡ true → ofFlow x f ≡ true) → ofFlow e f ≡ true
     go (follows t o) rec =
         flow-trans (e .cell) (x .cell) (f .cell) t
         (rec (flow-trans (x .cell) (e .cell) (g .cell) (flow-sym (e .cell) (x .cell) t) s))
@@ -50,9 +50,10 @@ together-between e (x ∷ mid) f post {g} h m s =
         absurd
         (none?-clash (ofFlow e) n (List·Memᴰ·tail (Memᴰ·append-right mid (List·Memᴰ·tail m))) s)
 
-together-behind : (pre : List Entry) (l : List Entry) → together (pre ++ l) ≡ true → together l ≡ true
-together-behind [] l h = h
-together-behind (e ∷ pre) l h = together-behind pre l (together-tail e (pre ++ l) h)
+together-behind : (ports : ℕ) (pre : List Entry) (l : List Entry) → together ports (pre ++ l) ≡ true
+    → together ports l ≡ true
+together-behind ports [] l h = h
+together-behind ports (e ∷ pre) l h = together-behind ports pre l (together-tail ports e (pre ++ l) h)
 
 -- a run of numbers, with one of them in sight
 numbers-split : (k n a : ℕ) → k ≤ a → a < k + n
@@ -82,19 +83,19 @@ module _ (f : ℕ → Entry) where
       ∙ keep-append listed front (f a ∷ back)
       ∙ ap (λ l. keep listed front ++ l) (keep-pass listed (f a) back h)
 
-  run-between : (k n a b c : ℕ) → k ≤ a → a < b → b < c → c < k + n → together (chosen k n) ≡ true
+  run-between : (ports k n a b c : ℕ) → k ≤ a → a < b → b < c → c < k + n → together ports (chosen k n) ≡ true
       → isListed (f a .place) ≡ true → isListed (f b .place) ≡ true → isListed (f c .place) ≡ true
       → ofFlow (f a) (f c) ≡ true → ofFlow (f a) (f b) ≡ true
   unfolding chosen
-  run-between k n a b c low ab bc high h la lb lc s =
+  run-between ports k n a b c low ab bc high h la lb lc s =
       let m : ℕ = k + n - (a + 1) in
       let o : ℕ = a + 1 + m - (b + 1) in
-      let first : together (f a ∷ chosen (a + 1) m) ≡ true =
-      together-behind (chosen k (a - k)) (f a ∷ chosen (a + 1) m)
-      (sym (ap together (chosen-split k n a low (omega arith) la)) ∙ h) in
-      let second : together (f a ∷ chosen (a + 1) (b - (a + 1)) ++ f b ∷ chosen (b + 1) o) ≡ true =
-      sym (ap (λ l. together (f a ∷ l)) (chosen-split (a + 1) m b (omega arith) (omega arith) lb)) ∙ first in
-      together-between (f a) (chosen (a + 1) (b - (a + 1))) (f b) (chosen (b + 1) o) second
+      let first : together ports (f a ∷ chosen (a + 1) m) ≡ true =
+      together-behind ports (chosen k (a - k)) (f a ∷ chosen (a + 1) m)
+      (sym (ap (together ports) (chosen-split k n a low (omega arith) la)) ∙ h) in
+      let second : together ports (f a ∷ chosen (a + 1) (b - (a + 1)) ++ f b ∷ chosen (b + 1) o) ≡ true =
+      sym (ap (λ l. together ports (f a ∷ l)) (chosen-split (a + 1) m b (omega arith) (omega arith) lb)) ∙ first in
+      together-between ports (f a) (chosen (a + 1) (b - (a + 1))) (f b) (chosen (b + 1) o) second
       (keep-mem (λ e. isListed (e .place)) (Memᴰ·map f (numbersFrom-mem (b + 1) o (omega arith) (omega arith))) lc) s
 
 module _ (table : List ℕ) (good : IsTable table) where
@@ -107,14 +108,14 @@ module _ (table : List ℕ) (good : IsTable table) where
       ∙ ap (sectionPlaced table (placesIn table)) (omega arith)
 
   pub contiguous : Contiguous table (placesIn table)
-  unfolding sectionPlaced entryPlaced chosen
+  unfolding sectionPlaced entryPlaced chosen portsIn stateOf
   contiguous a b c ta tb tc same ab bc la lb lc flow =
       let s = stateOf table in
       let input : ℕ = a / sectionRoom in
-      let flows : together (chosen (entryPlaced table (placesIn table)) (sectionRoom * input) (countIn table input)) ≡ true =
-      sym (ap (λ l. together (keep (λ e. isListed (e .place)) l)) (section input (ta .input)))
+      let flows : together (portsIn table) (chosen (entryPlaced table (placesIn table)) (sectionRoom * input) (countIn table input)) ≡ true =
+      sym (ap (λ l. together (portsIn table) (keep (λ e. isListed (e .place)) l)) (section input (ta .input)))
       ∙ sections-e (s .ports) (s .clock) (s .sections) (sound-sections s (decode-sound table s good)) input .flows in
       let end : c < sectionRoom * input + countIn table input =
       subst (λ i. c < sectionRoom * i + countIn table i) (sym same) (tc .position) in
-      run-between (entryPlaced table (placesIn table)) (sectionRoom * input) (countIn table input) a b c
+      run-between (entryPlaced table (placesIn table)) (portsIn table) (sectionRoom * input) (countIn table input) a b c
       (omega arith) ab bc end flows la lb lc flow

@@ -11,6 +11,7 @@ use Rattle.laws.specs.Lists.{keep, first?}
 use Rattle.cell.specs.Order.{over}
 use Rattle.model.specs.Phase.{Waiting, bestFor, Phase}
 use Rattle.layout.specs.Entry.{entryAt}
+use Rattle.layout.specs.Code.{portsIn}
 use Rattle.layout_table.specs.CodeEntries.{nowhere}
 
 unfoldable pub numberOf : Option Waiting → ℕ
@@ -32,8 +33,8 @@ unfoldable pub candidatesOf : Phase → ℕ → List ℕ
 candidatesOf p input = map (λ e. e .at) (ofInput input (p .candidates))
 
 -- the best of some crosspoint cells of an output
-unfoldable pub bestOf : List Waiting → ℕ → ℕ
-bestOf crosspoints output = numberOf (bestFor crosspoints output)
+unfoldable pub bestOf : ℕ → List Waiting → ℕ → ℕ
+bestOf ports crosspoints output = numberOf (bestFor ports crosspoints output)
 
 ------------------------------------------------------------------------
 -- the choice of an output, cell by cell
@@ -41,7 +42,8 @@ bestOf crosspoints output = numberOf (bestFor crosspoints output)
 -- one of some cells is over every other
 pub record Best (table : List ℕ) (Among : ℕ → Type 0) (n : ℕ) : Type 0 where
   pub own : Among n
-  pub upper : (k : ℕ) → Among k → (k ≡ n) ⊎ (over (entryAt table n .cell) (entryAt table k .cell) ≡ true)
+  pub upper : (k : ℕ) → Among k
+      → (k ≡ n) ⊎ (over (portsIn table) (entryAt table n .cell) (entryAt table k .cell) ≡ true)
 
 -- the choice among some cells: the best of them, or none where there are none
 pub data BestAmong (table : List ℕ) (Among : ℕ → Type 0) (n : ℕ) : Type 0 where

@@ -35,7 +35,7 @@ pub record Holds (table : List ℕ) (cross : List (List ℕ)) (cells : List Wait
 pub record Bests (table : List ℕ) (cross : List (List ℕ)) (best : List ℕ) : Type 0 where
   pub size : length best ≡ portLimit
   pub at : (cells : List Waiting) → Holds table cross cells → (output : ℕ) → output < portLimit
-      → getD best output 0 ≡ bestOf cells output
+      → getD best output 0 ≡ bestOf (portsIn table) cells output
 
 ------------------------------------------------------------------------
 -- the choices, input by input

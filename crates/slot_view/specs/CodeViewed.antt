@@ -22,6 +22,7 @@ use Rattle.layout.specs.Table.{placeOf}
 use Rattle.layout_table.specs.CodeEntries.{nowhere}
 use Rattle.slot_view.specs.CodeChoices.{BestAmong, candidatesOf}
 use Rattle.slot_view.specs.CodeScan.{someUrgent, Scheduled, Bests}
+use Rattle.layout.specs.Code.{portsIn}
 use Rattle.slot_view.specs.CodeView.{waitingAt, inTable, InTable, crosspointAt, Square, Agrees, placesIn, waitingIn}
 
 ------------------------------------------------------------------------
@@ -134,11 +135,11 @@ pub record Blank (cross keys : List (List ℕ)) (best : List ℕ) : Type 0 where
 -- whether a cell is urgent; the scheduled cell of each input; the candidates of each input, as a set of positions; and the
 -- best crosspoint cell of each output
 pub record Chosen (table : List ℕ) (cross : List (List ℕ)) (urgent : Bool) (scheduled candidates best : List ℕ) : Type 0 where
-  pub urgent-is : urgent ≡ someUrgent (phase (waitingIn table))
+  pub urgent-is : urgent ≡ someUrgent (phase (portsIn table) (waitingIn table))
   pub scheduled-size : length scheduled ≡ portLimit
-  pub schedules : Scheduled (phase (waitingIn table)) portLimit scheduled
+  pub schedules : Scheduled (phase (portsIn table) (waitingIn table)) portLimit scheduled
   pub candidates-size : length candidates ≡ portLimit
   pub candidates-are : (input : ℕ) → input < portLimit
       → map (λ j. sectionRoom * input + j) (members (getD candidates input 0))
-      ≡ candidatesOf (phase (waitingIn table)) input
+      ≡ candidatesOf (phase (portsIn table) (waitingIn table)) input
   pub bests : Bests table cross best

@@ -155,9 +155,9 @@ returns-4 c =
     let else1 = asked .before in
     let start = start-of else1 in
     let a = start .args in (
-      flows .flows-together .ensures .0
-          ∙ ap (λ s. together (entriesIn (a .bytes .now) (a .first) s)) (listed .minus2 .ensures)
-          ∙ ap together (found-there else1 .listed)
+      flows .flows-together .ensures .0 (a .ports)
+          ∙ ap (λ s. together (a .ports) (entriesIn (a .bytes .now) (a .first) s)) (listed .minus2 .ensures)
+          ∙ ap (together (a .ports)) (found-there else1 .listed)
           ∙ sound-flows (a .ports) (a .clock) (a .bytes .now) (a .first) (a .end) (entries else1)
           (sym (slots asked) ∙ not-false (asked .slots-differ .result) (else2 .if2 .left))
           (sym (crosspoints crossed) ∙ not-false (crossed .crosspoints-differ .result) (else3 .if3 .left)),

@@ -6,6 +6,7 @@ use mathlib.Core.Path.{sym, _∙_, subst}
 use Rattle.sets.specs.Sets.{firstOf}
 use Rattle.sets.proofs.Members.{rest-less, visited-member}
 use Rattle.sets.specs.Code.{restOf}
+use Rattle.layout.specs.Code.{portsIn}
 use Rattle.slot_view.specs.CodeView.{placesIn, waitingIn, waitingAt}
 use Rattle.slot_choice.specs.CodeWalk.{HeadOf, Means, Scanned}
 use Rattle.slot_choice.proofs.Walked.{Walked, head-here, walked-start, walked-position, walked-next}
@@ -43,14 +44,15 @@ kind : (c : tie.After-kind-of Inv-loop μ-loop)
     → let in-loop = c .before .before .before in
     let a = in-loop .before .before .before .args in
     let table = a .table .now in
-    Means (waitingIn table) (waitingAt table (placesIn table) (64 * a .input + firstOf (in-loop .before .loop .left)))
+    Means (portsIn table) (waitingIn table)
+    (waitingAt table (placesIn table) (64 * a .input + firstOf (in-loop .before .loop .left)))
     (c .kind-of .result .ready) (c .kind-of .result .pressing)
 kind c =
     let in-loop = c .before .before .before in
     let a = in-loop .before .before .before .args in
     let table = a .table .now in
     subst
-    (λ j. Means (waitingIn table) (waitingAt table (placesIn table) (64 * a .input + j)) (c .kind-of .result .ready)
+    (λ j. Means (portsIn table) (waitingIn table) (waitingAt table (placesIn table) (64 * a .input + j)) (c .kind-of .result .ready)
     (c .kind-of .result .pressing))
     (c .before .before .first .ensures) (c .kind-of .ensures)
 

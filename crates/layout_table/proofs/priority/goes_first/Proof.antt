@@ -2,9 +2,8 @@
 use mathlib.Core.Path.{sym, _∙_, ap₂}
 use lib.Dec.{ltb}
 use borrow.Author.Needs.{needs}
-use Rattle.cell.specs.Order.{winsTie}
 use Rattle.layout_table.proofs.Places.{known-bytes}
-use Rattle.layout_table.proofs.Keys.{slot-below, over-keys, over-tie}
+use Rattle.layout_table.proofs.Keys.{slot-below, ports-fit, same-tie, over-keys, over-tie}
 use Rattle.layout_table.proofs.priority.goes_first.Statement.{statement}
 use Rattle.layout_table.proofs.priority.goes_first.Tie as tie
 
@@ -15,7 +14,18 @@ returns c =
     let bytes = known-bytes _ (c .before .shared-slice-known .given) in
     let below = slot-below _ (p .0 .0) bytes in
     ap₂ ltb (p .1 .0) (p .1 .1)
-    ∙ over-keys _ _ (below _ (p .0 .1)) (below _ (p .0 .2)) (λ e. c .if1 .taken (p .1 .0 ∙ e ∙ sym (p .1 .1)))
+    ∙ over-keys _ _ _ (below _ (p .0 .1)) (below _ (p .0 .2)) (λ e. c .if1 .taken (p .1 .0 ∙ e ∙ sym (p .1 .1)))
+
+ports-of-requires : tie.Need-ports-of-requires
+ports-of-requires c κs = search needs
+
+-- the ports of a table fit four bytes
+cast-wins-tie : tie.Need-cast-wins-tie
+cast-wins-tie c =
+    let test = c .before in
+    let start = test .before .before in
+    let bytes = known-bytes _ (test .before .shared-slice-known .given) in
+    ports-fit _ (start .pre .0 .0) bytes (c .ports-of .ensures)
 
 cell-of-requires : tie.Need-cell-of-requires
 cell-of-requires c κs = search needs
@@ -30,15 +40,17 @@ returns-2 : tie.Need-returns-2
 returns-2 c =
     let two = c .before in
     let one = two .before in
-    let test = one .before in
+    let ports = one .before in
+    let test = ports .before in
     let start = test .before .before in
     let p = start .pre in
     let bytes = known-bytes _ (test .before .shared-slice-known .given) in
     let below = slot-below _ (p .0 .0) bytes in
     c .wins-tie .ensures
-    ∙ ap₂ winsTie (one .cell-of .ensures) (two .cell-of2 .ensures)
-    ∙ over-tie _ _ (below _ (p .0 .1)) (below _ (p .0 .2)) (sym (p .1 .0) ∙ test .if1 .left ∙ p .1 .1)
+    ∙ same-tie (ports .ports-of .ensures) (one .cell-of .ensures) (two .cell-of2 .ensures)
+    ∙ over-tie _ _ _ (below _ (p .0 .1)) (below _ (p .0 .2)) (sym (p .1 .0) ∙ test .if1 .left ∙ p .1 .1)
 
 pub goes-first-spec : {M : Type 1} → statement M
 goes-first-spec =
-    tie.close (tie.spec returns cell-of-requires cell-of-requires-2 wins-tie-requires returns-2)
+    tie.close
+    (tie.spec returns ports-of-requires cast-wins-tie cell-of-requires cell-of-requires-2 wins-tie-requires returns-2)

@@ -1,7 +1,8 @@
 -- What the choices hand to the matching, and the matching to the moves.
-use mathlib.Core.Path.{_∙_, ap}
+use mathlib.Core.Path.{_∙_, ap₂}
 use borrow.Author.Needs.{needs}
 use Rattle.model.specs.Phase.{phase}
+use Rattle.slot_view.proofs.Placed.{decode-ports}
 use Rattle.slot_view.proofs.Own.{table-readable, waitingIn-orderly, waitingIn-state}
 use Rattle.slot_course.proofs.Settling.{settled, proposals-are}
 use Rattle.slot_course.proofs.Unmatched.{unmatched, to-outputs}
@@ -54,7 +55,7 @@ returns c =
         moved .move-cells .ensures .1 .0,
         (
           proposals-are (table-readable _ good) (waitingIn-orderly _ good) (chosen .choose .ensures) (found .matching-of .ensures)
-              ∙ ap (λ l. phase l .proposals) (waitingIn-state _ good),
+              ∙ ap₂ (λ n l. phase n l .proposals) (decode-ports _ _ good) (waitingIn-state _ good),
           moved .move-cells .ensures .1 .1 .1,
         ),
       ),
