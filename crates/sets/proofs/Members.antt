@@ -78,6 +78,15 @@ setFrom-lt p k (suc n) = twice (p k) (setFrom-lt p (k + 1) n)
     twice true h = omega (arith, pow-suc 2 n)
     twice false h = omega (arith, pow-suc 2 n)
 
+-- a pass from the last position to the first pushes each
+pub set-back : (p : ℕ → Bool) (k to : ℕ) → 0 < k → k ≤ to
+    → pushed (setFrom p k (to - k)) (p (k - 1)) ≡ setFrom p (k - 1) (to - (k - 1))
+unfolding setFrom
+set-back p k to some h =
+    let back : k ≡ k - 1 + 1 = omega arith in
+    let size : suc (to - k) ≡ to - (k - 1) = omega arith in
+    ap (λ j. pushed (setFrom p j (to - k)) (p (k - 1))) back ∙ ap (setFrom p (k - 1)) size
+
 pub setFrom-ext : (p q : ℕ → Bool) (k n : ℕ) → ((j : ℕ) → j < n → p (k + j) ≡ q (k + j)) → setFrom p k n ≡ setFrom q k n
 setFrom-ext p q k n same =
     same-members n (setFrom p k n) (setFrom q k n) (setFrom-lt p k n) (setFrom-lt q k n)

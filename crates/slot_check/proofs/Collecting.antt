@@ -17,7 +17,7 @@ use Rattle.laws.specs.Lists.{some?, none?, all?, pairwise, between}
 use Rattle.laws.proofs.Tests.{clash, by-fail, same, and-i, and-l, and-r, or-false-l, or-false-r, not-i}
 use Rattle.laws.proofs.Lists.{none?-e, none?-by-some?, all?-i, all?-e, all?-mono}
 use Rattle.sets.specs.Sets.{pushed, setFrom, either, sizeOf}
-use Rattle.sets.proofs.Members.{setFrom-lt, either-setFrom, setFrom-full}
+use Rattle.sets.proofs.Members.{setFrom-lt, set-back, either-setFrom, setFrom-full}
 use Rattle.sets.proofs.Operations.{or-none-of}
 use Rattle.cell.specs.Limits.{portLimit, sectionRoom}
 use Rattle.model.specs.State.{Entry}
@@ -126,15 +126,6 @@ pub record Collecting (ports clock : ℕ) (bs : List ℕ) (from to mark : ℕ) (
   pub highs : high ≡ setFrom (highPlace bs) k (to - k)
   pub slots : again ≡ false → pairwise otherSlot (entriesBetween bs k to) ≡ true
   pub marked : Marked mark marks (λ n. some? (slotIs n) (entriesBetween bs k to))
-
--- one position down
-pub set-back : (p : ℕ → Bool) (k to : ℕ) → 0 < k → k ≤ to
-    → pushed (setFrom p k (to - k)) (p (k - 1)) ≡ setFrom p (k - 1) (to - (k - 1))
-unfolding setFrom
-set-back p k to some h =
-    let back : k ≡ k - 1 + 1 = omega arith in
-    let size : suc (to - k) ≡ to - (k - 1) = omega arith in
-    ap (λ j. pushed (setFrom p j (to - k)) (p (k - 1))) back ∙ ap (setFrom p (k - 1)) size
 
 module _ (ports clock : ℕ) (bs : List ℕ) (from to mark : ℕ) (marks : List ℕ) where
   pub collecting-start : from ≤ to → MarksBelow mark marks

@@ -7,14 +7,13 @@ use mathlib.Core.List.{List}
 use lib.Dec.{eqb}
 use lib.Pow.{pow-mono}
 use Rattle.sets.specs.Sets.{setFrom, pushed, minus, both}
-use Rattle.sets.proofs.Members.{setFrom-lt}
+use Rattle.sets.proofs.Members.{setFrom-lt, set-back}
 use Rattle.cell.specs.Limits.{sectionRoom}
 use Rattle.model.specs.State.{isListed, isCrossed, isBuffered}
 use Rattle.layout.specs.Entry.{countIn}
 use Rattle.layout.specs.Code.{placeByteAt, portsIn}
 use Rattle.layout.specs.Table.{stateOf, IsTable}
 use Rattle.slot_check.specs.Code.{lowPlace, highPlace}
-use Rattle.slot_check.proofs.Collecting.{set-back}
 use Rattle.slot_check.proofs.Walks.{listed-set, crossed-set, buffered-set}
 use Rattle.slot_view.specs.CodeView.{InTable, placesIn}
 use Rattle.slot_view.specs.CodeViewed.{listedSet, crossedSet, bufferedSet}
