@@ -18,7 +18,7 @@ extern "C" {
 
 /* The version of this header and of the library that it describes, and the number of the table's layout, with which
    every table begins. */
-#define CROSSBAR_VERSION "2.0.0"
+#define CROSSBAR_VERSION "2.1.0"
 #define CROSSBAR_LAYOUT 1u
 
 /* Limits. */
@@ -70,7 +70,13 @@ uint32_t check(const uint8_t *table, size_t table_bytes);
    output 0 first; bytes past them are kept. tally counts one slot run, the cells that arrived and those that departed;
    a count at its top stays there. On a table that came from start by slot calls alone, the departures are those of a
    PIFO output-queued switch: each output sends, of all cells for it in the switch, the one of the smallest rank; for
-   equal ranks that of the smaller slot, then of the smaller input.
+   equal ranks that of the smaller slot. Among cells of equal rank and slot s, that of input s mod N goes first, then
+   the next, round to the start; N is the number of ports, and s the slot in which the cells were accepted, not the
+   clock.
+
+   A table kept from version 2.0.0, where the smaller input went first, is still taken as it is, and its ties go by this
+   order too. If cells of equal rank and slot waited in it for one output, its departures are sure to be those of a PIFO
+   switch only once it has been empty.
 
    An occupancy says how crowded an output is: how many of its crosspoints hold a cell when it chooses among them, from
    0 to the number of ports. Cells just sent there are counted, and so is the cell that it takes. Where a cell came to

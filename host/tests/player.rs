@@ -108,6 +108,9 @@ const SHOW: &str = "ports=2 first=0 slot=0 in=0 out=1 flow=0 rank=5 tag=10 in=1 
 /// Texts and what the player writes, by hand.
 const SHOWS: &[(&str, &str)] = &[
     (SHOW, "ports=2 first=0 slot=0 out=1 in=1 flow=0 rank=3 tag=11 slot=1 out=1 in=0 flow=0 rank=5 tag=10 end=2 "),
+    // equal ranks: in slot 1 it is the turn of input 1, as in scope 9.4
+    ("ports=2 first=1 slot=1 in=0 out=0 flow=0 rank=4 tag=10 in=1 out=0 flow=0 rank=4 tag=11 slot=2 end=3 ",
+     "ports=2 first=1 slot=1 out=0 in=1 flow=0 rank=4 tag=11 slot=2 out=0 in=0 flow=0 rank=4 tag=10 end=3 "),
     // the header
     ("", "refused=9 line=1 "),
     ("ports=17", "refused=9 line=1 "),

@@ -1,6 +1,6 @@
 //! Long random lists of slot calls on the proved switch, every byte of table, answer and tally compared with the reference
-//! after every call, and the PIFO switch beside them where the list began with a fresh switch. Then occupancies worked out
-//! by hand, and what a refused slot keeps.
+//! after every call, and the PIFO switch beside them where the list began with a fresh switch. Then departures and
+//! occupancies worked out by hand, and what a refused slot keeps.
 //!
 //! SLOTS=n and SEED=n in the environment run longer or another list.
 
@@ -148,6 +148,34 @@ fn call(r: &mut Random, table: &mut Vec<u8>, s: &mut Crossbar, records: &[Record
     expected
 }
 
+/// The proved switch's table and both reference switches, from a fresh switch on.
+struct Switches {
+    table: Vec<u8>,
+    crossbar: Crossbar,
+    pifo: Pifo,
+}
+
+impl Switches {
+    fn fresh(ports: u32, first: u32) -> Switches {
+        let mut table = vec![0; TABLE_BYTES];
+        assert_eq!(start_bytes(ports, first, &mut table), 0);
+        let crossbar = Crossbar::fresh(ports, first);
+        assert!(table == crossbar.table());
+        Switches { table, crossbar, pifo: Pifo::fresh(ports, first) }
+    }
+
+    /// One call on all three; where it is refused for the bytes lent, with 2 or 10, the PIFO switch has no part in it.
+    fn call(&mut self, r: &mut Random, records: &[Record]) -> Result<Answer, (u32, u32)> {
+        let got = call(r, &mut self.table, &mut self.crossbar, records, "fresh");
+        match &got {
+            Ok(a) => assert_eq!(Ok(a.departures.clone()), self.pifo.slot(records), "the PIFO switch parts"),
+            Err((2 | 10, _)) => (),
+            Err(refused) => assert_eq!(Err(*refused), self.pifo.slot(records), "the PIFO switch parts"),
+        }
+        got
+    }
+}
+
 /// A damaged table is refused with 2 and kept.
 fn damaged(r: &mut Random, table: &[u8]) {
     let mut t = table.to_vec();
@@ -176,40 +204,59 @@ fn from_a_fresh_switch() {
     while done < slots {
         let ports = 1 + r.below(16) as u32;
         let first = r.pick(&[0, 1, 77, 4_000_000_000, CLOCK_END - 40, CLOCK_END]);
-        let mut table = vec![0; TABLE_BYTES];
-        assert_eq!(start_bytes(ports, first, &mut table), 0);
-        let mut s = Crossbar::fresh(ports, first);
-        let mut pifo = Pifo::fresh(ports, first);
-        assert!(table == s.table());
+        let mut switches = Switches::fresh(ports, first);
         let mut traffic = Traffic::new(&mut r, ports);
         let length = r.pick(&[10, 100, 400]);
         for _ in 0..length {
-            let records = traffic.records(&mut r, &s);
-            let clock = s.clock;
-            let got = call(&mut r, &mut table, &mut s, &records, "fresh");
+            let records = traffic.records(&mut r, &switches.crossbar);
+            let clock = switches.crossbar.clock;
             done += 1;
-            match &got {
+            match switches.call(&mut r, &records) {
                 Ok(a) => {
                     proposals += (a.proposals[0] + a.proposals[1]) as u64;
                     crowd = a.occupancies.iter().flatten().copied().fold(crowd, u32::max);
-                    assert_eq!(Ok(a.departures.clone()), pifo.slot(&records), "the PIFO switch parts");
                 }
-                Err((n, place)) => {
-                    refused[*n as usize] += 1;
-                    assert_eq!(s.clock, clock);
-                    if *n != 2 && *n != 10 {
-                        assert_eq!(Err((*n, *place)), pifo.slot(&records), "the PIFO switch parts");
-                    }
+                Err((n, _)) => {
+                    refused[n as usize] += 1;
+                    assert_eq!(switches.crossbar.clock, clock);
                 }
             }
             if r.one_in(200) {
-                damaged(&mut r, &table);
+                damaged(&mut r, &switches.table);
             }
         }
     }
     println!("fresh: {done} slots, {proposals} proposals, at most {crowd} cells before an output, refused {refused:?}");
     assert!(proposals > 0 && crowd == 16, "nothing was matched, or no output had all its crosspoints filled");
     assert!((2..=10).filter(|&n| n != 9).all(|n| refused[n] > 0), "some refusal never came: {refused:?}");
+}
+
+/// Sixteen ports and one rank, so that slot and turn alone decide: forty slots with arrivals, then until no cell waits or
+/// the clock is at its end.
+#[test]
+fn equal_ranks() {
+    let slots = setting("SLOTS", 500_000) / 10;
+    let mut r = Random(setting("SEED", 1) * 2 + 3935559000370003845);
+    let near_end = CLOCK_END - 30;
+    let mut done = 0;
+    while done < slots {
+        for first in [0, 7, 15, near_end] {
+            let mut switches = Switches::fresh(16, first);
+            let mut traffic = Traffic::of_one_rank(&mut r, 16);
+            let mut ended = false;
+            while !ended {
+                let s = &switches.crossbar;
+                let arriving = s.clock - first < 40;
+                if !arriving && s.cells().is_empty() {
+                    break;
+                }
+                let records = if arriving { traffic.records(&mut r, s) } else { Vec::new() };
+                ended = switches.call(&mut r, &records) == Err((3, 0));
+                done += 1;
+            }
+            assert_eq!(ended, first == near_end, "first slot {first}, clock {}", switches.crossbar.clock);
+        }
+    }
 }
 
 #[test]
@@ -237,11 +284,47 @@ fn from_any_sound_table() {
     assert!(proposals > 0 && crowd == 16, "nothing was matched, or no output had all its crosspoints filled");
 }
 
+/// Plays a slot on the table and gives its answer.
+fn played(table: &mut [u8], records: &[Record]) -> [u8; ANSWER_BYTES] {
+    let (mut answer, mut tally) = ([9; ANSWER_BYTES], [0; TALLY_BYTES]);
+    assert_eq!(slot_bytes(table, &bytes_of(records), &mut answer, &mut tally), 0);
+    answer
+}
+
+/// All inputs of a fresh switch send to output 0 with one rank, in as many slots as there are rounds. The cells leave one a
+/// slot, round by round, and a round is their inputs.
+fn leave_in_turn(ports: u32, first: u32, rounds: &[&[u32]]) {
+    let mut table = vec![0; TABLE_BYTES];
+    assert_eq!(start_bytes(ports, first, &mut table), 0);
+    let all: Vec<Record> = (0..ports).map(|input| [input, 0, 0, 4, 0]).collect();
+    for (k, input) in rounds.concat().into_iter().enumerate() {
+        let answer = played(&mut table, if k < rounds.len() { &all } else { &[] });
+        let departure: Vec<u32> = answer[..28].chunks(4).map(|w| u32::from_le_bytes(w.try_into().unwrap())).collect();
+        assert_eq!(departure, [1, input, 0, 0, 4, 0, first + k as u32 / ports], "departure {k} of {ports} ports from {first}");
+    }
+    assert_eq!(table[16..32], [0; 16], "cells are left");
+}
+
+#[test]
+fn turns_by_hand() {
+    // Input s mod 3 is the first of slot s.
+    let rounds: [&[u32]; 3] = [&[0, 1, 2], &[1, 2, 0], &[2, 0, 1]];
+    leave_in_turn(3, 0, &[rounds, rounds, rounds].concat());
+
+    // The show of scope 9.4.
+    leave_in_turn(2, 1, &[&[1, 0]]);
+
+    // 15 and 4,294,967,279 are 15 mod 16, and 4,294,967,292 is 0 mod 3; the last cell leaves in the last slot that can run.
+    let from_15 = [15, 0, 1, 2, 3, 4, 5, 6, 7, 8, 9, 10, 11, 12, 13, 14];
+    leave_in_turn(16, 15, &[&from_15]);
+    leave_in_turn(16, CLOCK_END - 16, &[&from_15]);
+    leave_in_turn(3, CLOCK_END - 3, &[&[0, 1, 2]]);
+}
+
 /// Plays a slot on the table, and the occupancies in the answer must be these, (output, [first phase, second]), and 0 at all
 /// other outputs.
 fn occupied(table: &mut [u8], records: &[Record], want: &[(usize, [u32; 2])]) {
-    let (mut answer, mut tally) = ([9; ANSWER_BYTES], [0; TALLY_BYTES]);
-    assert_eq!(slot_bytes(table, &bytes_of(records), &mut answer, &mut tally), 0);
+    let answer = played(table, records);
     let mut words = [[0; 16]; 2];
     for &(output, [first, second]) in want {
         (words[0][output], words[1][output]) = (first, second);

@@ -24,7 +24,7 @@ TOOLCHAIN = {
     "loop-again",
     "loop-holds",
     "no proof: .. search does not close NEED",
-    "rattle-kit-5b logic 064da1ca440f63e7",
+    "rattle-kit-5b-plain logic 097e4c862dff5811",
     "requires",
     "return",
     "returns",

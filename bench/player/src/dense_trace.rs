@@ -12,10 +12,11 @@ use std::io::{stdout, BufWriter, Write};
 const PORTS: usize = 16;
 const FLOWS: usize = 8;
 
-/// A PIFO switch, which tells how many cells an input holds: for each output a queue by rank, slot and input.
+/// A PIFO switch, which tells how many cells an input holds: for each output a queue by rank, slot and turn, each with its
+/// input.
 struct Pifo {
     clock: u64,
-    queues: [BinaryHeap<Reverse<(u64, u64, usize)>>; PORTS],
+    queues: [BinaryHeap<Reverse<(u64, u64, usize, usize)>>; PORTS],
     held: [usize; PORTS],
     highest_rank: [[[u64; FLOWS]; PORTS]; PORTS],
 }
@@ -39,14 +40,15 @@ impl Pifo {
         let (output, flow) = (random.below(PORTS as u64) as usize, random.below(FLOWS as u64) as usize);
         let rank = (self.clock + random.below(100)).max(self.highest_rank[input][output][flow]);
         self.highest_rank[input][output][flow] = rank;
-        self.queues[output].push(Reverse((rank, self.clock, input)));
+        let turn = (input + PORTS - self.clock as usize % PORTS) % PORTS;
+        self.queues[output].push(Reverse((rank, self.clock, turn, input)));
         self.held[input] += 1;
         format!("in={input}\nout={output}\nflow={flow}\nrank={rank}\ntag={}\n", random.below(1 << 32))
     }
 
     fn depart(&mut self) {
         for queue in &mut self.queues {
-            if let Some(Reverse((_, _, input))) = queue.pop() {
+            if let Some(Reverse((_, _, _, input))) = queue.pop() {
                 self.held[input] -= 1;
             }
         }

@@ -2,23 +2,19 @@
 //! writes places and nothing else; cells move in the table only when one comes or goes.
 
 use crate::table::{
-    clock, count, flow, offset, output, ports, priority, record, Members, Row, Table, BUFFERED, CELLS, CROSSED, LISTED,
-    PORTS, RECORD_BYTES,
+    clock, count, flow, offset, output, ports, priority, record, slot, Members, Row, Table, BUFFERED, CELLS, CROSSED,
+    ENTRIES, LISTED, PORTS, RECORD_BYTES,
 };
 use crate::{Arrival, Departure};
 
-/// A cell as one number: its output priority but for the input, then the number of its entry, which has the input on
-/// top. The cell with the smaller number goes first.
+/// A cell as one number: rank and slot in the upper half, the turn of its input on top of the lower half, and last the
+/// number of its entry. The cell with the smaller number goes first.
 type Cell = u128;
 
 const NONE: Cell = u128::MAX;
 
-fn cell_at(table: &Table, entry: usize) -> Cell {
-    (priority(record(table, entry)) as u128) << 64 | entry as u128
-}
-
 fn entry_of(cell: Cell) -> usize {
-    cell as usize % (PORTS * CELLS)
+    cell as usize % ENTRIES
 }
 
 fn input_of(cell: Cell) -> usize {
@@ -73,12 +69,23 @@ pub struct Fabric<'a> {
     table: &'a mut Table,
     rows: [Row; PORTS],
     ports: usize,
+    /// What a turn counts: an Nth of 2^64, rounded down to a multiple of ENTRIES. As numbers wrap at 2^64, (input - slot)
+    /// times this is the turn of the input times this, without a division. Rounding adds less than 2^43 to it.
+    turn: u64,
 }
 
 impl<'a> Fabric<'a> {
     pub fn new(table: &'a mut Table, rows: [Row; PORTS]) -> Fabric<'a> {
         let ports = ports(table);
-        Fabric { table, rows, ports }
+        let nth = u64::MAX / ports as u64;
+        Fabric { table, rows, ports, turn: nth - nth % ENTRIES as u64 }
+    }
+
+    fn cell_at(&self, input: usize, at: usize) -> Cell {
+        let entry = CELLS * input + at;
+        let r = record(self.table, entry);
+        let turns = self.turn.wrapping_mul((input as u64).wrapping_sub(slot(r) as u64));
+        (priority(r) as u128) << 64 | (turns | entry as u64) as u128
     }
 
     /// A new cell joins its input's section, at the front or right after the last cell of its flow in the list.
@@ -109,7 +116,7 @@ impl<'a> Fabric<'a> {
         for (input, row) in self.rows[..self.ports].iter().enumerate() {
             for at in Members(row.buffered) {
                 let entry = CELLS * input + at;
-                offer(&mut best, output(record(self.table, entry)), cell_at(self.table, entry));
+                offer(&mut best, output(record(self.table, entry)), self.cell_at(input, at));
             }
         }
         best
@@ -135,8 +142,7 @@ impl<'a> Fabric<'a> {
         let mut crossed = Crossed { best: [NONE; PORTS], counts: [0; PORTS] };
         for (input, row) in self.rows[..self.ports].iter().enumerate() {
             for output in Members(row.filled as u64) {
-                let entry = CELLS * input + row.crossed[output] as usize;
-                crossed.enter(output, cell_at(self.table, entry));
+                crossed.enter(output, self.cell_at(input, row.crossed[output] as usize));
             }
         }
         crossed
@@ -155,7 +161,7 @@ impl<'a> Fabric<'a> {
                     choice.ready |= 1 << input;
                     break;
                 }
-                choice.urgent[input] |= ((cell_at(self.table, entry) < crossed[output]) as u64) << at;
+                choice.urgent[input] |= ((self.cell_at(input, at) < crossed[output]) as u64) << at;
             }
         }
         choice
@@ -180,9 +186,9 @@ impl<'a> Fabric<'a> {
         for input in 0..self.ports {
             let mut free = input;
             while cells[free] != 0 {
-                let entry = CELLS * free + cells[free].trailing_zeros() as usize;
-                let cell = cell_at(self.table, entry);
-                let held = &mut held[output(record(self.table, entry))];
+                let at = cells[free].trailing_zeros() as usize;
+                let cell = self.cell_at(free, at);
+                let held = &mut held[output(record(self.table, CELLS * free + at))];
                 let refused = cell.max(*held);
                 *held = cell.min(*held);
                 proposals += 1;
@@ -220,7 +226,7 @@ impl<'a> Fabric<'a> {
             self.leave_list(input, at, CROSSED);
             self.rows[input].filled |= 1 << output;
             self.rows[input].crossed[output] = at as u8;
-            crossed.enter(output, cell_at(self.table, entry));
+            crossed.enter(output, self.cell_at(input, at));
         }
     }
 

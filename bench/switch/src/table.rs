@@ -3,9 +3,10 @@
 
 pub const PORTS: usize = 16;
 pub const CELLS: usize = 64;
+pub const ENTRIES: usize = PORTS * CELLS;
 const FLOWS: usize = 8;
 pub const RECORD_BYTES: usize = 16;
-pub const TABLE_BYTES: usize = HEADER_BYTES + PORTS * CELLS * RECORD_BYTES;
+pub const TABLE_BYTES: usize = HEADER_BYTES + ENTRIES * RECORD_BYTES;
 
 const HEADER_BYTES: usize = 32;
 
@@ -38,7 +39,7 @@ pub fn count(table: &Table, input: usize) -> usize {
 
 /// The byte at which an entry's record begins. No entry needs the remainder; it spares the tests of indexes.
 pub fn offset(entry: usize) -> usize {
-    HEADER_BYTES + RECORD_BYTES * (entry % (PORTS * CELLS))
+    HEADER_BYTES + RECORD_BYTES * (entry % ENTRIES)
 }
 
 pub fn record(table: &Table, entry: usize) -> &Record {
@@ -68,7 +69,7 @@ pub fn rank(r: &Record) -> u32 {
     word(r, 4)
 }
 
-fn slot(r: &Record) -> u32 {
+pub fn slot(r: &Record) -> u32 {
     word(r, 12)
 }
 

@@ -1,3 +1,5 @@
+pub mod Accord
 pub mod Flow
 pub mod Keys
 pub mod Order
+pub mod Turn

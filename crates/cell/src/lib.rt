@@ -1,7 +1,8 @@
 // What travels through the switch and what may be said of it: the cell, the arrival record, the order in
 // which an output sends, the limits, and the refusals with their numbers.
+use std::num::wrapping_sub_u32;
 ghost use mathlib.Core.Path.{_≡_};
-ghost use Rattle.cell.specs.Order.{winsTie, key};
+ghost use Rattle.cell.specs.Order.{firstInTurn, inTurn, winsTie, key};
 ghost use Rattle.cell.specs.Limits.{portsInRange, flowInRange, inputFull};
 ghost use Rattle.cell.specs.Refusal.{number};
 
@@ -135,15 +136,33 @@ impl Switch {
     }
 }
 
-// Whether of two cells of equal rank and slot an output sends `a` before `b`.
+// Whether of two cells of equal rank and slot an output of a switch with so many ports sends `a` before `b`.
 pub fn wins_tie(ports: u32, a: Cell, b: Cell) -> bool
     ensures { λ r. ⌜ r ≡ winsTie ports a b ⌝ }
 {
-    a.input < b.input
+    in_turn(first_in_turn(ports, a.slot), a.input, b.input)
+}
+
+// The input that goes first in a slot.
+pub fn first_in_turn(ports: u32, slot: u32) -> u32
+    ensures { λ r. ⌜ r ≡ firstInTurn ports slot ⌝ }
+{
+    if ports == 0 {
+        return slot;
+    }
+    slot % ports
+}
+
+// Whether input i comes before input j in the round that begins at `start`. How far an input stands above it, wrapping,
+// is its place in the round.
+pub fn in_turn(start: u32, i: u32, j: u32) -> bool
+    ensures { λ r. ⌜ r ≡ inTurn start i j ⌝ }
+{
+    wrapping_sub_u32(i, start) < wrapping_sub_u32(j, start)
 }
 
 // Rank and slot of a cell as one number. An output sends the cell with the smaller one; `wins_tie` decides between
-// equal ones. One comparison without a branch, where `over` has three.
+// equal ones. One comparison without a branch.
 pub fn key(c: Cell) -> u64
     ensures { λ r. ⌜ r ≡ key c ⌝ }
 {

@@ -244,6 +244,10 @@ pub sound-ports : (s : Switch) → sound s ≡ true → s .ports ≤ portLimit
 unfolding sound portsInRange
 sound-ports s h = leb-true (s .ports) portLimit (search (and-l, and-r))
 
+pub sound-some : (s : Switch) → sound s ≡ true → 0 < s .ports
+unfolding sound portsInRange
+sound-some s h = leb-true 1 (s .ports) (search (and-l, and-r))
+
 pub sound-clock : (s : Switch) → sound s ≡ true → fits32 (s .clock) ≡ true
 unfolding sound
 sound-clock s h = search (and-l, and-r)

@@ -6,8 +6,6 @@ use mathlib.Core.Path.{_≡_, sym, _∙_, ap, ap₂}
 use mathlib.Core.Logic.{_≢_}
 use mathlib.Core.List.{List}
 use borrow.Author.Tests.{eq-eqb, ne-eqb, le-ltb}
-use mir.Syntax.{w32}
-use mir.Val.{Fits}
 use lib.Dec.{ltb, eqb}
 use lib.ListN.{length}
 use Rattle.cell.specs.declared.Cell.{Cell}
@@ -16,7 +14,6 @@ use Rattle.cell.proofs.Keys.{over-key}
 use Rattle.laws.proofs.Tests.{and-false-l}
 use Rattle.layout.specs.Entry.{entryAt}
 use Rattle.layout.specs.Code.{recordStart, portsIn}
-use Rattle.layout.specs.Number.{word}
 use Rattle.layout.specs.Table.{tableSize, entryLimit}
 use Rattle.layout.proofs.Number.{bytes?, word-fits, fits32-below}
 use Rattle.layout.proofs.Records.{entryAt-slot}
@@ -30,17 +27,10 @@ slot-below table size bytes k h =
     fits32-below (entryAt table k .cell .slot)
     (ap fits32 (entryAt-slot table k) ∙ word-fits table (recordStart k + 12) bytes (omega arith))
 
--- so do the ports
-pub ports-fit : (table : List ℕ) → length table ≡ tableSize → bytes? table ≡ true → {r : ℕ} → r ≡ portsIn table
-    → Fits w32 r
+-- and so does the number of ports
+pub ports-below : (table : List ℕ) → length table ≡ tableSize → bytes? table ≡ true → portsIn table < 2 ^ 32
 unfolding portsIn
-ports-fit table size bytes e =
-    let few = fits32-below (word table 4) (word-fits table 4 bytes (omega arith)) in
-    record { fits = omega arith }
-
--- equal ports and cells have the same tie
-pub same-tie : {m n : ℕ} {a b c d : Cell} → m ≡ n → a ≡ c → b ≡ d → winsTie m a b ≡ winsTie n c d
-same-tie {n = n} {a = a} {b = b} e f g = ap (λ k. winsTie k a b) e ∙ ap₂ (winsTie n) f g
+ports-below table size bytes = fits32-below (portsIn table) (word-fits table 4 bytes (omega arith))
 
 module _ (ports : ℕ) (c d : Cell) (slot : c .slot < 2 ^ 32) (other : d .slot < 2 ^ 32) where
   -- different keys decide

@@ -46,7 +46,7 @@ pub fn is_over(table: &[u8], k: usize, other: u16) -> bool
     )
 }
 
-// The same by the keys of both. Equal keys are rare, and only then the cells are read.
+// The same by the keys of both. Only where these are equal the ports and the cells are read.
 pub fn goes_first(table: &[u8], key: u64, k: usize, rival: u64, other: usize) -> bool
     requires { ⌜ (length (now table) ≡ tableSize) × (k < entryLimit) × (other < entryLimit) ⌝ }
     requires { ⌜ (key ≡ cellKey (entryAt (now table) k .cell)) × (rival ≡ cellKey (entryAt (now table) other .cell)) ⌝ }

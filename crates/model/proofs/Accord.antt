@@ -7,7 +7,7 @@ use Rattle.laws.specs.Lists.{keep, some?, none?, all?, count, least, pairwise, 
 use Rattle.laws.specs.Lists.{upTo, sameList}
 use Rattle.cell.specs.Flow.{sameFlow}
 use Rattle.cell.specs.Limits.{fits32, portsInRange}
-use Rattle.cell.specs.Order.{over}
+use Rattle.cell.specs.Order.{inTurn, over}
 use Rattle.cell.specs.Cell.{accepted, sameCell}
 use Rattle.matching.specs.Matching.{proposed, round, rounds, settled, matched, proposals}
 use Rattle.model.specs.State.{fresh, isListed, isCrossed, isBuffered, cells}
@@ -28,8 +28,8 @@ use Rattle.model.specs.Calls.{crossbarRuns, pifoRuns, bothRun, enterAt, 
 use Rattle.model.specs.Calls.{cell, call, tables}
 use Rattle.model.specs.Histories.{given, recordOf, runs, crowded, threeInputs, twoOfPair, behindScheduled, listOrder}
 use Rattle.model.specs.Histories.{notOverAll, scheduledMatched, fullCrosspoint, straightAlone, arrivals}
-use Rattle.model.specs.Histories.{tieOfInputs, tieOfSlots, tieOfUrgent, fallingRanks, fullInput, orderOfChecks}
-use Rattle.model.specs.Histories.{lastSlot}
+use Rattle.model.specs.Histories.{tieOfInputs, turnOfEach, turnOfTheLastInput, tieOfSlots, tieOfUrgent, fallingRanks}
+use Rattle.model.specs.Histories.{fullInput, orderOfChecks, lastSlot, turnOfTheLastSlot}
 
 pub histories-given :
     (given threeInputs ≡ true)
@@ -42,19 +42,23 @@ pub histories-given :
     × (given straightAlone ≡ true)
     × (given arrivals ≡ true)
     × (given tieOfInputs ≡ true)
+    × (given turnOfEach ≡ true)
+    × (given turnOfTheLastInput ≡ true)
     × (given tieOfSlots ≡ true)
     × (given tieOfUrgent ≡ true)
     × (given fallingRanks ≡ true)
     × (given fullInput ≡ true)
     × (given orderOfChecks ≡ true)
     × (given lastSlot ≡ true)
-unfolding flatten keep some? none? all? count least pairwise update first? numbersFrom upTo sameFlow fits32 portsInRange over accepted sameCell proposed
+    × (given turnOfTheLastSlot ≡ true)
+unfolding flatten keep some? none? all? count least pairwise update first? numbersFrom upTo sameFlow fits32 portsInRange inTurn over accepted sameCell proposed
     round rounds settled matched proposals fresh isListed isCrossed isBuffered cells noSuchPort noSuchFlow outOfTurn fallingRank full fault faultFrom
     firstFault numberFrom numberSections numbered waiting lists crosspoints sameInput sameOutput ahead beats among sameCrosspoint heads blocked
     crosspointEmpty ready scheduled isUrgent urgent takesPart candidates straight sent pulled atCrosspoint occupancy outputChoice phase placeSent placeAfter placedBy moved inListOf newEntry
     enterAfter enter arrive leaving departuresOf without run occupancies answerOf slot switchAfter cellsAt freshPifo queued join best rest runPifo slotPifo pifoAfter soundEntry
     together otherSlot otherCrosspoint soundSection soundSections sound sameDeparture sameList sameCells stand coursePasses courseOccupies crossbarAnswers pifoAnswers
     crossbarRuns pifoRuns bothRun enterAt sectionsFrom switchWith arrival cell call tables given recordOf runs crowded threeInputs twoOfPair behindScheduled
-    listOrder notOverAll scheduledMatched fullCrosspoint straightAlone arrivals tieOfInputs tieOfSlots tieOfUrgent fallingRanks fullInput orderOfChecks
-    lastSlot
-histories-given = (refl, refl, refl, refl, refl, refl, refl, refl, refl, refl, refl, refl, refl, refl, refl, refl)
+    listOrder notOverAll scheduledMatched fullCrosspoint straightAlone arrivals tieOfInputs turnOfEach turnOfTheLastInput tieOfSlots tieOfUrgent fallingRanks fullInput orderOfChecks
+    lastSlot turnOfTheLastSlot
+histories-given =
+    (refl, refl, refl, refl, refl, refl, refl, refl, refl, refl, refl, refl, refl, refl, refl, refl, refl, refl, refl)

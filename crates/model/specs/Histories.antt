@@ -6,10 +6,11 @@ use Prim.Native.Nat.{ℕ}
 use mathlib.Core.Bool.{Bool, _&&_}
 use mathlib.Core.List.{List, [], _∷_, map}
 use mathlib.Core.Option.{Option, none, some}
+use lib.ListN.{replicate}
 use Rattle.laws.specs.Lists.{upTo}
 use Rattle.cell.specs.declared.Arrival.{Arrival}
 use Rattle.cell.specs.declared.Cell.{Cell}
-use Rattle.model.specs.Calls.{Tables, tables, Call, call, sends, refuses, passes, occupies, crossbarRuns, bothRun}
+use Rattle.model.specs.Calls.{Tables, tables, Call, call, Expected, sends, refuses, passes, occupies, crossbarRuns, bothRun}
 use Rattle.model.specs.Calls.{switchWith, arrival, cell}
 use Rattle.model.specs.Sound.{sound}
 
@@ -253,7 +254,7 @@ arrivals =
     ∷ [])
     5
 
--- Equal ranks and slots: the smaller input first.
+-- Equal ranks and slots, N = 2, slot 1: input 1 goes first.
 unfoldable pub tieOfInputs : History
 tieOfInputs =
     let a = cell 0 0 0 4 1 1 in
@@ -261,12 +262,46 @@ tieOfInputs =
     fresh 2 1
     (runs (a ∷ b ∷ [])
     (tables ((a ∷ []) ∷ (b ∷ []) ∷ []) [] [])
-    (tables ([] ∷ [] ∷ []) (b ∷ []) (a ∷ []))
+    (tables ([] ∷ [] ∷ []) (a ∷ []) (b ∷ []))
     (tables ([] ∷ [] ∷ []) [] (a ∷ b ∷ []))
-    (some a ∷ none ∷ []) 0 0
-    ∷ call [] (sends (some b ∷ none ∷ []) 0 0)
+    (some b ∷ none ∷ []) 0 0
+    ∷ call [] (sends (some a ∷ none ∷ []) 0 0)
     ∷ [])
     3
+
+-- Three equal ranks in each of slots 0, 1 and 2, N = 3. Those of slot s leave from input s on, in slots 3 s and after:
+-- their slot has the turn, and not the slot in which they leave.
+unfoldable pub turnOfEach : History
+turnOfEach =
+    let at : ℕ → ℕ → Cell = λ slot input. cell input 0 0 4 input slot in
+    let three : ℕ → List Arrival = λ slot. map (λ input. recordOf (at slot input)) (upTo 3) in
+    let leaves : Cell → Expected = λ c. sends (some c ∷ none ∷ none ∷ []) 0 0 in
+    fresh 3 0
+    (call (three 0) (leaves (at 0 0))
+    ∷ call (three 1) (leaves (at 0 1))
+    ∷ call (three 2) (leaves (at 0 2))
+    ∷ call [] (leaves (at 1 1))
+    ∷ call [] (leaves (at 1 2))
+    ∷ call [] (leaves (at 1 0))
+    ∷ call [] (leaves (at 2 2))
+    ∷ call [] (leaves (at 2 0))
+    ∷ call [] (leaves (at 2 1))
+    ∷ [])
+    9
+
+-- N = 16, slot 15: input 15 goes first, and then the round starts again.
+unfoldable pub turnOfTheLastInput : History
+turnOfTheLastInput =
+    let a = cell 0 0 0 4 1 15 in
+    let b = cell 1 0 0 4 2 15 in
+    let c = cell 15 0 0 4 3 15 in
+    let leaves : Cell → Expected = λ c. sends (some c ∷ replicate 15 none) 0 0 in
+    fresh 16 15
+    (call (map recordOf (a ∷ b ∷ c ∷ [])) (leaves c)
+    ∷ call [] (leaves a)
+    ∷ call [] (leaves b)
+    ∷ [])
+    18
 
 -- Equal ranks: in slot 1 output 0 takes c, of slot 0 and input 2, before d, of slot 1 and input 0.
 unfoldable pub tieOfSlots : History
@@ -287,8 +322,8 @@ tieOfSlots =
     ∷ [])
     4
 
--- Slot 0 leaves p and q at their crosspoints. Slot 1: u and v, equal in rank and slot, are urgent; output 0 keeps u, of
--- the smaller input, and both made a proposal. In phase two v is alone.
+-- Slot 0 leaves p and q at their crosspoints. Slot 1: u and v, equal in rank and slot, are urgent; output 0 keeps v, as
+-- input 1 goes first in slot 1, and both made a proposal. In phase two u is alone.
 unfoldable pub tieOfUrgent : History
 tieOfUrgent =
     let p = cell 0 0 0 9 1 0 in
@@ -301,7 +336,7 @@ tieOfUrgent =
     (call (map recordOf (p ∷ q ∷ r ∷ s ∷ [])) (sends (some r ∷ none ∷ none ∷ none ∷ []) 0 0)
     ∷ runs (u ∷ v ∷ [])
     (tables ((u ∷ []) ∷ (v ∷ []) ∷ [] ∷ [] ∷ []) (p ∷ q ∷ []) (s ∷ []))
-    (tables ([] ∷ (v ∷ []) ∷ [] ∷ [] ∷ []) (p ∷ q ∷ []) (s ∷ u ∷ []))
+    (tables ((u ∷ []) ∷ [] ∷ [] ∷ [] ∷ []) (p ∷ q ∷ []) (s ∷ v ∷ []))
     (tables ([] ∷ [] ∷ [] ∷ [] ∷ []) (p ∷ q ∷ []) (s ∷ u ∷ v ∷ []))
     (some s ∷ none ∷ none ∷ none ∷ []) 2 1
     ∷ [])
@@ -367,5 +402,15 @@ lastSlot =
     (call (map recordOf (a ∷ [])) (sends (some a ∷ []) 0 0)
     ∷ call [] (refuses 3 0)
     ∷ call (arrival 1 0 8 1 2 ∷ []) (refuses 3 0)
+    ∷ [])
+    4294967295
+
+-- There too equal ranks take turns: 4,294,967,294 mod 3 is 2.
+unfoldable pub turnOfTheLastSlot : History
+turnOfTheLastSlot =
+    let at : ℕ → Cell = λ input. cell input 0 0 4 input 4294967294 in
+    fresh 3 4294967294
+    (call (map (λ input. recordOf (at input)) (upTo 3)) (sends (some (at 2) ∷ none ∷ none ∷ []) 0 0)
+    ∷ call [] (refuses 3 0)
     ∷ [])
     4294967295

@@ -7,11 +7,13 @@ type Rows = [[u32; 6]; 1600];
 
 const NEVER: u32 = 4294967295;
 
-pub(crate) fn crowd_and_load() {
+pub(crate) fn show_all() {
     let mut rows = [[NEVER; 6]; 1600];
     crowd_rows(&mut rows);
     show_made(b"64th cell: ", 2, 64, &rows);
     show_made(b"65th cell: ", 2, 133, &rows);
+    equal_rows(&mut rows);
+    show_made(b"40 slots of equal ranks at 16 ports: ", 16, 200, &rows);
     load_rows(&mut rows);
     show_made(b"200 slots at 16 ports: ", 16, 400, &rows);
 }
@@ -24,6 +26,25 @@ fn crowd_rows(rows: &mut Rows) {
         let call = (k / 2 + k / 130) as u32;
         let input = (k % 2) as u32;
         let row = [call, input, 0, 0, 9 - 9 * input, call];
+        rows[k] = row;
+        k += 1;
+    }
+}
+
+// Sixteen cells in each of forty slots, all of one rank, for four outputs.
+fn equal_rows(rows: &mut Rows) {
+    let mut seed = 1;
+    let mut k: usize = 0;
+    while k < 640 {
+        let drawn = draw(&mut seed);
+        let row = [
+            (k / 16) as u32,
+            (k % 16) as u32,
+            drawn % 4,
+            drawn / 4 % 8,
+            7,
+            k as u32,
+        ];
         rows[k] = row;
         k += 1;
     }

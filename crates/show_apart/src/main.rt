@@ -24,7 +24,7 @@ fn main() {
     records();
     ranks();
     matchings();
-    made::crowd_and_load();
+    made::show_all();
 }
 
 // `rank=05` gives 9, by the reader.
@@ -117,6 +117,16 @@ fn matchings() {
     show(b"two urgent cells of a pair: ", 4, 0, 10, &PAIR, true);
     show(b"scheduled over urgent: ", 3, 0, 7, &SCHEDULED, true);
     show(b"equal ranks: ", 3, 0, 6, &EQUAL, true);
+    show(b"three inputs in turn: ", 3, 0, 27, &TURNS, true);
+    show(b"input 15 in slot 15: ", 16, 15, 5, &LAST_INPUT, true);
+    show(
+        b"equal ranks in the last slots: ",
+        3,
+        4294967292,
+        4,
+        &LAST_SLOTS,
+        true,
+    );
 }
 
 // In slot 1 both cells are matched: rank 4, which is urgent, loses to rank 3, and goes straight in the second phase.
@@ -128,16 +138,16 @@ const SEVERAL: [[u32; 6]; 5] = [
     [1, 1, 0, 0, 3, 5],
 ];
 
-// Two flows of a pair: in slot 2 ranks 6 and 4 of input 2 for output 0 are urgent at once, rank 6 first in the list.
+// Two flows of a pair: in slot 2 ranks 6 and 3 of input 2 for output 0 are urgent at once, rank 6 first in the list.
 const PAIR: [[u32; 6]; 11] = [
     [0, 0, 0, 0, 7, 1],
     [0, 1, 0, 0, 3, 2],
     [0, 2, 0, 0, 8, 3],
     [0, 3, 0, 0, 7, 4],
     [1, 1, 0, 1, 2, 5],
-    [1, 2, 0, 1, 4, 6],
+    [1, 2, 0, 1, 3, 6],
     [1, 3, 0, 1, 1, 7],
-    [2, 0, 0, 1, 5, 8],
+    [2, 0, 0, 1, 4, 8],
     [2, 2, 0, 2, 6, 9],
     [2, 3, 0, 2, 5, 10],
     [3, 2, 1, 0, 9, 11],
@@ -154,11 +164,64 @@ const SCHEDULED: [[u32; 6]; 6] = [
     [1, 2, 0, 0, 3, 6],
 ];
 
-// The cell of the smaller slot, then that of the smaller input.
+// The cell of the smaller slot; in slot 1 input 1 goes before input 0.
 const EQUAL: [[u32; 6]; 5] = [
     [0, 0, 0, 0, 1, 1],
     [0, 2, 0, 0, 4, 2],
     [1, 0, 0, 0, 4, 3],
     [1, 1, 0, 0, 4, 4],
     [2, 0, 0, 1, 4, 5],
+];
+
+// Three cells of equal rank in each of slots 0 to 8. Those of a slot leave from input slot mod 3 on, also in later slots.
+const TURNS: [[u32; 6]; 27] = [
+    [0, 0, 0, 0, 4, 0],
+    [0, 1, 0, 0, 4, 1],
+    [0, 2, 0, 0, 4, 2],
+    [1, 0, 0, 0, 4, 3],
+    [1, 1, 0, 0, 4, 4],
+    [1, 2, 0, 0, 4, 5],
+    [2, 0, 0, 0, 4, 6],
+    [2, 1, 0, 0, 4, 7],
+    [2, 2, 0, 0, 4, 8],
+    [3, 0, 0, 0, 4, 9],
+    [3, 1, 0, 0, 4, 10],
+    [3, 2, 0, 0, 4, 11],
+    [4, 0, 0, 0, 4, 12],
+    [4, 1, 0, 0, 4, 13],
+    [4, 2, 0, 0, 4, 14],
+    [5, 0, 0, 0, 4, 15],
+    [5, 1, 0, 0, 4, 16],
+    [5, 2, 0, 0, 4, 17],
+    [6, 0, 0, 0, 4, 18],
+    [6, 1, 0, 0, 4, 19],
+    [6, 2, 0, 0, 4, 20],
+    [7, 0, 0, 0, 4, 21],
+    [7, 1, 0, 0, 4, 22],
+    [7, 2, 0, 0, 4, 23],
+    [8, 0, 0, 0, 4, 24],
+    [8, 1, 0, 0, 4, 25],
+    [8, 2, 0, 0, 4, 26],
+];
+
+// Of equal cells of slot 15 that of input 15 goes first, then those of inputs 0, 1 and 14.
+const LAST_INPUT: [[u32; 6]; 4] = [
+    [0, 0, 0, 0, 4, 1],
+    [0, 1, 0, 0, 4, 2],
+    [0, 14, 0, 0, 4, 3],
+    [0, 15, 0, 0, 4, 4],
+];
+
+// Three equal cells in each of the last three slots, whose numbers are 0, 1 and 2 mod 3; each slot has an output of its
+// own.
+const LAST_SLOTS: [[u32; 6]; 9] = [
+    [0, 0, 0, 0, 4, 1],
+    [0, 1, 0, 0, 4, 2],
+    [0, 2, 0, 0, 4, 3],
+    [1, 0, 1, 0, 4, 4],
+    [1, 1, 1, 0, 4, 5],
+    [1, 2, 1, 0, 4, 6],
+    [2, 0, 2, 0, 4, 7],
+    [2, 1, 2, 0, 4, 8],
+    [2, 2, 2, 0, 4, 9],
 ];

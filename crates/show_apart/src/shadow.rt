@@ -181,7 +181,7 @@ fn earlier(shadow: &Shadow, output: u32, first: usize, k: usize) -> usize
     k
 }
 
-// Whether the cell at a place is sent before the one at another: by rank, then slot, then input.
+// Whether the cell at a place is sent before the one at another: by rank, then slot, then the turn of its input.
 fn precedes(shadow: &Shadow, a: usize, b: usize) -> bool
     requires { ⌜ a < 2048 ⌝ }
     requires { ⌜ b < 2048 ⌝ }
@@ -196,7 +196,17 @@ fn precedes(shadow: &Shadow, a: usize, b: usize) -> bool
     if slot != later {
         return slot < later;
     }
-    field(shadow, a, INPUT) < field(shadow, b, INPUT)
+    let ports = shadow[PORTS];
+    turn_of(ports, slot, field(shadow, a, INPUT)) < turn_of(ports, slot, field(shadow, b, INPUT))
+}
+
+// How many inputs come before an input in a slot: input slot mod N is first, then the next, round to the start.
+fn turn_of(ports: u32, slot: u32, input: u32) -> u64 {
+    if ports == 0 {
+        return 0;
+    }
+    let round = ports as u64;
+    (input as u64 + round - slot as u64 % round) % round
 }
 
 // Moves the cell at a place, if it is one, to what the output sends.

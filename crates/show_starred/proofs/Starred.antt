@@ -8,7 +8,7 @@ use Rattle.laws.specs.Lists.{keep, some?, none?, all?, count, least, pairwise, 
 use Rattle.laws.specs.Lists.{upTo, sameList}
 use Rattle.cell.specs.Flow.{sameFlow}
 use Rattle.cell.specs.Limits.{fits32, portsInRange}
-use Rattle.cell.specs.Order.{over}
+use Rattle.cell.specs.Order.{inTurn, over}
 use Rattle.cell.specs.Cell.{accepted, sameCell}
 use Rattle.matching.specs.Matching.{proposed, round, rounds, settled, matched, proposals}
 use Rattle.model.specs.State.{fresh, isListed, isCrossed, isBuffered, cells}
@@ -36,7 +36,7 @@ use Rattle.model.specs.Calls.{arrival, cell, call}
 use Rattle.show_starred.specs.Shows.{startAnswers, given, only, atFive, starred}
 
 pub starred-shows : all? given starred ≡ true
-unfolding bind flatten keep some? none? all? count least pairwise update first? numbersFrom upTo sameFlow fits32 portsInRange over accepted sameCell
+unfolding bind flatten keep some? none? all? count least pairwise update first? numbersFrom upTo sameFlow fits32 portsInRange inTurn over accepted sameCell
     proposed round rounds settled matched proposals fresh isListed isCrossed isBuffered cells noSuchPort noSuchFlow outOfTurn fallingRank full fault
     faultFrom firstFault numberFrom numberSections numbered waiting lists crosspoints sameInput sameOutput ahead beats among sameCrosspoint heads blocked
     crosspointEmpty ready scheduled isUrgent urgent takesPart candidates straight sent pulled atCrosspoint occupancy outputChoice phase placeSent placeAfter placedBy moved inListOf newEntry

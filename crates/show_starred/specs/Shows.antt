@@ -68,10 +68,10 @@ starred =
     (occupies (only 16) (only 15) (sends (atFive (cell 0 5 0 1 0 0)) 0 0))
     ∷ [])
     1
-    -- a tie: input 0 leaves in slot 1, input 1 in slot 2
+    -- a tie: input 1 leaves in slot 1, input 0 in slot 2
     ∷ answers 2 1
-    (call (arrival 0 0 0 4 1 ∷ arrival 1 0 0 4 2 ∷ []) (sends (some (cell 0 0 0 4 1 1) ∷ none ∷ []) 0 0)
-    ∷ call [] (sends (some (cell 1 0 0 4 2 1) ∷ none ∷ []) 0 0)
+    (call (arrival 0 0 0 4 1 ∷ arrival 1 0 0 4 2 ∷ []) (sends (some (cell 1 0 0 4 2 1) ∷ none ∷ []) 0 0)
+    ∷ call [] (sends (some (cell 0 0 0 4 1 1) ∷ none ∷ []) 0 0)
     ∷ [])
     3
     -- N = 16 starts; 0 and 17 give 1

@@ -1,17 +1,16 @@
 -- The best crosspoint cell of an output by its row of keys.
---     least-one, least-join    the least of a row, part by part
 --     leading-key              the least key is that of the cell whose number is held
 --     leading-best             and that cell is the best
-use Prim.Native.Nat.{ℕ, _+_, _<_, _≤_, _^_, min}
+use Prim.Native.Nat.{ℕ, _+_, _%_, _<_, _≤_, _^_, min}
 use native.Mathlib.Nat.{min-eq-left, min-eq-right}
 use native.Mathlib.Omega.{arith}
 use mathlib.Core.Bool.{true}
-use mathlib.Core.Path.{_≡_, refl, sym, _∙_, ap, subst}
-use mathlib.Core.Logic.{_⊎_, inl, inr, _≢_}
+use mathlib.Core.Path.{_≡_, refl, sym, _∙_, ap, ap₂, subst}
+use mathlib.Core.Logic.{_⊎_, inl, inr}
 use mathlib.Core.List.{List, [], List·Memᴰ}
 use borrow.Author.Tests.{lt-ltb}
 use lib.ListN.{length, getD, set, length-set}
-use Rattle.cell.specs.Order.{over, key}
+use Rattle.cell.specs.Order.{firstInTurn, inTurn, over, key}
 use Rattle.cell.specs.Limits.{fits32}
 use Rattle.laws.proofs.Compared.{Compared, below, equal, above, compare}
 use Rattle.model.specs.Phase.{Waiting}
@@ -27,96 +26,11 @@ use Rattle.slot_view.specs.CodeScan.{Readable, Holds, Bests}
 use Rattle.slot_view.specs.CodeViewed.{noKey, keyAt, Keyed}
 use Rattle.slot_view.proofs.Keys.{keyAt-cell, keyAt-none}
 use Rattle.slot_view.proofs.Window.{inTable-below, agrees-holds}
-use Rattle.slot_choice.specs.CodeKeys.{leastOfFour, leastOf, FirstWith, Leading, LeadingTo}
+use Rattle.slot_choice.specs.CodeKeys.{Leading, LeadingTo}
 use Rattle.slot_choice.specs.CodeWalk.{BestKnown}
 use Rattle.slot_choice.proofs.Columns.{set-both}
+use Rattle.slot_choice.proofs.Leaders.{LeastIn, least-all}
 use Rattle.slot_choice.proofs.Best.{Crossed, BestUpTo, held-input, port, best-of}
-
-------------------------------------------------------------------------
--- the least of a row
-
--- between two places
-record LeastIn (row : List ℕ) (from to r : ℕ) : Type 0 where
-  holder : ℕ
-  low : from ≤ holder
-  high : holder < to
-  held : getD row holder 0 ≡ r
-  under : (i : ℕ) → from ≤ i → i < to → r ≤ getD row i 0
-
-module _ (row : List ℕ) where
-  least-one : (i to : ℕ) → to ≡ i + 1 → LeastIn row i to (getD row i 0)
-  least-one i to e = record {
-    holder = i;
-    low = omega arith;
-    high = omega arith;
-    held = refl;
-    under = λ j a b. let q : i ≡ j = omega arith in subst (λ n. getD row i 0 ≤ getD row n 0) q (omega arith);
-  }
-
-  least-join : {from mid to a b : ℕ} → from ≤ mid → mid ≤ to → LeastIn row from mid a → LeastIn row mid to b
-      → LeastIn row from to (min a b)
-  least-join {from} {mid} {to} {a} {b} x y p q = go (compare a b)
-    where
-      under : (i : ℕ) → from ≤ i → i < to → Compared i mid → min a b ≤ getD row i 0
-      under i l h (below c) = omega (arith, p .under i l c)
-      under i l h (equal c) = omega (arith, q .under i (omega arith) h)
-      under i l h (above c) = omega (arith, q .under i (omega arith) h)
-
-      left : a ≤ b → LeastIn row from to (min a b)
-      left s = record {
-        holder = p .holder;
-        low = p .low;
-        high = omega (arith, p .high);
-        held = p .held ∙ sym (min-eq-left s);
-        under = λ i l h. under i l h (compare i mid);
-      }
-
-      go : Compared a b → LeastIn row from to (min a b)
-      go (below s) = left (omega arith)
-      go (equal s) = left (omega arith)
-      go (above s) = record {
-        holder = q .holder;
-        low = omega (arith, q .low);
-        high = q .high;
-        held = q .held ∙ sym (min-eq-right (omega arith));
-        under = λ i l h. under i l h (compare i mid);
-      }
-
-  least-four : (from : ℕ) → LeastIn row from (from + 4) (leastOfFour row from)
-  least-four from =
-      least-join (omega arith) (omega arith)
-      (least-join (omega arith) (omega arith) (least-one from (from + 1) (omega arith))
-      (least-one (from + 1) (from + 2) (omega arith)))
-      (least-join (omega arith) (omega arith) (least-one (from + 2) (from + 3) (omega arith))
-      (least-one (from + 3) (from + 4) (omega arith)))
-
-  least-all : LeastIn row 0 16 (leastOf row)
-  least-all =
-      least-join (omega arith) (omega arith)
-      (least-join (omega arith) (omega arith) (least-four 0) (least-four 4))
-      (least-join (omega arith) (omega arith) (least-four 8) (least-four 12))
-
-------------------------------------------------------------------------
--- the first place with a number
-
-module _ {row : List ℕ} {v : ℕ} where
-  pub first-none : FirstWith row v 16 0
-  first-none = record { inside = omega arith; first = λ i a b e. absurd (omega arith) }
-
-  pub first-to : {m n r : ℕ} → m ≡ n → FirstWith row v m r → FirstWith row v n r
-  first-to {r = r} e f = subst (λ n. FirstWith row v n r) e f
-
-  module _ {n : ℕ} where
-    pub first-here : n < 16 → getD row n 0 ≡ v → FirstWith row v n n
-    first-here l h = record { inside = l; first = λ i a b e. (a, h) }
-
-    pub first-later : {r : ℕ} → getD row n 0 ≢ v → FirstWith row v (n + 1) r → FirstWith row v n r
-    first-later {r} h f = record { inside = f .inside; first = λ i a b e. go i a b e (compare i n) }
-      where
-        go : (i : ℕ) → n ≤ i → i < 16 → getD row i 0 ≡ v → Compared i n → (r ≤ i) × (getD row r 0 ≡ v)
-        go i a b e (below c) = absurd (omega arith)
-        go i a b e (equal c) = absurd (h (ap (λ j. getD row j 0) (sym c) ∙ e))
-        go i a b e (above c) = f .first i (omega arith) b e
 
 ------------------------------------------------------------------------
 -- the key of a number
@@ -138,7 +52,7 @@ module _ (table : List ℕ) (r : Readable table) (bytes : bytes? table ≡ true)
   -- the best of an output
 
   module _ (cross keys : List (List ℕ)) (keyed : Keyed table cross keys) {output number least : ℕ} (o : output < 16)
-      (leading : Leading cross keys output number least) where
+      (leading : Leading (portsIn table) cross keys output number least) where
     abbrev row : List ℕ
     row = getD keys output []
 
@@ -154,8 +68,7 @@ module _ (table : List ℕ) (r : Readable table) (bytes : bytes? table ≡ true)
 
     least-held : least ≡ keyAt table held
     least-held =
-        sym (leading .holds .first (smallest .holder) (smallest .low) (smallest .high) (smallest .held) .1)
-        ∙ row-at (leading .holder) (leading .holds .inside)
+        sym (leading .holds .held) ∙ row-at (leading .holder) (leading .holds .inside)
 
     number-cell : held < nowhere → number ≡ held
     number-cell h = leading .number-is ∙ min-eq-left (omega arith)
@@ -233,25 +146,28 @@ module _ (table : List ℕ) (r : Readable table) (bytes : bytes? table ≡ true)
                   (λ e. omega (arith, mine)))
                   ∙ lt-ltb (key (entryAt table held .cell)) (key (entryAt table k .cell)) (omega (arith, mine)))
               go (above l) = absurd (omega arith)
-              go (equal e) = tie (compare (leading .holder) (c .holder))
+              go (equal e) = tie (leading .holds .first (c .holder) small (own-key ∙ sym e))
                 where
-                  first : leading .holder ≤ c .holder
-                  first = leading .holds .first (c .holder) (omega arith) small (own-key ∙ sym e) .0
+                  start : ℕ → ℕ
+                  start slot = firstInTurn (portsIn table) slot
 
-                  tie : Compared (leading .holder) (c .holder)
+                  -- the key of the cells has their slot
+                  slot-in : least % 2 ^ 32 ≡ entryAt table held .cell .slot
+                  slot-in = omega (arith, mine, slot-of held here)
+
+                  tie : (c .holder ≡ leading .holder)
+                      ⊎ (inTurn (start (least % 2 ^ 32)) (leading .holder) (c .holder) ≡ true)
                       → (k ≡ held) ⊎ (over (portsIn table) (entryAt table held .cell) (entryAt table k .cell) ≡ true)
-                  tie (below l) =
+                  tie (inl q) = inl (sym (c .held) ∙ ap (λ i. crosspointAt cross i output) q)
+                  tie (inr first) =
                       inr (sym
-                      (over-tie (portsIn table) (entryAt table held .cell) (entryAt table k .cell) (slot-of held here) (slot-of k t)
-                      (sym mine ∙ e))
-                      ∙ lt-ltb (entryAt table held .cell .input) (entryAt table k .cell .input)
-                      (omega (
-                        arith,
-                        held-input table cross output h o held (leading .holder) (leading .holds .inside) s refl,
-                        held-input table cross output h o k (c .holder) small (c .some) (c .held),
-                      )))
-                  tie (equal q) = inl (sym (c .held) ∙ ap (λ i. crosspointAt cross i output) (sym q))
-                  tie (above l) = absurd (omega (arith, first))
+                      (over-tie (portsIn table) (entryAt table held .cell) (entryAt table k .cell) (slot-of held here)
+                      (slot-of k t) (sym mine ∙ e))
+                      ∙ ap (λ n. inTurn (start n) (entryAt table held .cell .input) (entryAt table k .cell .input)) (sym slot-in)
+                      ∙ ap₂ (inTurn (start (least % 2 ^ 32)))
+                      (held-input table cross output h o held (leading .holder) (leading .holds .inside) s refl)
+                      (held-input table cross output h o k (c .holder) small (c .some) (c .held))
+                      ∙ first)
 
       leading-best : number ≡ bestOf (portsIn table) cells output
       leading-best = best-of table cross output h o number (r .ports) (go (compare held nowhere))
@@ -262,8 +178,11 @@ module _ (table : List ℕ) (r : Readable table) (bytes : bytes? table ≡ true)
           go (above s) = none (omega arith)
 
   -- of every output
-  module _ {cross keys : List (List ℕ)} {best least : List ℕ} (keyed : Keyed table cross keys)
-      (leading : LeadingTo cross keys 16 best least) where
+  module _ {ports : ℕ} {cross keys : List (List ℕ)} {best least : List ℕ} (is : ports ≡ portsIn table)
+      (keyed : Keyed table cross keys) (found : LeadingTo ports cross keys 16 best least) where
+    leading : LeadingTo (portsIn table) cross keys 16 best least
+    leading = subst (λ n. LeadingTo n cross keys 16 best least) is found
+
     pub leading-bests : Bests table cross best
     leading-bests = record {
       size = leading .best-size;
@@ -281,23 +200,23 @@ module _ (table : List ℕ) (r : Readable table) (bytes : bytes? table ≡ true)
 ------------------------------------------------------------------------
 -- output by output
 
-module _ (cross keys : List (List ℕ)) where
-  pub leading-none : {numbers least : List ℕ} → length numbers ≡ 16 → length least ≡ 16
-      → LeadingTo cross keys 0 numbers least
-  leading-none b l = record { best-size = b; least-size = l; each = λ o h. absurd (omega arith) }
+module _ (ports : ℕ) (cross keys : List (List ℕ)) where
+  pub leading-none : {numbers least : List ℕ} → length numbers ≡ 16 → LeadingTo ports cross keys 0 numbers least
+  leading-none b = record { best-size = b; each = λ o h. absurd (omega arith) }
 
-  pub leading-to : {m n : ℕ} {numbers least : List ℕ} → m ≡ n → LeadingTo cross keys m numbers least
-      → LeadingTo cross keys n numbers least
-  leading-to {numbers = numbers} {least = least} e w = subst (λ n. LeadingTo cross keys n numbers least) e w
+  pub leading-to : {m n : ℕ} {numbers least : List ℕ} → m ≡ n → LeadingTo ports cross keys m numbers least
+      → LeadingTo ports cross keys n numbers least
+  leading-to {numbers = numbers} {least = least} e w = subst (λ n. LeadingTo ports cross keys n numbers least) e w
 
-  pub leading-more : (n number key : ℕ) {numbers least : List ℕ} → n < 16 → Leading cross keys n number key
-      → LeadingTo cross keys n numbers least → LeadingTo cross keys (n + 1) (set numbers n number) (set least n key)
-  leading-more n number key {numbers} {least} l f w = record {
-    best-size = length-set numbers n number ∙ w .best-size;
-    least-size = length-set least n key ∙ w .least-size;
-    each = set-both (Leading cross keys) numbers least n number key (omega (arith, w .best-size))
-        (omega (arith, w .least-size)) (w .each) f;
-  }
+  pub leading-more : (n number : ℕ) {numbers least : List ℕ} → n < 16 → Leading ports cross keys n number (getD least n 0)
+      → LeadingTo ports cross keys n numbers least → LeadingTo ports cross keys (n + 1) (set numbers n number) least
+  leading-more n number {numbers} {least} l f w =
+      let inside : n < length numbers = omega (arith, w .best-size) in
+      record {
+        best-size = length-set numbers n number ∙ w .best-size;
+        each = set-both (λ o x y. Leading ports cross keys o x (getD least o 0)) numbers numbers n number number inside inside
+            (w .each) f;
+      }
 
 ------------------------------------------------------------------------
 -- the smaller of a number and none, as a branch finds it

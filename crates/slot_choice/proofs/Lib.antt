@@ -3,6 +3,7 @@ pub mod Candidates
 pub mod Choice
 pub mod Columns
 pub mod Keys
+pub mod Leaders
 pub mod Scans
 pub mod Walk
 pub mod Walked

@@ -9,6 +9,7 @@ ghost use mathlib.Core.Path.{_≡_};
 ghost use mathlib.Core.List.{[]};
 ghost use Prim.Native.Nat.{ℕ, _+_, _≤_, _<_, min};
 ghost use lib.ListN.{length, getD, replicate};
+ghost use Rattle.sets.specs.Sets.{positions};
 ghost use Rattle.cell.specs.Order.{over, key as cellKey};
 ghost use Rattle.cell.specs.Limits.{portLimit};
 ghost use Rattle.layout.specs.Table.{tableSize, entryLimit};
@@ -18,7 +19,7 @@ ghost use Rattle.layout_table.specs.CodeEntries.{nowhere};
 ghost use Rattle.slot_view.specs.CodeView.{placesIn, waitingIn, waitingAt, Square, Agrees};
 ghost use Rattle.slot_view.specs.CodeScan.{Readable};
 ghost use Rattle.slot_view.specs.CodeViewed.{headSet, ListsOf, Keyed, Chosen};
-ghost use Rattle.slot_choice.specs.CodeKeys.{leastOfFour, leastOf, FirstWith, LeadingTo};
+ghost use Rattle.slot_choice.specs.CodeKeys.{leastOfFour, leastOf, holdersOf, LeastTo, FirstInRound, LeadingTo};
 ghost use Rattle.slot_choice.specs.CodeWalk.{BestKnown, HeadOf, Means, Scanned, ScannedAll, entered, Entered};
 
 // What a walk along the heads of an input makes of one: whether its crosspoint is empty; and if not, whether it is
@@ -52,7 +53,13 @@ pub fn choose(
 {
     let mut best = [NOWHERE; PORTS];
     let mut least = [0; PORTS];
-    best_of_each(cross, keys, &mut best, &mut least);
+    best_of_each(
+        layout_table::header::ports_of(table) as u32,
+        cross,
+        keys,
+        &mut best,
+        &mut least,
+    );
     let mut scheduled = [NOWHERE; PORTS];
     let mut candidates = [0; PORTS];
     let urgent = scan_each(
@@ -75,23 +82,42 @@ pub fn choose(
     }
 }
 
-// The best crosspoint cell of each output, and its key. Of equal keys the one of the smallest input goes first.
+// The best crosspoint cell of each output of a switch with so many ports, and its key. Nothing branches on a tie, as
+// that would be guessed badly; the divisions stand in a loop of their own, in which they overlap.
 fn best_of_each(
+    ports: u32,
     cross: &[[u16; PORTS]; PORTS],
     keys: &[[u64; PORTS]; PORTS],
     best: &mut [u16; PORTS],
     least: &mut [u64; PORTS],
 )
+    requires { ⌜ (0 < ports) × (ports ≤ portLimit) ⌝ }
     requires { ⌜ (length (now best) ≡ portLimit) × (length (now least) ≡ portLimit) ⌝ }
-    ensures { λ _. ⌜ LeadingTo (now (cross .entry)) (now (keys .entry)) portLimit (now (best .exit))
+    ensures { λ _. ⌜ LeadingTo ports (now (cross .entry)) (now (keys .entry)) portLimit (now (best .exit))
         (now (least .exit)) ⌝ }
+{
+    let mut holders = [0; PORTS];
+    least_of_each(keys, least, &mut holders);
+    let mut output = 0;
+    while output < PORTS {
+        let slot = (least[output] % 4294967296) as u32;
+        let input = first_in_round(holders[output], cell::first_in_turn(ports, slot) as usize);
+        let number = cross[input][output];
+        best[output] = if number < NOWHERE { number } else { NOWHERE };
+        output += 1;
+    }
+}
+
+// The least key of each output, and the inputs whose cells have it.
+fn least_of_each(keys: &[[u64; PORTS]; PORTS], least: &mut [u64; PORTS], holders: &mut [u64; PORTS])
+    requires { ⌜ (length (now least) ≡ portLimit) × (length (now holders) ≡ portLimit) ⌝ }
+    ensures { λ _. ⌜ LeastTo (now (keys .entry)) portLimit (now (least .exit)) (now (holders .exit)) ⌝ }
 {
     let mut output = 0;
     while output < PORTS {
         let key = least_key(keys, output);
-        let number = cross[holder(keys, output, key)][output];
         least[output] = key;
-        best[output] = if number < NOWHERE { number } else { NOWHERE };
+        holders[output] = holders_of(keys, output, key);
         output += 1;
     }
 }
@@ -125,22 +151,28 @@ fn lesser(a: u64, b: u64) -> u64
     if a < b { a } else { b }
 }
 
-// The first input with a key, if some input has it. Nothing branches on the keys, as that would be guessed badly.
-fn holder(keys: &[[u64; PORTS]; PORTS], output: usize, key: u64) -> usize
+// The inputs with a key at an output, as a set.
+fn holders_of(keys: &[[u64; PORTS]; PORTS], output: usize, key: u64) -> u64
     requires { ⌜ output < portLimit ⌝ }
-    ensures { λ r. ⌜ FirstWith (getD (now (keys .entry)) output []) key 0 r ⌝ }
+    ensures { λ r. ⌜ r ≡ holdersOf (getD (now (keys .entry)) output []) key ⌝ }
 {
-    let mut found = 0;
+    let mut holders = 0;
     let mut input = PORTS;
     while 0 < input {
         input -= 1;
-        found = if keys[output][input] == key {
-            input
-        } else {
-            found
-        };
+        holders = sets::push(holders, keys[output][input] == key);
     }
-    found
+    holders
+}
+
+// The member of a set that comes first in the round that begins at `start`: the first from there on, or else the first
+// of all.
+fn first_in_round(set: u64, start: usize) -> usize
+    requires { ⌜ (0 < set) × (start < positions) ⌝ }
+    ensures { λ r. ⌜ FirstInRound set start r ⌝ }
+{
+    let late = sets::from(set, start);
+    sets::first(if late != 0 { late } else { set })
 }
 
 // Rules 1 to 3 for each input, and whether some cell is urgent.

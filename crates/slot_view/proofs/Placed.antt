@@ -22,7 +22,7 @@ use Rattle.layout.specs.Entry.{entryAt, clockIn, countIn}
 use Rattle.layout.specs.Code.{recordAt, placeByteAt, entriesBetween, sectionAt, portsIn}
 use Rattle.layout.proofs.Table.{decode-length, encode-counts, encode-decode}
 use Rattle.layout.proofs.Number.{fits32-below}
-use Rattle.layout.proofs.Table.{decode-sound, decode-state, entryBytes-place, sound-ports, sound-clock, sound-sections}
+use Rattle.layout.proofs.Table.{decode-sound, decode-state, entryBytes-place, sound-ports, sound-some, sound-clock, sound-sections}
 use Rattle.layout.proofs.Records.{entryAt-place, stateOf-sections}
 use Rattle.slot_view.specs.CodeView.{waitingAt, window, inTable, InTable}
 use Rattle.slot_view.specs.CodeScan.{Readable}
@@ -182,6 +182,7 @@ module _ (table : List ℕ) (s : Switch) (e : decode table ≡ some s) where
   decode-readable =
       record {
         size = decode-length table s e;
+        some = omega (arith, decode-ports, sound-some s (decode-sound table s e));
         ports = decode-ports-few;
         counts = decode-count-few;
         outputs = λ k t. rw decode-ports (decode-entry k t .output);

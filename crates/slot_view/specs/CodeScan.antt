@@ -16,6 +16,7 @@ use Rattle.slot_view.specs.CodeView.{InTable, crosspointAt}
 -- the bytes of a table, as far as a phase reads them
 pub record Readable (table : List ℕ) : Type 0 where
   pub size : length table ≡ tableSize
+  pub some : 0 < portsIn table
   pub ports : portsIn table ≤ portLimit
   pub counts : (input : ℕ) → input < portLimit → countIn table input ≤ sectionRoom
   pub outputs : (k : ℕ) → InTable table k → entryAt table k .cell .output < portsIn table

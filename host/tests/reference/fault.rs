@@ -20,6 +20,16 @@ pub enum Fault {
     Checks7And8OnTheListAlone,
     /// 2.3: the PIFO switch compares slots before ranks.
     PifoBySlotBeforeRank,
+    /// 2.3: in the crossbar alone the smaller input wins a tie.
+    CrossbarTieToSmallerInput,
+    /// 2.3: in the PIFO switch alone the smaller input wins a tie.
+    PifoTieToSmallerInput,
+    /// 2.3: the crossbar's round goes down from its first input.
+    RoundBackwards,
+    /// 2.3: the crossbar's round begins at input `slot`, not `slot mod N`; from slot N on there is none, and 0 goes first.
+    RoundFromSlotWithoutMod,
+    /// 2.3: the crossbar's round is that of the clock, not that of the slot in which the cells were accepted.
+    RoundOfTheClock,
     /// 10.1: an input proposes the cell of the smallest cushion first.
     SmallestCushionProposedFirst,
     /// 3.8: crosspoints are counted as the phase starts, without the cells that it sends.

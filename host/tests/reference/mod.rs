@@ -19,8 +19,10 @@ pub struct Cell {
 }
 
 impl Cell {
-    fn priority(&self) -> (u32, u32, u32) {
-        (self.rank, self.slot, self.input)
+    /// Output priority in a switch of so many ports, the smallest first (scope 2.3): rank, slot, and the input's turn in the
+    /// round of that slot, which begins with input `slot mod ports`.
+    fn priority(&self, ports: u32) -> (u32, u32, u32) {
+        (self.rank, self.slot, (self.input + ports - self.slot % ports) % ports)
     }
 
     fn flow_of(&self) -> (u32, u32, u32) {
@@ -114,6 +116,19 @@ impl Crossbar {
         self.fault == Some(fault)
     }
 
+    /// A cell's output priority in this switch.
+    fn priority(&self, cell: &Cell) -> (u32, u32, u32) {
+        let (rank, slot, turn) = cell.priority(self.ports);
+        let turn = match self.fault {
+            Some(Fault::CrossbarTieToSmallerInput) => cell.input,
+            Some(Fault::RoundBackwards) => (self.ports - turn) % self.ports,
+            Some(Fault::RoundFromSlotWithoutMod) => cell.input + if cell.input < slot { self.ports } else { 0 },
+            Some(Fault::RoundOfTheClock) => Cell { slot: self.clock, ..*cell }.priority(self.ports).2,
+            _ => turn,
+        };
+        (rank, slot, turn)
+    }
+
     pub fn cells(&self) -> Vec<Cell> {
         self.sections.iter().flatten().map(|e| e.cell).collect()
     }
@@ -204,7 +219,7 @@ impl Crossbar {
         for at in self.heads(input) {
             let opposite = crossed[cell(at).output as usize].iter().find(|c| c.input == cell(at).input);
             match opposite {
-                Some(c) if cell(at).priority() < c.priority() => blocked.push(at),
+                Some(c) if self.priority(&cell(at)) < self.priority(c) => blocked.push(at),
                 Some(_) => (),
                 None => scheduled = scheduled.or(Some(at)),
             }
@@ -224,7 +239,7 @@ impl Crossbar {
     /// Whether a cell is ahead of all in the crosspoints of its output.
     fn presses(&self, cell: &Cell, crossed: &[Vec<Cell>]) -> bool {
         self.has(Fault::UrgentWithoutTheOutputsCrosspoints)
-            || crossed[cell.output as usize].iter().all(|c| cell.priority() < c.priority())
+            || crossed[cell.output as usize].iter().all(|c| self.priority(cell) < self.priority(c))
     }
 
     /// The positions of each input's candidates, in the order in which it proposes them; none where no cell is urgent.
@@ -249,7 +264,7 @@ impl Crossbar {
     /// How many cells of higher output priority are in the buffer of a cell's output.
     fn cushion(&self, cell: &Cell) -> usize {
         let here = |e: &&Entry| e.place == Place::Buffer && e.cell.output == cell.output;
-        self.sections.iter().flatten().filter(here).filter(|e| e.cell.priority() < cell.priority()).count()
+        self.sections.iter().flatten().filter(here).filter(|e| self.priority(&e.cell) < self.priority(cell)).count()
     }
 
     /// Deferred acceptance, one round after the other: every free input proposes its next candidate.
@@ -269,8 +284,9 @@ impl Crossbar {
                 let cell = self.sections[i][at].cell;
                 proposals += 1;
                 let output = cell.output as usize;
+                let ahead = |held: &Cell| self.priority(held) < self.priority(&cell);
                 match matched[output] {
-                    Some((j, other)) if self.sections[j][other].cell.priority() < cell.priority() => next[i] += 1,
+                    Some((j, other)) if ahead(&self.sections[j][other].cell) => next[i] += 1,
                     Some((j, _)) => {
                         next[j] += 1;
                         matched[output] = Some((i, at));
@@ -312,7 +328,7 @@ impl Crossbar {
             if came && !self.has(Fault::StraightOutputAlsoReadsACrosspoint) {
                 continue;
             }
-            let best = self.crossed(output as u32).into_iter().min_by_key(|c| c.priority());
+            let best = self.crossed(output as u32).into_iter().min_by_key(|c| self.priority(c));
             if let Some(best) = best {
                 let entry = self.sections[best.input as usize].iter_mut().find(|e| e.cell == best).unwrap();
                 entry.place = Place::Buffer;
@@ -322,7 +338,7 @@ impl Crossbar {
 
     fn depart(&mut self, output: u32) -> Option<Cell> {
         let here = |e: &&Entry| e.place == Place::Buffer && e.cell.output == output;
-        let best = self.sections.iter().flatten().filter(here).map(|e| e.cell).min_by_key(|c| c.priority())?;
+        let best = self.sections.iter().flatten().filter(here).map(|e| e.cell).min_by_key(|c| self.priority(c))?;
         self.sections[best.input as usize].retain(|e| e.cell != best);
         Some(best)
     }
@@ -366,6 +382,16 @@ impl Pifo {
         Pifo { fault: Some(fault), ..self }
     }
 
+    /// A cell's output priority in this switch.
+    fn priority(&self, cell: &Cell) -> (u32, u32, u32) {
+        let (rank, slot, turn) = cell.priority(self.ports);
+        match self.fault {
+            Some(Fault::PifoBySlotBeforeRank) => (slot, rank, turn),
+            Some(Fault::PifoTieToSmallerInput) => (rank, slot, cell.input),
+            _ => (rank, slot, turn),
+        }
+    }
+
     pub fn slot(&mut self, records: &[Record]) -> Result<Vec<Option<Cell>>, (u32, u32)> {
         if self.clock == CLOCK_END {
             return Err((3, 0));
@@ -378,13 +404,12 @@ impl Pifo {
             self.queues[r[1] as usize].push(accepted(r, self.clock));
         }
         self.clock += 1;
-        let by_slot = self.fault == Some(Fault::PifoBySlotBeforeRank);
-        Ok(self.queues.iter_mut().map(|q| {
-            let best = (0..q.len()).min_by_key(|&at| {
-                let (rank, slot, input) = q[at].priority();
-                if by_slot { (slot, rank, input) } else { (rank, slot, input) }
-            })?;
-            Some(q.remove(best))
-        }).collect())
+        Ok((0..self.queues.len()).map(|output| self.depart(output)).collect())
+    }
+
+    fn depart(&mut self, output: usize) -> Option<Cell> {
+        let queue = &self.queues[output];
+        let best = (0..queue.len()).min_by_key(|&at| self.priority(&queue[at]))?;
+        Some(self.queues[output].remove(best))
     }
 }

@@ -1,4 +1,5 @@
 //! Random arrivals for the tests of slots: mostly such that the slot runs, some spoiled.
+#![allow(dead_code)] // each test uses a part of it
 
 use super::random::Random;
 use super::reference::{Cell, Crossbar, Record};
@@ -23,6 +24,11 @@ impl Traffic {
             falling: r.one_in(2),
             faults: r.pick(&[3, 30, 1000]),
         }
+    }
+
+    /// The same, but all cells have the rank 0.
+    pub fn of_one_rank(r: &mut Random, ports: u32) -> Traffic {
+        Traffic { ranks: 1, falling: false, ..Traffic::new(r, ports) }
     }
 
     pub fn records(&mut self, r: &mut Random, s: &Crossbar) -> Vec<Record> {
