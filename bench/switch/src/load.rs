@@ -6,7 +6,8 @@
 //! and urgent.
 //!
 //! Or they starve: a cell goes to any output, and its rank is its flow number, so that cells of the last flows wait for
-//! hundreds of slots while others come.
+//! hundreds of slots while others come. Or they tie: a cell goes to any output, and every rank is 0, so that the turn
+//! decides among cells of one slot.
 
 use crate::table::{clock, count, Table, CELLS, PORTS};
 
@@ -16,7 +17,9 @@ const DELAY: u32 = 16;
 pub struct Load {
     most: usize,
     burst: u32,
-    starving: bool,
+    any_output: bool,
+    /// A cell's rank by the clock and its flow number.
+    rank: fn(u32, u32) -> u32,
     random: Random,
 }
 
@@ -25,11 +28,16 @@ impl Load {
     pub fn new(cells: usize) -> Load {
         let burst = (cells as u32 / 5).max(2);
         let most = (cells + cells / 16 + 1).min(CELLS);
-        Load { most, burst, starving: false, random: Random(88172645463325252) }
+        let rank = |clock, flow| clock + DELAY * flow;
+        Load { most, burst, any_output: false, rank, random: Random(88172645463325252) }
     }
 
     pub fn starving(cells: usize) -> Load {
-        Load { starving: true, ..Load::new(cells) }
+        Load { any_output: true, rank: |_, flow| flow, ..Load::new(cells) }
+    }
+
+    pub fn ties(cells: usize) -> Load {
+        Load { any_output: true, rank: |_, _| 0, ..Load::new(cells) }
     }
 
     /// The arrivals of the next slot: a cell of every input that has room, one in ten (or each) to any output.
@@ -38,10 +46,10 @@ impl Load {
         let mut records = Vec::new();
         for input in (0..PORTS).filter(|&i| count(table, i) < self.most) {
             let hot = clock / self.burst % PORTS as u32;
-            let any = self.starving || self.random.below(10) == 0;
+            let any = self.any_output || self.random.below(10) == 0;
             let output = if any { self.random.below(PORTS as u32) } else { hot };
             let flow = self.random.below(8);
-            let rank = if self.starving { flow } else { clock + DELAY * flow };
+            let rank = (self.rank)(clock, flow);
             let tag = self.random.below(u32::MAX);
             for field in [input as u32, output, flow, rank, tag] {
                 records.extend(field.to_le_bytes());

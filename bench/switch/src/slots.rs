@@ -225,10 +225,12 @@ fn print_growth(name: &str, measured: &[Measured], times: impl Fn(&Measured) -> 
 fn main() {
     let mut measured = LOADS.map(|cells| Measured::new(Load::new(cells)));
     let mut starving = Measured::new(Load::starving(LOADS[LOADS.len() - 1]));
+    let mut ties = Measured::new(Load::ties(LOADS[LOADS.len() / 2]));
     // Round by round, so that a slow spell of the machine spoils no line.
     for round in 0..ROUNDS {
         measured.iter_mut().for_each(|m| m.measure(round));
         starving.measure(round);
+        ties.measure(round);
     }
     println!("# A slot through the C interface at N = {PORTS}, every byte compared first; nanoseconds, best of {ROUNDS}.");
     println!("# A load is the cells waiting an input; \"each\" is a cell more, from the first line to the last.");
@@ -242,4 +244,7 @@ fn main() {
     println!("# Both where cells starve: they wait so long that the low bytes of their slots meet.");
     starving.print_slot("starving slot");
     starving.print_check("starving check");
+    println!("# Both where all ranks are equal: slots and turns alone decide.");
+    ties.print_slot("ties slot");
+    ties.print_check("ties check");
 }
