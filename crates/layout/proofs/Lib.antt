@@ -7,5 +7,6 @@ pub mod Number
 pub mod Put
 pub mod Read
 pub mod Records
+pub mod Runs
 pub mod Table
 pub mod Tally

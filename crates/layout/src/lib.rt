@@ -1,5 +1,6 @@
 // The bytes of the table, of the arrivals, of the answer and of the tally: definitions in specs/ and laws in proofs/.
 // Here are their sizes, for all code that reads or writes them, each made of the others.
+pub mod run;
 pub mod word;
 
 use cell::Switch;

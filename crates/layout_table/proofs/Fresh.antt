@@ -1,19 +1,17 @@
 -- The bytes of a fresh switch: its header, then zeros; and how they come to stand in a buffer.
-use Prim.Native.Nat.{ℕ, zero, suc, _+_, _*_, _≤_, _<_}
+use Prim.Native.Nat.{ℕ, zero, suc, _+_, _*_}
 use native.Mathlib.Omega.{arith}
-use native.Mathlib.Nat.{suc-add}
-use native.Mathlib.Numerals.{add-one}
 use mathlib.Core.List.{List, [], _∷_, _++_, append-assoc}
 use mathlib.Core.Path.{_≡_, refl, sym, ap, ap₂, _∙_}
-use lib.ListN.{length, take, drop, set, replicate, length-replicate, length-append, length-drop, replicate-append-replicate}
-use lib.Seq.{append-snoc, drop-append-le, take-at, drop-at, set-at, drop-cons, drop-drop}
-use Rattle.layout_table.specs.CodeCleared.{cleared}
+use lib.ListN.{length, drop, replicate, length-replicate, length-append, replicate-append-replicate}
 use Rattle.cell.specs.Limits.{portLimit}
 use Rattle.model.specs.State.{fresh, Entry}
+use Rattle.layout.specs.Code.{put}
 use Rattle.layout.specs.Number.{bytesOf}
 use Rattle.layout.specs.Table.{encode, countsBytes, sectionsBytes, sectionBytes, entriesBytes, tableSize, sectionSize}
 use Rattle.layout.specs.Host.{filled}
 use Rattle.layout.proofs.Number.{length-bytesOf}
+use Rattle.layout.proofs.Runs.{put-zeros}
 
 zeros : ℕ → List ℕ
 zeros n = replicate n 0
@@ -21,34 +19,6 @@ zeros n = replicate n 0
 zeros-add : (m n : ℕ) → zeros m ++ zeros n ≡ zeros (m + n)
 unfolding zeros
 zeros-add m n = replicate-append-replicate m n 0
-
-length-zeros : (n : ℕ) → length (zeros n) ≡ n
-unfolding zeros
-length-zeros n = length-replicate n 0
-
-drop-zeros : (k n : ℕ) → drop k (zeros (k + n)) ≡ zeros n
-unfolding zeros
-drop-zeros zero n = ap (λ m. replicate m 0) (let e : 0 + n ≡ n = omega arith in e)
-drop-zeros (suc k) n = ap (λ m. drop (suc k) (replicate m 0)) (suc-add k n) ∙ drop-zeros k n
-
-pub cleared-none : (old : List ℕ) → cleared 0 old ≡ old
-unfolding cleared
-cleared-none old = refl
-
--- one more byte is cleared
-pub clear-step : (old : List ℕ) (i : ℕ) → i < length old → set (cleared i old) i 0 ≡ cleared (i + 1) old
-unfolding cleared
-clear-step old i h =
-    ap (λ l. set (replicate i 0 ++ l) i 0) (drop-cons old i 0 h)
-    ∙ set-at (replicate i 0) _ (drop (suc i) old) 0 i (length-replicate i 0)
-    ∙ sym (append-snoc (replicate i 0) 0 (drop (suc i) old))
-    ∙ ap₂ _++_ (replicate-append-replicate i 1 0) (ap (λ n. drop n old) (sym (add-one i)))
-
-pub length-cleared : (old : List ℕ) (i : ℕ) → i ≤ length old → length (cleared i old) ≡ length old
-unfolding cleared
-length-cleared old i h =
-    let a : length (replicate {A = ℕ} i 0) ≡ i = length-replicate i 0 in
-    omega (arith, length-append (replicate i 0) (drop i old), length-drop i old)
 
 counts-zeros : (k n : ℕ) → countsBytes k (replicate {A = List Entry} n []) ≡ zeros k
 unfolding countsBytes zeros bytesOf
@@ -89,32 +59,18 @@ pub encode-fresh : (n first : ℕ)
 unfolding encode fresh zeros
 encode-fresh n first = ap (λ l. bytesOf 4 1 ++ (bytesOf 4 n ++ (bytesOf 4 first ++ l))) (body-zeros n)
 
--- a number of 32 bits put where zeros begin
-put-next : (p b : List ℕ) (m : ℕ) (rest : List ℕ) (at : ℕ) → length p ≡ at
-    → take at (p ++ (zeros (4 + m) ++ rest)) ++ (b ++ drop (at + 4) (p ++ (zeros (4 + m) ++ rest)))
-    ≡ p ++ (b ++ (zeros m ++ rest))
-put-next p b m rest at h =
-    ap₂ (λ x y. x ++ (b ++ y)) (take-at p (zeros (4 + m) ++ rest) at h)
-    (sym (drop-drop 4 at (p ++ (zeros (4 + m) ++ rest)))
-    ∙ ap (drop 4) (drop-at p (zeros (4 + m) ++ rest) at h)
-    ∙ drop-append-le 4 (zeros (4 + m)) rest long
-    ∙ ap (λ l. l ++ rest) (drop-zeros 4 m))
-  where
-    long : 4 ≤ length (zeros (4 + m))
-    long = omega (arith, length-zeros (4 + m))
-
 -- the header of a fresh switch put into a cleared buffer
 pub header-put : (n first : ℕ) (old a b c d : List ℕ)
-    → a ≡ cleared tableSize old
-    → b ≡ take 0 a ++ (bytesOf 4 1 ++ drop (0 + 4) a)
-    → c ≡ take 4 b ++ (bytesOf 4 n ++ drop (4 + 4) b)
-    → d ≡ take 8 c ++ (bytesOf 4 first ++ drop (8 + 4) c)
+    → a ≡ put 0 tableSize (replicate tableSize 0) old
+    → b ≡ put 0 4 (bytesOf 4 1) a
+    → c ≡ put 4 4 (bytesOf 4 n) b
+    → d ≡ put 8 4 (bytesOf 4 first) c
     → d ≡ filled (encode (fresh n first)) old
-unfolding filled zeros cleared
+unfolding filled zeros
 header-put n first old a b c d p q r s =
     s
-    ∙ ap (λ l. take 8 l ++ (bytesOf 4 first ++ drop (8 + 4) l)) third
-    ∙ put-next (bytesOf 4 1 ++ bytesOf 4 n) (bytesOf 4 first) 16404 rest 8 eight
+    ∙ ap (put 8 4 (bytesOf 4 first)) third
+    ∙ put-zeros (bytesOf 4 1 ++ bytesOf 4 n) (bytesOf 4 first) 4 16404 rest 8 eight
     ∙ append-assoc (bytesOf 4 1) (bytesOf 4 n) (bytesOf 4 first ++ (zeros 16404 ++ rest))
     ∙ regroup
     ∙ ap₂ (λ x k. x ++ drop k old) (sym (encode-fresh n first)) (sym size)
@@ -135,11 +91,11 @@ header-put n first old a b c d p q r s =
     eight = length-append (bytesOf 4 1) (bytesOf 4 n) ∙ ap₂ _+_ (length-bytesOf 4 1) (length-bytesOf 4 n)
 
     second : b ≡ bytesOf 4 1 ++ (zeros 16412 ++ rest)
-    second = q ∙ ap (λ l. take 0 l ++ (bytesOf 4 1 ++ drop (0 + 4) l)) p ∙ put-next [] (bytesOf 4 1) 16412 rest 0 refl
+    second = q ∙ ap (put 0 4 (bytesOf 4 1)) p ∙ put-zeros [] (bytesOf 4 1) 4 16412 rest 0 refl
 
     third : c ≡ (bytesOf 4 1 ++ bytesOf 4 n) ++ (zeros 16408 ++ rest)
     third =
         r
-        ∙ ap (λ l. take 4 l ++ (bytesOf 4 n ++ drop (4 + 4) l)) second
-        ∙ put-next (bytesOf 4 1) (bytesOf 4 n) 16408 rest 4 (length-bytesOf 4 1)
+        ∙ ap (put 4 4 (bytesOf 4 n)) second
+        ∙ put-zeros (bytesOf 4 1) (bytesOf 4 n) 4 16408 rest 4 (length-bytesOf 4 1)
         ∙ sym (append-assoc (bytesOf 4 1) (bytesOf 4 n) (zeros 16408 ++ rest))

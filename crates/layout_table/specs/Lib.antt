@@ -1,2 +1,1 @@
-pub mod CodeCleared
 pub mod CodeEntries

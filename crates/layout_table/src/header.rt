@@ -3,6 +3,7 @@
 use cell::Switch;
 use layout::CELLS;
 use layout::TABLE_BYTES;
+use layout::run;
 use layout::word;
 ghost use mathlib.Core.Path.{_≡_};
 ghost use Prim.Native.Nat.{_+_, _*_, _≤_, _<_};
@@ -14,7 +15,6 @@ ghost use Rattle.layout.specs.Table.{tableSize, encode};
 ghost use Rattle.layout.specs.Entry.{clockIn, countIn};
 ghost use Rattle.layout.specs.Host.{filled};
 ghost use Rattle.layout.specs.Code.{put, portsIn};
-ghost use Rattle.layout_table.specs.CodeCleared.{cleared};
 
 // The number of the layout.
 pub const LAYOUT: u32 = 1;
@@ -82,20 +82,8 @@ pub fn write_fresh(switch: Switch, table: &mut [u8])
     ensures { λ _. ⌜ now (table .exit)
         ≡ filled (encode (fresh (switch .ports) (switch .clock))) (now (table .entry)) ⌝ }
 {
-    clear(table);
+    run::clear(table, 0, TABLE_BYTES);
     word::write_u32(table, LAYOUT_AT, LAYOUT);
     word::write_u32(table, PORTS_AT, switch.ports);
     word::write_u32(table, CLOCK_AT, switch.clock);
-}
-
-// Zeros where the table goes.
-fn clear(table: &mut [u8])
-    requires { ⌜ tableSize ≤ length (now table) ⌝ }
-    ensures { λ _. ⌜ now (table .exit) ≡ cleared tableSize (now (table .entry)) ⌝ }
-{
-    let mut i = 0;
-    while i < TABLE_BYTES {
-        table[i] = 0;
-        i += 1;
-    }
 }
