@@ -2,4 +2,5 @@ pub mod Accord
 pub mod Flow
 pub mod Keys
 pub mod Order
+pub mod RefusalNumbers
 pub mod Turn

@@ -37,7 +37,7 @@ pub struct Tally {
 pub enum Refusal {
     // bad size: N is not 1 to 16
     BadSize,
-    // broken table: the lent table is not sound, or its length is wrong
+    // broken table: the lent table or cue store is not sound, or its length is wrong
     BrokenTable,
     // clock end: the clock is at 4,294,967,295
     ClockEnd,
@@ -55,10 +55,16 @@ pub enum Refusal {
     BadLine,
     // short tray: the buffer for an answer is too short
     ShortBuffer,
+    // bad name: the name of a cue is not 1 to 8 lower-case letters
+    BadName,
+    // cues full: four cues are held, and none of this name
+    CuesFull,
+    // no such cue: no cue of this name is held
+    NoSuchCue,
 }
 
 impl Refusal {
-    // The number that scope 6 gives the refusal.
+    // The number of the refusal, as scope 6 gives it.
     pub fn number(self) -> u32
         ensures { λ r. ⌜ r ≡ number self ⌝ }
     {
@@ -73,6 +79,9 @@ impl Refusal {
             Refusal::Full => 8,
             Refusal::BadLine => 9,
             Refusal::ShortBuffer => 10,
+            Refusal::BadName => 11,
+            Refusal::CuesFull => 12,
+            Refusal::NoSuchCue => 13,
         }
     }
 }

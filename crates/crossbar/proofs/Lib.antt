@@ -1,3 +1,4 @@
 pub mod Calls
+pub mod CueCalls
 pub mod Demand3
 pub mod Slots

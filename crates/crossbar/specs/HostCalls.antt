@@ -1,6 +1,6 @@
--- Demand 3 on the bytes: for every list of slot calls of the host, from the table that start gives, the crossbar answers as
--- the PIFO switch does. The table's bytes are handed from call to call; each call lends any arrivals, any buffer that an
--- answer fits into, and any tally.
+-- Demand 3 on the bytes: for every list of calls of the host, from the table that start gives and the cue store that
+-- cue_start gives, the crossbar answers as the PIFO switch does. The bytes of table and store are handed from call to
+-- call; a slot call lends any arrivals, any buffer that an answer fits into, and any tally; a cue call any name.
 use Prim.Native.Nat.{ℕ, _-_, _≤_}
 use mathlib.Core.Bool.{Bool, true, _&&_}
 use mathlib.Core.List.{List, [], _∷_, _++_}
@@ -12,31 +12,70 @@ use Rattle.laws.specs.Lists.{all?}
 use Rattle.cell.specs.Limits.{portLimit, portsInRange, fits32}
 use Rattle.model.specs.Checks.{Outcome, refusal, noDepartures}
 use Rattle.model.specs.Crossbar.{Course}
-use Rattle.model.specs.Emulation.{Within, SameWaiting}
-use Rattle.model.specs.Pifo.{Pifo, freshPifo, Sent, sentDepartures, slotPifo, pifoAfter}
+use Rattle.model.specs.Cues.{setCue, dropCue, returnTo}
+use Rattle.model.specs.Emulation.{Within, SameWaiting, Agree}
+use Rattle.model.specs.Pifo.{Pifo, freshPifo, Sent, sentDepartures, slotPifo}
+use Rattle.model.specs.Rehearsal.{Rehearsal, begun, next, shadowAfter}
+use Rattle.model.specs.Rehearsal as Model
 use Rattle.model.specs.State.{Switch}
 use Rattle.layout.specs.Answer.{departuresBytes, answerSize, departuresIn, answerRead, departuresSize}
 use Rattle.layout.specs.Arrivals.{recordsOf}
+use Rattle.layout.specs.Cues.{storeSize, decodeStore, storeCall, storeBuffer, setCall, dropCall, returnCall, storeAfter}
+use Rattle.layout.specs.Cues.{tableReturned}
 use Rattle.layout.specs.Host.{resultOf, startCall, bufferAfter, slotCall, tableAfter, answerAfter}
 use Rattle.layout.specs.Table.{decode, tableSize}
 use Rattle.layout.specs.TallyBytes.{tallySize}
 
 -- What a slot call is lent besides the table.
-pub record Call : Type 0 where
+pub record Slot : Type 0 where
   pub arrivals : List ℕ
   pub answer : List ℕ
   pub tally : List ℕ
 
+-- a slot call, or a cue set, dropped or returned to, with its name
+pub data Call : Type 0 where
+  takes : Slot → Call
+  sets : List ℕ → Call
+  drops : List ℕ → Call
+  returns : List ℕ → Call
+
 -- any bytes as arrivals, also no whole number of records; a buffer of sufficient length with any contents; any 32 bytes
-unfoldable pub lendable : Call → Bool
+unfoldable pub lendable : Slot → Bool
 lendable c =
     all? (λ b. ltb b 256) (c .arrivals) && (leb answerSize (length (c .answer)) && eqb (length (c .tally)) tallySize)
 
-abbrev pub outcome : List ℕ → Call → Outcome Course
+-- any name
+unfoldable pub callable : Call → Bool
+callable (takes c) = lendable c
+callable (sets name) = true
+callable (drops name) = true
+callable (returns name) = true
+
+abbrev pub outcome : List ℕ → Slot → Outcome Course
 outcome table c = slotCall table (c .arrivals) (c .answer) (c .tally)
 
-abbrev pub shadow : Pifo → Call → Outcome Sent
+abbrev pub shadow : Pifo → Slot → Outcome Sent
 shadow q c = slotPifo q (recordsOf (c .arrivals))
+
+-- the PIFO switch is given the same call
+unfoldable pub given : Call → Model.Call
+given (takes c) = Model.takes (recordsOf (c .arrivals))
+given (sets name) = Model.sets name
+given (drops name) = Model.drops name
+given (returns name) = Model.returns name
+
+-- the table and the cue store after a call
+unfoldable pub tableNext : List ℕ → List ℕ → Call → List ℕ
+tableNext table store (takes c) = tableAfter table (outcome table c)
+tableNext table store (sets name) = table
+tableNext table store (drops name) = table
+tableNext table store (returns name) = tableReturned table (returnCall table store name)
+
+unfoldable pub storeNext : List ℕ → List ℕ → Call → List ℕ
+storeNext table store (takes c) = store
+storeNext table store (sets name) = storeAfter store (setCall table store name)
+storeNext table store (drops name) = storeAfter store (dropCall store name)
+storeNext table store (returns name) = store
 
 -- a slot call of two switches of so many ports, lent this buffer
 pub record AnswersAlike (ports : ℕ) (answer : List ℕ) (o : Outcome Course) (o′ : Outcome Sent) : Type 0 where
@@ -51,19 +90,36 @@ pub record AnswersAlike (ports : ℕ) (answer : List ℕ) (o : Outcome Course) (
   -- refused, the buffer is kept
   pub kept : (resultOf o ≡ 0 → ⊥) → answerAfter answer o ≡ answer
 
--- after the list the table is that of a state in which the same cells wait as in the PIFO switch
-abbrev pub SameState : List ℕ → Pifo → Type 0
-SameState table q = (s : Switch) × (decode table ≡ some s) × SameWaiting s q
+-- What a call answers: a slot as above, and within the limits; a cue call is refused exactly when the other refuses, with
+-- the same number.
+abbrev pub CallAlike : ℕ → List ℕ → List ℕ → Rehearsal Pifo → Call → Type 0
+CallAlike ports table store y (takes c) =
+    AnswersAlike ports (c .answer) (outcome table c) (shadow (y .switch) c) × Within (outcome table c)
+CallAlike ports table store y (sets name) =
+    refusal (setCall table store name) ≡ refusal (setCue name (y .switch) (y .cues))
+CallAlike ports table store y (drops name) = refusal (dropCall store name) ≡ refusal (dropCue name (y .cues))
+CallAlike ports table store y (returns name) = refusal (returnCall table store name) ≡ refusal (returnTo name (y .cues))
+
+-- after the list the table is that of a state in which the same cells wait as in the PIFO switch, and the store that of
+-- cues which agree with its own
+abbrev pub SameState : List ℕ → List ℕ → Rehearsal Pifo → Type 0
+SameState table store y =
+    (x : Rehearsal Switch)
+    × (decode table ≡ some (x .switch))
+    × (decodeStore store ≡ some (x .cues))
+    × SameWaiting (x .switch) (y .switch)
+    × Agree SameWaiting (x .cues) (y .cues)
 
 -- call by call both answer alike, all along the limits are kept
-abbrev pub Alike : ℕ → List ℕ → Pifo → List Call → Type 0
-Alike ports table q [] = SameState table q
-Alike ports table q (c ∷ calls) =
-    AnswersAlike ports (c .answer) (outcome table c) (shadow q c)
-    × Within (outcome table c)
-    × Alike ports (tableAfter table (outcome table c)) (pifoAfter q (shadow q c)) calls
+abbrev pub Alike : ℕ → List ℕ → List ℕ → Rehearsal Pifo → List Call → Type 0
+Alike ports table store y [] = SameState table store y
+Alike ports table store y (call ∷ calls) =
+    CallAlike ports table store y call
+    × Alike ports (tableNext table store call) (storeNext table store call) (next shadowAfter y (given call)) calls
 
 abbrev pub Demand3 : Type 0
-Demand3 = (ports first : ℕ) (buffer : List ℕ) (calls : List Call)
-    → portsInRange ports ≡ true → fits32 first ≡ true → tableSize ≤ length buffer → all? lendable calls ≡ true
-    → Alike ports (take tableSize (bufferAfter buffer (startCall ports first buffer))) (freshPifo ports first) calls
+Demand3 = (ports first : ℕ) (buffer storeRoom : List ℕ) (calls : List Call)
+    → portsInRange ports ≡ true → fits32 first ≡ true → tableSize ≤ length buffer → storeSize ≤ length storeRoom
+    → all? callable calls ≡ true
+    → Alike ports (take tableSize (bufferAfter buffer (startCall ports first buffer)))
+    (take storeSize (storeBuffer storeRoom (storeCall storeRoom))) (begun (freshPifo ports first)) calls

@@ -1,4 +1,7 @@
-// What the chassis host calls: numbers and byte slices, no call with a condition on what it is lent.
+// What the chassis host calls: numbers and byte slices, no call with a condition on what it is lent. The calls of a
+// switch are here, those of its cues in `cues`.
+pub mod cues;
+
 use cell::Fault;
 use cell::Refusal;
 use cell::Switch;

@@ -8,6 +8,8 @@
 --     keep-mem, mem-keep          the members of a kept list
 --     first-mem, first-of         the first element
 --     getD-mem, getD-any          the element at a place
+--     all?-set, -at, -places      all pass, by their places
+--     sameList-                   two lists of numbers that are the same
 use Prim.Native.Nat.{ℕ, zero, suc, _<_}
 use native.Mathlib.Omega.{arith}
 use mathlib.Core.Bool.{Bool, true, false, cond, not, _&&_, _||_, and-assoc, or-assoc, and-comm, false≢true}
@@ -16,11 +18,12 @@ use mathlib.Core.Logic.{_⊎_, inl, inr}
 use mathlib.Core.List.{List, [], _∷_, _++_, map, List·Memᴰ, List·Memᴰ·head, List·Memᴰ·tail, List·Memᴰ·not-nil}
 use mathlib.Core.List.{List·Memᴰ·cases-cons, flatten, append-assoc}
 use mathlib.Core.Option.{some}
-use borrow.Author.Tests.{not-true, not-false}
-use lib.ListN.{length, getD}
-use Rattle.laws.specs.Lists.{keep, some?, none?, all?, first?}
+use borrow.Author.Tests.{not-true, not-false, eqb-true, eq-eqb}
+use lib.Dec.{eqb}
+use lib.ListN.{length, getD, set}
+use Rattle.laws.specs.Lists.{keep, some?, none?, all?, sameList, first?}
 use Rattle.laws.proofs.Tests.{clash, by-fail, same, and-i, and-l, and-r, or-l, or-r, or-cases}
-use Rattle.laws.proofs.Tests.{not-i, not-or}
+use Rattle.laws.proofs.Tests.{not-i, not-or, eqb-turned}
 
 module _ {A : Type 0} where
   -- a member that passes
@@ -364,6 +367,50 @@ pub getD-any : {A : Type 0} (l : List A) (i : ℕ) (d e : A) → i < length l �
 getD-any [] i d e h = absurd (omega arith)
 getD-any (x ∷ l) zero d e h = refl
 getD-any (x ∷ l) (suc i) d e h = getD-any l i d e (omega arith)
+
+module _ {A : Type 0} (p : A → Bool) where
+  pub all?-set : (l : List A) (k : ℕ) (x : A) → all? p l ≡ true → p x ≡ true → all? p (set l k x) ≡ true
+  unfolding all?
+  all?-set [] k x h e = h
+  all?-set (y ∷ l) zero x h e = and-i (p x) (all? p l) e (and-r (p y) (all? p l) h)
+  all?-set (y ∷ l) (suc k) x h e =
+      and-i (p y) (all? p (set l k x)) (and-l (p y) (all? p l) h) (all?-set l k x (and-r (p y) (all? p l) h) e)
+
+  pub all?-at : (l : List A) (k : ℕ) (d : A) → all? p l ≡ true → p d ≡ true → p (getD l k d) ≡ true
+  unfolding all?
+  all?-at [] k d h e = e
+  all?-at (y ∷ l) zero d h e = and-l (p y) (all? p l) h
+  all?-at (y ∷ l) (suc k) d h e = all?-at l k d (and-r (p y) (all? p l) h) e
+
+  pub all?-places : (d : A) (l : List A) → ((k : ℕ) → k < length l → p (getD l k d) ≡ true) → all? p l ≡ true
+  unfolding all?
+  all?-places d [] h = refl
+  all?-places d (x ∷ l) h =
+      and-i (p x) (all? p l) (h 0 (omega arith)) (all?-places d l (λ k m. h (suc k) (omega arith)))
+
+------------------------------------------------------------------------
+-- lists of numbers
+
+pub sameList-refl : (l : List ℕ) → sameList eqb l l ≡ true
+unfolding sameList
+sameList-refl [] = refl
+sameList-refl (x ∷ l) = and-i (eqb x x) (sameList eqb l l) (eq-eqb x x refl) (sameList-refl l)
+
+pub sameList-exact : (l m : List ℕ) → sameList eqb l m ≡ true → l ≡ m
+unfolding sameList
+sameList-exact [] [] h = refl
+sameList-exact [] (y ∷ m) h = absurd (false≢true h)
+sameList-exact (x ∷ l) [] h = absurd (false≢true h)
+sameList-exact (x ∷ l) (y ∷ m) h =
+    ap₂ _∷_ (eqb-true x y (and-l (eqb x y) (sameList eqb l m) h))
+    (sameList-exact l m (and-r (eqb x y) (sameList eqb l m) h))
+
+pub sameList-turned : (l m : List ℕ) → sameList eqb l m ≡ sameList eqb m l
+unfolding sameList
+sameList-turned [] [] = refl
+sameList-turned [] (y ∷ m) = refl
+sameList-turned (x ∷ l) [] = refl
+sameList-turned (x ∷ l) (y ∷ m) = ap₂ _&&_ (eqb-turned x y) (sameList-turned l m)
 
 ------------------------------------------------------------------------
 -- lists one after the other

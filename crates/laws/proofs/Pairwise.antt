@@ -5,7 +5,8 @@
 --     pairwise-mono, pairwise-keep, pairwise-map
 --     pairwise-both                                  a relation that is asked only of those that pass
 --     pairwise-le-one                                no two pass: at most one passes
-use Prim.Native.Nat.{_≤_}
+--     pairwise-set                                   another one at a place
+use Prim.Native.Nat.{ℕ, zero, suc, _≤_, _<_}
 use native.Mathlib.Omega.{arith}
 use mathlib.Core.Bool.{Bool, true, false, cond, not, _&&_}
 use mathlib.Core.Path.{_≡_, refl, sym, _∙_, ap, ap₂}
@@ -13,10 +14,11 @@ use mathlib.Core.Logic.{_⊎_, inl, inr}
 use mathlib.Core.List.{List, [], _∷_, _++_, map, List·Memᴰ, List·Memᴰ·head, List·Memᴰ·tail, List·Memᴰ·cases-cons}
 use mathlib.Core.List.{List·Memᴰ·not-nil, Memᴰ·append-left, Memᴰ·append-right, List·Memᴰ·append-cases}
 use borrow.Author.Tests.{not-true}
+use lib.ListN.{length, getD, set}
 use Rattle.laws.specs.Lists.{keep, none?, all?, count, pairwise}
 use Rattle.laws.proofs.Tests.{and-i, and-l, and-r, and-false-r}
 use Rattle.laws.proofs.Lists.{all?-e, all?-i, all?-map, all?-append, none?-i, keep-pass, keep-fail, keep-nil}
-use Rattle.laws.proofs.Lists.{mem-keep-in}
+use Rattle.laws.proofs.Lists.{mem-keep-in, getD-mem, all?-set}
 use Rattle.laws.proofs.Count.{count-nil, count-pass, count-fail, count-zero}
 
 module _ {A : Type 0} where
@@ -171,3 +173,19 @@ module _ {A B : Type 0} (r : B → B → Bool) (f : A → B) where
   unfolding pairwise
   pairwise-map [] = refl
   pairwise-map (x ∷ l) = rw (all?-map (r (f x)) f l, pairwise-map l)
+
+-- what is put in stands in r to all others if what was there did
+pub pairwise-set : {A : Type 0} (r : A → A → Bool) (l : List A) (k : ℕ) (d x : A) → k < length l → pairwise r l ≡ true
+    → ((y : A) → List·Memᴰ y l → r (getD l k d) y ≡ true → r x y ≡ true)
+    → ((y : A) → List·Memᴰ y l → r y (getD l k d) ≡ true → r y x ≡ true)
+    → pairwise r (set l k x) ≡ true
+unfolding pairwise
+pairwise-set r [] k d x b h f g = h
+pairwise-set r (y ∷ l) zero d x b h f g =
+    pairwise-cons r x l (λ z m. f z (List·Memᴰ·tail m) (pairwise-head r h m)) (pairwise-tail r y l h)
+pairwise-set r (y ∷ l) (suc k) d x b h f g =
+    and-i (all? (r y) (set l k x)) (pairwise r (set l k x))
+    (all?-set (r y) l k x (and-l (all? (r y) l) (pairwise r l) h)
+    (g y (List·Memᴰ·head refl) (pairwise-head r h (getD-mem l k d (omega arith)))))
+    (pairwise-set r l k d x (omega arith) (pairwise-tail r y l h)
+    (λ z m. f z (List·Memᴰ·tail m)) (λ z m. g z (List·Memᴰ·tail m)))

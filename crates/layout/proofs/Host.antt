@@ -6,15 +6,13 @@ use mathlib.Core.List.{List}
 use mathlib.Core.Option.{Option, none, some}
 use native.Mathlib.Omega.{arith}
 use borrow.Author.Tests.{lt-ltb, le-ltb, ne-eqb}
-use lib.Dec.{lit≤}
 use lib.ListN.{length, take, drop, length-append, length-drop}
 use lib.Seq.{take-append-seam}
 use Rattle.cell.specs.declared.Arrival.{Arrival}
 use Rattle.cell.specs.declared.Refusal.{Refusal}
-use Rattle.cell.specs.declared.Refusal.the-variants.{BadSize, BrokenTable, ClockEnd, NoSuchPort, NoSuchFlow}
-use Rattle.cell.specs.declared.Refusal.the-variants.{InputOrder, RankOrder, Full, BadLine, ShortBuffer}
+use Rattle.cell.specs.declared.Refusal.the-variants.{BadSize, BrokenTable, ShortBuffer}
 use Rattle.cell.specs.Limits.{portsInRange}
-use Rattle.cell.specs.Refusal.{number}
+use Rattle.cell.proofs.RefusalNumbers.{number-range}
 use Rattle.model.specs.State.{Switch, fresh}
 use Rattle.model.specs.Checks.{Outcome, done, refused}
 use Rattle.model.specs.Crossbar.{Course, start, slot}
@@ -97,21 +95,9 @@ module _ (table arrivals answer tally : List ℕ) where
     slotCall-slot h = rw (t, a, c, le-ltb (length answer) answerSize h, slotOf)
 
 -- 0 is the result of no refusal
-number-positive : (r : Refusal) → 1 ≤ number r
-number-positive BadSize = lit≤ tt
-number-positive BrokenTable = lit≤ tt
-number-positive ClockEnd = lit≤ tt
-number-positive NoSuchPort = lit≤ tt
-number-positive NoSuchFlow = lit≤ tt
-number-positive InputOrder = lit≤ tt
-number-positive RankOrder = lit≤ tt
-number-positive Full = lit≤ tt
-number-positive BadLine = lit≤ tt
-number-positive ShortBuffer = lit≤ tt
-
 pub result-refused : (r : Refusal) (place : ℕ) → resultOf {A = Course} (refused r place) ≡ 0 → ⊥
 unfolding resultOf
-result-refused r place h = omega (arith, number-positive r)
+result-refused r place h = omega (arith, number-range r .0)
 
 -- a refused slot keeps the table and the answer, and a tally of another length is kept by every slot
 pub tableAfter-refused : (table : List ℕ) (r : Refusal) (place : ℕ) → tableAfter table (refused r place) ≡ table

@@ -1,9 +1,12 @@
 pub mod Answer
 pub mod Arrivals
+pub mod CueRows
+pub mod Cues
 pub mod Halves
 pub mod Host
 pub mod Limits
 pub mod Number
+pub mod Pieces
 pub mod Put
 pub mod Read
 pub mod Records

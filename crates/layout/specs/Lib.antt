@@ -1,6 +1,7 @@
 pub mod Answer
 pub mod Arrivals
 pub mod Code
+pub mod Cues
 pub mod Entry
 pub mod Host
 pub mod Number

@@ -1,5 +1,5 @@
-// The bytes of the table, of the arrivals, of the answer and of the tally: definitions in specs/ and laws in proofs/.
-// Here are their sizes, for all code that reads or writes them, each made of the others.
+// The bytes of the table, of the arrivals, of the answer, of the tally and of the cue store: definitions in specs/ and
+// laws in proofs/. Here are their sizes, for all code that reads or writes them, each made of the others.
 pub mod run;
 pub mod word;
 
@@ -45,3 +45,14 @@ pub const HELD: usize = PORTS + 1;
 
 // The bytes of a tally.
 pub const TALLY_BYTES: usize = 32;
+
+// The bytes of a cue store: a header, and for each of its places a name and a table.
+pub const CUES: usize = 4;
+
+pub const NAME_BYTES: usize = 8;
+
+pub const STORE_HEADER_BYTES: usize = 16;
+
+pub const PLACE_BYTES: usize = NAME_BYTES + TABLE_BYTES;
+
+pub const STORE_BYTES: usize = STORE_HEADER_BYTES + CUES * PLACE_BYTES;

@@ -1,7 +1,8 @@
 -- The checks 4 to 8 of a slot's records.
 --     same-faults                          they look only at the bag of the cells in the switch
 --     port-input, port-output, admitted    what they say of records without a fault
-use Prim.Native.Nat.{ℕ, _+_, _<_}
+--     few-records                          there are no more of them than ports
+use Prim.Native.Nat.{ℕ, _+_, _≤_, _<_}
 use native.Mathlib.Omega.{arith}
 use mathlib.Core.Bool.{Bool, true, false, cond, _&&_}
 use mathlib.Core.Path.{_≡_, refl, sym, _∙_, ap}
@@ -11,6 +12,7 @@ use mathlib.Core.List.{List·Memᴰ·cases-cons}
 use mathlib.Core.Option.{Option, none, some, Option·some-ne-none}
 use borrow.Author.Tests.{leb-false, lt-ltb, not-false}
 use lib.Dec.{ltb, leb, eqb}
+use lib.ListN.{length}
 use Rattle.laws.specs.Lists.{pairwise}
 use Rattle.laws.proofs.Tests.{or-false-l, or-false-r}
 use Rattle.laws.proofs.Pairwise.{pairwise-nil, pairwise-cons}
@@ -183,3 +185,19 @@ module _ (ports : ℕ) (waiting : List Cell) where
   pub admitted : (cs : List Cell) → firstFault ports waiting cs ≡ none → Admitted ports waiting cs
   unfolding firstFault
   admitted cs h = admitted-from 1 none cs h
+
+  -- inputs rise, so there are no more records than ports above that of the one before them
+  few-from : (place : ℕ) (b : Cell) (cs : List Cell) → b .input < ports
+      → faultFrom ports waiting place (some b) cs ≡ none → b .input + length cs < ports
+  few-from place b [] low h = omega arith
+  few-from place b (c ∷ cs) low h =
+      let w = faults-none place (some b) c cs h in
+      let later = few-from (place + 1) c cs (port-input ports c (w .0 .port)) (w .1) in
+      omega (arith, in-turn b c (w .0 .turn))
+
+  pub few-records : (cs : List Cell) → firstFault ports waiting cs ≡ none → length cs ≤ ports
+  unfolding firstFault
+  few-records [] h = omega arith
+  few-records (c ∷ cs) h =
+      let w = faults-none 1 none c cs h in
+      omega (arith, few-from 2 c cs (port-input ports c (w .0 .port)) (w .1))

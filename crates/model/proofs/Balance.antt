@@ -1,16 +1,17 @@
--- Cells in less cells out is the number waiting, for every list of slot calls from a fresh switch and a tally of zeros
--- that did not reach a top (`balance`). In one slot: those waiting after it and those sent are those waiting before it
--- and those that came (`slot-balance`), because each output sends at most one cell.
-use Prim.Native.Nat.{ℕ, zero, suc, _+_, _≤_, _<_}
+-- Cells in less cells out is the number waiting, for every list of calls without an accepted return from a fresh
+-- switch and a tally of zeros (`balance`), and neither count reaches its top (`counts-below`). In one slot: those
+-- waiting after it and those sent are those waiting before it and those that came (`run-balance`), because each output
+-- sends at most one cell.
+use Prim.Native.Nat.{ℕ, zero, suc, _+_, _*_, _≤_, _<_}
 use native.Mathlib.Omega.{arith}
 use mathlib.Core.Bool.{Bool, true, false, not, _&&_, _||_}
 use mathlib.Core.List.{List, [], _∷_, _++_, map, List·Memᴰ, List·Memᴰ·head, List·Memᴰ·tail}
 use mathlib.Core.Logic.{_⊎_, inl, inr, _≢_}
 use mathlib.Core.Option.{Option, none, some, Option·map}
 use mathlib.Core.Path.{_≡_, refl, sym, ap, _∙_, subst}
-use lib.Dec.{eqb}
+use lib.Dec.{eqb, leb}
 use lib.ListN.{length, length-map, length-append}
-use borrow.Author.Tests.{eqb-true, eqb-false, eq-eqb, ne-eqb, not-true}
+use borrow.Author.Tests.{leb-true, eqb-true, eqb-false, eq-eqb, ne-eqb, not-true}
 use Rattle.laws.specs.Lists.{keep, some?, none?, all?, count, pairwise, first?, numbersFrom, upTo}
 use Rattle.laws.proofs.Count.{count-nil, count-pass, count-fail, count-ext, count-or, count-map, count-zero, count-all, count-not}
 use Rattle.laws.proofs.Count.{length-keep}
@@ -21,22 +22,28 @@ use Rattle.laws.proofs.Pairwise.{pairwise-head, pairwise-tail, pairwise-keep, p
 use Rattle.laws.proofs.Tests.{clash, same, and-l, and-r, not-i, by-fail}
 use Rattle.cell.specs.declared.Arrival.{Arrival}
 use Rattle.cell.specs.Cell.{accepted, arrivalFits}
-use Rattle.cell.specs.Limits.{portsInRange, fits32, clockEnd}
+use Rattle.cell.specs.Limits.{portLimit, portsInRange, fits32, clockEnd}
 use Rattle.model.specs.State.{Entry, Switch, fresh, cells, isBuffered}
-use Rattle.model.specs.Checks.{Outcome, done, refused, firstFault}
+use Rattle.model.specs.Checks.{firstFault}
 use Rattle.model.specs.Crossbar.{Course, run, slot, switchAfter, leaving, departuresOf}
 use Rattle.model.specs.Phase.{Waiting, waiting, among, beats, sameOutput}
 use Rattle.model.specs.CodeSlackness.{Orderly, otherNumber}
 use Rattle.model.specs.Sound.{sound}
-use Rattle.model.specs.Emulation.{lent}
+use Rattle.model.specs.Emulation.{lent, callable}
+use Rattle.model.specs.Rehearsal.{Rehearsal, begun, Call, takes, sets, drops, returns, next, nextAll, goesBack}
+use Rattle.model.specs.Rehearsal.{noneGoesBack, crossbarAfter}
 use Rattle.cell.specs.declared.Tally.{Tally}
-use Rattle.model.specs.Tally.{noTally, countTop, raise, isSent, afterRun, afterRefused, tallyAfter, arrivalCount, switchAfterAll, tallyAfterAll}
+use Rattle.model.specs.Tally.{noTally, countTop, raise, isSent, afterRun, afterRefused, tallyAfter, arrivalCount}
+use Rattle.model.specs.Tally.{tallyNext, tallyAfterAll}
+use Rattle.model.proofs.Admitted.{few-records}
 use Rattle.model.proofs.WaitingOrder.{among-i, among-e, beats-total, output-e}
 use Rattle.model.proofs.CheckOrder.{slot-broken}
 use Rattle.model.proofs.Related.{flatten-empty}
+use Rattle.model.proofs.Returned.{stays}
 use Rattle.model.proofs.SlackDeparture.{leaving-in, leaving-buffered, leaving-first}
+use Rattle.model.proofs.SoundLaws.{sound-e}
 use Rattle.model.proofs.SoundSlot.{Called, runs, refuses, called, sound-fresh, settled-orderly, settled-count, run-cells}
-use Rattle.model.proofs.SoundSlot.{settled-sound, after-sound}
+use Rattle.model.proofs.SoundSlot.{settled-sound, run-sound}
 use Rattle.model.proofs.SoundOrderly.{sound-section}
 use Rattle.model.proofs.Numbering.{entryOf, mem-waiting, stands-entry}
 
@@ -222,96 +229,104 @@ module _ (s : Switch) (records : List Arrival) (h : sound s ≡ true) (fits : al
       omega (arith, leaving-length last o, last-length)
 
 ------------------------------------------------------------------------
--- a list of slots
+-- a list of calls
 
--- a count does not fall, and stays at or below its top
-record Rises (n m : ℕ) : Type 0 where
-  up : n ≤ m
-  top : m ≤ countTop
+-- What every call keeps. At most sixteen cells come in a slot, and the clock fits 32 bits: so no count of cells comes
+-- near its top.
+record Balanced (s : Switch) (t : Tally) : Type 0 where
+  whole : sound s ≡ true
+  even : t .arrived ≡ t .departed + length (cells s)
+  few : t .arrived ≤ portLimit * s .clock
 
-raise-rises : (by n : ℕ) → n ≤ countTop → Rises n (raise by n)
-unfolding raise
-raise-rises by n h = record { up = omega arith; top = omega arith }
+clock-fits : (s : Switch) → sound s ≡ true → s .clock ≤ clockEnd
+unfolding fits32
+clock-fits s h = leb-true (s .clock) clockEnd (sound-e s h .clock)
 
-rises-trans : {k m n : ℕ} → Rises k m → Rises m n → Rises k n
-rises-trans a b = record { up = let x = a .up in let y = b .up in omega arith; top = b .top }
+records-few : (s : Switch) (records : List Arrival) → sound s ≡ true
+    → firstFault (s .ports) (cells s) (map (accepted (s .clock)) records) ≡ none → length records ≤ portLimit
+unfolding portsInRange
+records-few s records h clear =
+    omega (
+      arith,
+      few-records (s .ports) (cells s) (map (accepted (s .clock)) records) clear,
+      length-map records (accepted (s .clock)),
+      leb-true (s .ports) portLimit (and-r (leb 1 (s .ports)) (leb (s .ports) portLimit) (sound-e s h .ports)),
+    )
 
-tally-in : (n : ℕ) (o : Outcome Course) (t : Tally) → t .arrived ≤ countTop → Rises (t .arrived) (tallyAfter n o t .arrived)
-unfolding tallyAfter afterRun afterRefused
-tally-in n (done c) t h = raise-rises n (t .arrived) h
-tally-in n (refused r place) t h = record { up = omega arith; top = h }
+-- a refused slot changes neither count of cells
+refused-balanced : (s : Switch) (t : Tally) → Balanced s t → Balanced s (afterRefused t)
+unfolding afterRefused
+refused-balanced s t b = record { whole = b .whole; even = b .even; few = b .few }
 
-tally-out : (n : ℕ) (o : Outcome Course) (t : Tally) → t .departed ≤ countTop
-    → Rises (t .departed) (tallyAfter n o t .departed)
-unfolding tallyAfter afterRun afterRefused
-tally-out n (done c) t h = raise-rises (count isSent (c .departures)) (t .departed) h
-tally-out n (refused r place) t h = record { up = omega arith; top = h }
-
-all-in : (s : Switch) (calls : List (Option (List Arrival))) (t : Tally) → t .arrived ≤ countTop
-    → Rises (t .arrived) (tallyAfterAll s calls t .arrived)
-unfolding tallyAfterAll
-all-in s [] t h = record { up = omega arith; top = h }
-all-in s (a ∷ calls) t h =
-    let r = tally-in (arrivalCount a) (slot s a) t h in
-    rises-trans r (all-in (switchAfter s (slot s a)) calls (tallyAfter (arrivalCount a) (slot s a) t) (r .top))
-
-all-out : (s : Switch) (calls : List (Option (List Arrival))) (t : Tally) → t .departed ≤ countTop
-    → Rises (t .departed) (tallyAfterAll s calls t .departed)
-unfolding tallyAfterAll
-all-out s [] t h = record { up = omega arith; top = h }
-all-out s (a ∷ calls) t h =
-    let r = tally-out (arrivalCount a) (slot s a) t h in
-    rises-trans r (all-out (switchAfter s (slot s a)) calls (tallyAfter (arrivalCount a) (slot s a) t) (r .top))
-
--- the tally's cells in less its cells out are those that wait
-abbrev Even : Switch → Tally → Type 0
-Even s t = t .arrived ≡ t .departed + length (cells s)
-
--- What a call does to it: where the counts do not reach their tops, it is kept.
-abbrev Keeps : Switch → ℕ → Tally → Outcome Course → Type 0
-Keeps s n t o =
-    tallyAfter n o t .arrived < countTop → tallyAfter n o t .departed < countTop → Even (switchAfter s o) (tallyAfter n o t)
-
-slot-even : (s : Switch) (a : Option (List Arrival)) (t : Tally) → sound s ≡ true → lent a ≡ true → Even s t
-    → Keeps s (arrivalCount a) t (slot s a)
-unfolding tallyAfter afterRun afterRefused switchAfter arrivalCount raise lent course
-slot-even s none t h fits even = rw (slot-broken s) (λ i o. even)
-slot-even s (some records) t h fits even = go (called s records)
+slot-balanced : (s : Switch) (a : Option (List Arrival)) (t : Tally) → lent a ≡ true → Balanced s t
+    → Balanced (switchAfter s (slot s a)) (tallyAfter (arrivalCount a) (slot s a) t)
+unfolding tallyAfter afterRun switchAfter arrivalCount raise lent course run
+slot-balanced s none t fits b = rw (slot-broken s) (refused-balanced s t b)
+slot-balanced s (some records) t fits b = go (called s records)
   where
-    go : Called s records → Keeps s (length records) t (slot s (some records))
-    go (refuses r place e) = rw e (λ i o. even)
-    go (runs ticks clear e) = rw e (λ i o. omega (arith, run-balance s records h fits ticks clear))
+    go : Called s records
+        → Balanced (switchAfter s (slot s (some records))) (tallyAfter (length records) (slot s (some records)) t)
+    go (refuses r place e) = rw e (refused-balanced s t b)
+    go (runs ticks clear e) =
+        let clock = clock-fits s (b .whole) in
+        let few = records-few s records (b .whole) clear in
+        rw e
+        (record {
+          whole = run-sound s records (b .whole) fits ticks clear;
+          even = omega (arith, run-balance s records (b .whole) fits ticks clear, b .even, b .few);
+          few = omega (arith, b .few);
+        })
 
-balanced : (s : Switch) (calls : List (Option (List Arrival))) (t : Tally) → sound s ≡ true → all? lent calls ≡ true
-    → Even s t → t .arrived ≤ countTop → t .departed ≤ countTop
-    → tallyAfterAll s calls t .arrived < countTop → tallyAfterAll s calls t .departed < countTop
-    → Even (switchAfterAll s calls) (tallyAfterAll s calls t)
-unfolding tallyAfterAll switchAfterAll
-balanced s [] t h fits even i o i′ o′ = even
-balanced s (a ∷ calls) t h fits even i o i′ o′ =
-    let both = rw (all?-cons lent a calls) at fits in
-    let first = and-l (lent a) (all? lent calls) both in
-    let t′ : Tally = tallyAfter (arrivalCount a) (slot s a) t in
-    let s′ : Switch = switchAfter s (slot s a) in
-    let u = tally-in (arrivalCount a) (slot s a) t i in
-    let v = tally-out (arrivalCount a) (slot s a) t o in
-    let x = all-in s′ calls t′ (u .top) in
-    let y = all-out s′ calls t′ (v .top) in
-    balanced s′ calls t′ (after-sound s a h first) (and-r (lent a) (all? lent calls) both)
-    (slot-even s a t h first even (omega (arith, x .up)) (omega (arith, y .up)))
-    (u .top) (v .top) i′ o′
+next-balanced : (x : Rehearsal Switch) (call : Call) (t : Tally) → callable call ≡ true
+    → goesBack crossbarAfter x call ≡ false → Balanced (x .switch) t
+    → Balanced (next crossbarAfter x call .switch) (tallyNext x call t)
+unfolding next tallyNext callable
+next-balanced x (takes arrivals) t fits forth b = slot-balanced (x .switch) arrivals t fits b
+next-balanced x (sets name) t fits forth b = b
+next-balanced x (drops name) t fits forth b = b
+next-balanced x (returns name) t fits forth b =
+    subst (λ s. Balanced s t) (sym (stays crossbarAfter x name forth)) b
+
+all-balanced : (x : Rehearsal Switch) (calls : List Call) (t : Tally) → all? callable calls ≡ true
+    → noneGoesBack crossbarAfter x calls ≡ true → Balanced (x .switch) t
+    → Balanced (nextAll crossbarAfter x calls .switch) (tallyAfterAll x calls t)
+unfolding nextAll tallyAfterAll noneGoesBack
+all-balanced x [] t fits forth b = b
+all-balanced x (call ∷ calls) t fits forth b =
+    let x′ = next crossbarAfter x call in
+    let both = rw (all?-cons callable call calls) at fits in
+    let back = goesBack crossbarAfter x call in
+    let rest = noneGoesBack crossbarAfter x′ calls in
+    all-balanced x′ calls (tallyNext x call t) (and-r (callable call) (all? callable calls) both)
+    (and-r (not back) rest forth)
+    (next-balanced x call t (and-l (callable call) (all? callable calls) both)
+    (not-true back (and-l (not back) rest forth)) b)
 
 fresh-cells : (ports first : ℕ) → _≡_ {A = ℕ} (length (cells (fresh ports first))) 0
 unfolding fresh cells
 fresh-cells ports first = ap (λ l. length (map (λ e. e .cell) l)) (flatten-empty {A = Entry} ports)
 
-pub balance : (ports first : ℕ) (calls : List (Option (List Arrival))) → portsInRange ports ≡ true → fits32 first ≡ true
-    → all? lent calls ≡ true
-    → tallyAfterAll (fresh ports first) calls noTally .arrived < countTop
-    → tallyAfterAll (fresh ports first) calls noTally .departed < countTop
-    → tallyAfterAll (fresh ports first) calls noTally .arrived
-    ≡ tallyAfterAll (fresh ports first) calls noTally .departed + length (cells (switchAfterAll (fresh ports first) calls))
-unfolding noTally
-balance ports first calls p f fits i o =
-    balanced (fresh ports first) calls noTally (sound-fresh ports first p f) fits
-    (omega (arith, fresh-cells ports first)) (omega arith) (omega arith) i o
+module _ (ports first : ℕ) (calls : List Call) (p : portsInRange ports ≡ true) (f : fits32 first ≡ true)
+    (fits : all? callable calls ≡ true)
+    (forth : noneGoesBack crossbarAfter (begun (fresh ports first)) calls ≡ true) where
+  balanced : Balanced (nextAll crossbarAfter (begun (fresh ports first)) calls .switch)
+      (tallyAfterAll (begun (fresh ports first)) calls noTally)
+  unfolding begun noTally
+  balanced =
+      all-balanced (begun (fresh ports first)) calls noTally fits forth
+      (record {
+        whole = sound-fresh ports first p f;
+        even = omega (arith, fresh-cells ports first);
+        few = omega arith;
+      })
+
+  pub balance : tallyAfterAll (begun (fresh ports first)) calls noTally .arrived
+      ≡ tallyAfterAll (begun (fresh ports first)) calls noTally .departed
+      + length (cells (nextAll crossbarAfter (begun (fresh ports first)) calls .switch))
+  balance = balanced .even
+
+  pub counts-below : (tallyAfterAll (begun (fresh ports first)) calls noTally .arrived < countTop)
+      × (tallyAfterAll (begun (fresh ports first)) calls noTally .departed < countTop)
+  counts-below =
+      let clock = clock-fits (nextAll crossbarAfter (begun (fresh ports first)) calls .switch) (balanced .whole) in
+      omega (arith, balanced .even, balanced .few)

@@ -1,9 +1,10 @@
--- Demand 3: the crossbar answers every list of slot calls as the PIFO switch does. By induction over the list, with what
--- is kept between calls: both hold the same cells (`Related`), the table is sound, and every cell outside the buffers
--- has as many cells over it in its output's buffer as stand before it in its list (`Slack 0 0`).
---     alike        from any two switches so related
---     demand-3     from fresh ones
---     reachable-sound        every table reached from a fresh switch is sound
+-- Demand 3: the crossbar answers every list of calls as the PIFO switch does, slots and cue calls. By induction over
+-- the list, with what is kept between calls, of the two switches and of each two that the cue stores hold at one place:
+-- both hold the same cells (`Related`), the table is sound, and every cell outside the buffers has as many cells over
+-- it in its output's buffer as stand before it in its list (`Slack 0 0`).
+--     alike        from any two rehearsals so related
+--     demand-3     from fresh switches and no cue held
+--     reachable-sound        every table and every cue store reached from there is sound
 -- That refusal 2 never comes where the arrivals are whole records is `slot-not-broken` (CheckOrder); that cells in less
 -- cells out is the number waiting is `balance` (Balance).
 use Prim.Native.Nat.{ℕ}
@@ -25,9 +26,14 @@ use Rattle.model.specs.Pifo.{Pifo, freshPifo, Sent, sentDepartures, runP
 use Rattle.model.specs.Phase.{waiting}
 use Rattle.model.specs.Sound.{sound}
 use Rattle.model.specs.CodeSlackness.{Slack}
-use Rattle.model.specs.Tally.{switchAfterAll}
-use Rattle.model.specs.Emulation.{lent, AnswersAlike, Within, Alike, Demand3}
+use Rattle.model.specs.Cues.{soundCues}
+use Rattle.model.specs.Rehearsal.{Rehearsal, begun, Call, takes, sets, drops, returns, next, nextAll}
+use Rattle.model.specs.Rehearsal.{crossbarAfter, shadowAfter}
+use Rattle.model.specs.Emulation.{lent, callable, AnswersAlike, Within, SameWaiting, CallAlike, Alike, Demand3}
 use Rattle.model.proofs.CourseLimits.{within-limits}
+use Rattle.model.proofs.CueLaws.{Both, both-begun, agree-map, agree-next, set-refusal, drop-refusal}
+use Rattle.model.proofs.CueLaws.{return-refusal}
+use Rattle.model.proofs.CueSound.{no-cues-sound, all-sound}
 use Rattle.model.proofs.Related.{Related, Settled, SameCall, both-refuse, both-run, arriving, related-fresh}
 use Rattle.model.proofs.Related.{related-refused, related-departures, related-run, related-same-waiting}
 use Rattle.model.proofs.SlackSlot.{fresh-slack, settled-best, run-slack}
@@ -94,13 +100,39 @@ step s q kept a fits = go (related-refused s q (kept .related) a)
           kept = kept-run s q kept records fit ticks clear;
         })
 
-pub alike : (ports : ℕ) (s : Switch) (q : Pifo) → Kept s q → (calls : List (Option (List Arrival)))
-    → all? lent calls ≡ true → Alike ports s q calls
-alike ports s q kept [] h = related-same-waiting s q (kept .related)
-alike ports s q kept (a ∷ calls) h =
-    let both = rw (all?-cons lent a calls) at h in
-    let t = step s q kept a (and-l (lent a) (all? lent calls) both) in
-    (t .answers ports, t .limits, alike ports _ _ (t .kept) calls (and-r (lent a) (all? lent calls) both))
+kept-after : (s : Switch) (q : Pifo) (a : Option (List Arrival)) → callable (takes a) ≡ true → Kept s q
+    → Kept (crossbarAfter s a) (shadowAfter q a)
+unfolding callable
+kept-after s q a fits kept = step s q kept a fits .kept
+
+call-alike : (ports : ℕ) (x : Rehearsal Switch) (y : Rehearsal Pifo) → Both Kept x y → (call : Call)
+    → callable call ≡ true → CallAlike ports x y call
+unfolding callable
+call-alike ports x y both (takes a) h =
+    let t = step (x .switch) (y .switch) (both .switches) a h in
+    (t .answers ports, t .limits)
+call-alike ports x y both (sets name) h =
+    set-refusal Kept name (x .cues) (y .cues) (both .cues) (x .switch) (y .switch)
+call-alike ports x y both (drops name) h = drop-refusal Kept name (x .cues) (y .cues) (both .cues)
+call-alike ports x y both (returns name) h = return-refusal Kept name (x .cues) (y .cues) (both .cues)
+
+kept-waiting : (s : Switch) (q : Pifo) → Kept s q → SameWaiting s q
+kept-waiting s q kept = related-same-waiting s q (kept .related)
+
+pub alike : (ports : ℕ) (x : Rehearsal Switch) (y : Rehearsal Pifo) → Both Kept x y → (calls : List Call)
+    → all? callable calls ≡ true → Alike ports x y calls
+alike ports x y both [] h = (
+  kept-waiting (x .switch) (y .switch) (both .switches),
+  agree-map Kept SameWaiting kept-waiting (x .cues) (y .cues) (both .cues),
+)
+alike ports x y both (call ∷ calls) h =
+    let fits = rw (all?-cons callable call calls) at h in
+    let fit = and-l (callable call) (all? callable calls) fits in (
+      call-alike ports x y both call fit,
+      alike ports (next crossbarAfter x call) (next shadowAfter y call)
+          (agree-next Kept callable crossbarAfter shadowAfter kept-after x y call fit both) calls
+          (and-r (callable call) (all? callable calls) fits),
+    )
 
 pub kept-fresh : (ports first : ℕ) → portsInRange ports ≡ true → fits32 first ≡ true
     → Kept (fresh ports first) (freshPifo ports first)
@@ -114,21 +146,17 @@ kept-fresh ports first p f =
 
 pub demand-3 : Demand3
 demand-3 ports first calls p f h =
-    alike ports (fresh ports first) (freshPifo ports first) (kept-fresh ports first p f) calls h
+    alike ports (begun (fresh ports first)) (begun (freshPifo ports first))
+    (both-begun Kept (fresh ports first) (freshPifo ports first) (kept-fresh ports first p f)) calls h
 
 ------------------------------------------------------------------------
 -- corollaries
 
-after-all-sound : (s : Switch) (calls : List (Option (List Arrival))) → sound s ≡ true → all? lent calls ≡ true
-    → sound (switchAfterAll s calls) ≡ true
-unfolding switchAfterAll
-after-all-sound s [] h fits = h
-after-all-sound s (a ∷ calls) h fits =
-    let both = rw (all?-cons lent a calls) at fits in
-    after-all-sound (switchAfter s (slot s a)) calls (after-sound s a h (and-l (lent a) (all? lent calls) both))
-    (and-r (lent a) (all? lent calls) both)
-
-pub reachable-sound : (ports first : ℕ) (calls : List (Option (List Arrival))) → portsInRange ports ≡ true
-    → fits32 first ≡ true → all? lent calls ≡ true → sound (switchAfterAll (fresh ports first) calls) ≡ true
+pub reachable-sound : (ports first : ℕ) (calls : List Call) → portsInRange ports ≡ true → fits32 first ≡ true
+    → all? callable calls ≡ true
+    → (sound (nextAll crossbarAfter (begun (fresh ports first)) calls .switch) ≡ true)
+    × (soundCues sound (nextAll crossbarAfter (begun (fresh ports first)) calls .cues) ≡ true)
+unfolding begun callable
 reachable-sound ports first calls p f fits =
-    after-all-sound (fresh ports first) calls (sound-fresh ports first p f) fits
+    all-sound sound callable crossbarAfter (λ s a h k. after-sound s a k h) (begun (fresh ports first)) calls fits
+    (sound-fresh ports first p f, no-cues-sound sound)

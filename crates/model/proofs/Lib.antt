@@ -5,8 +5,12 @@ pub mod Balance
 pub mod CellOrder
 pub mod CheckOrder
 pub mod CourseLimits
+pub mod CueAccord
+pub mod CueLaws
+pub mod CueSound
 pub mod Demand3
 pub mod Enter
+pub mod FirstPlace
 pub mod Numbering
 pub mod OutputChoice
 pub mod PhaseFacts
@@ -19,6 +23,7 @@ pub mod PifoLaws
 pub mod PifoRest
 pub mod Refused
 pub mod Related
+pub mod Returned
 pub mod SameDeparture
 pub mod Sections
 pub mod Shapes

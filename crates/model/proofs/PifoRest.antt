@@ -2,7 +2,7 @@
 -- best cell goes.
 --     JustBest          a queue without its best cell is its rest; a queue that has none is empty
 --     just-best         so it is where no two cells share input and slot
---     rest-just-best    so it is in every slot that a PIFO switch accepts, from a fresh one on
+--     rest-just-best    so it is in every slot that a PIFO switch accepts, from a fresh one on, cues returned to or not
 use Prim.Native.Nat.{ℕ, _+_, _≤_}
 use native.Mathlib.Omega.{arith}
 use mathlib.Core.Bool.{Bool, true, false, not, _&&_}
@@ -16,7 +16,7 @@ use borrow.Author.Tests.{eqb-true, eqb-false, eq-eqb, ne-eqb, ltb-true, not-true
 use Rattle.laws.specs.Lists.{keep, some?, count, least, first?}
 use Rattle.laws.specs.Order.{Strict}
 use Rattle.laws.proofs.Tests.{clash, either, same, by-fail, and-i, and-l, and-r, and-false-r, not-i}
-use Rattle.laws.proofs.Lists.{some?-i, some?-e, none?-i, keep-ext, first-mem}
+use Rattle.laws.proofs.Lists.{some?-i, some?-e, none?-i, all?-i, keep-ext, first-mem}
 use Rattle.laws.proofs.Count.{count-nil, count-le, count-lt, count-pos, count-zero, count-keep-le}
 use Rattle.laws.proofs.Least.{least-below, mem-least-in, mem-least-first}
 use Rattle.laws.proofs.Pairwise.{pairwise-mono, pairwise-le-one}
@@ -30,9 +30,10 @@ use Rattle.cell.specs.Order.{over}
 use Rattle.cell.proofs.Order.{over-irrefl, over-trans, over-total}
 use Rattle.model.specs.Checks.{done, refused, firstFault}
 use Rattle.model.specs.Pifo.{Pifo, freshPifo, queued, join, best, rest, Sent, runPifo, slotPifo, pifoAfter}
-use Rattle.model.specs.Pifo.{pifoAfterAll}
+use Rattle.model.specs.Rehearsal.{begun, Call, nextAll, shadowAfter}
 use Rattle.model.proofs.Admitted.{admitted}
 use Rattle.model.proofs.CellOrder.{same-cell-refl, same-cell-path}
+use Rattle.model.proofs.CueLaws.{agree-all, both-begun}
 use Rattle.model.proofs.PifoLaws.{Queues, queues-fresh, queues-join, queues-rest, join-count, queue-of}
 use Rattle.model.proofs.PifoLaws.{rest-queues}
 use Rattle.model.proofs.Related.{flatten-empty, pifo-end, pifo-fault, pifo-runs}
@@ -303,17 +304,20 @@ kept-after s (some records) kept = go (called s records)
     go (runs clear e) = rw e (kept-run s kept records clear)
     go (refuses r place e) = rw e kept
 
-kept-all : (s : Pifo) (calls : List (Option (List Arrival))) → Kept s → Kept (pifoAfterAll s calls)
-unfolding pifoAfterAll
-kept-all s [] kept = kept
-kept-all s (a ∷ calls) kept = kept-all (pifoAfter s (slotPifo s a)) calls (kept-after s a kept)
+-- a PIFO switch after a list of calls from a fresh one, with no cue held at first
+abbrev pub reached : ℕ → ℕ → List Call → Pifo
+reached ports first calls = nextAll shadowAfter (begun (freshPifo ports first)) calls .switch
 
--- a PIFO switch after a list of slot calls from a fresh one
-abbrev pub reached : ℕ → ℕ → List (Option (List Arrival)) → Pifo
-reached ports first calls = pifoAfterAll (freshPifo ports first) calls
+-- each slot keeps it, so each cue holds a switch that has it
+kept-reached : (ports first : ℕ) (calls : List Call) → Kept (reached ports first calls)
+kept-reached ports first calls =
+    let s = freshPifo ports first in
+    agree-all (λ s t. Kept s) (λ call. true) shadowAfter shadowAfter (λ s t a h kept. kept-after s a kept)
+    (begun s) (begun s) calls (all?-i (λ call. true) calls (λ call m. refl))
+    (both-begun (λ s t. Kept s) s s (kept-fresh ports first)) .switches
 
 -- in every slot that it accepts just the best cell leaves each queue
-pub rest-just-best : (ports first : ℕ) (calls : List (Option (List Arrival))) (records : List Arrival) (r : Sent)
+pub rest-just-best : (ports first : ℕ) (calls : List Call) (records : List Arrival) (r : Sent)
     → slotPifo (reached ports first calls) (some records) ≡ done r
     → (output : ℕ) → JustBest ports (getD (joinedQueues (reached ports first calls) records) output [])
 rest-just-best ports first calls records r d output = go (called s records)
@@ -324,5 +328,5 @@ rest-just-best ports first calls records r d output = go (called s records)
     go : Called s records → JustBest ports (getD (joinedQueues s records) output [])
     go (runs clear e) =
         just-best ports (getD (joinedQueues s records) output [])
-        (queue-distinct s (kept-all (freshPifo ports first) calls (kept-fresh ports first)) records clear output)
+        (queue-distinct s (kept-reached ports first calls) records clear output)
     go (refuses r′ place e) = absurd (let z : _≡_ {A = ℕ} 0 1 = cc in omega arith)

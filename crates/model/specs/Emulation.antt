@@ -1,6 +1,7 @@
--- Demand 3: for every list of slot calls from a fresh switch the crossbar answers as the PIFO switch does. One claim
--- about the whole list, refused calls included; each call gets the switch that the call before returned, or left in
--- refusing. The tally takes no part in a slot's answer.
+-- Demand 3: for every list of calls from a fresh switch, begun with no cue held, the crossbar answers as the PIFO switch
+-- does: slots, and cues set, dropped and returned to. One claim about the whole list, refused calls included; each call
+-- gets the switch and the cue store that the call before returned, or left in refusing. The tally takes no part in an
+-- answer. A list of slot calls alone is `map takes` of their arrivals.
 use Prim.Native.Nat.{ℕ, _≤_}
 use mathlib.Core.Bool.{Bool, true, _&&_}
 use mathlib.Core.List.{List, [], _∷_, map, flatten}
@@ -16,13 +17,23 @@ use Rattle.cell.specs.Limits.{portsInRange, fits32}
 use Rattle.model.specs.State.{Place, Entry, Switch, fresh, cells, isListed, isCrossed, isBuffered}
 use Rattle.model.specs.Checks.{Outcome, done, refused, refusal}
 use Rattle.model.specs.Phase.{afterSending}
-use Rattle.model.specs.Crossbar.{Course, slotAnswer, slot, switchAfter}
-use Rattle.model.specs.Pifo.{Pifo, freshPifo, Sent, sentDepartures, slotPifo, pifoAfter}
+use Rattle.model.specs.Crossbar.{Course, slotAnswer, slot}
+use Rattle.model.specs.Cues.{Cue, Cues, setCue, dropCue, returnTo}
+use Rattle.model.specs.Pifo.{Pifo, freshPifo, Sent, sentDepartures, slotPifo}
+use Rattle.model.specs.Rehearsal.{Rehearsal, begun, Call, takes, sets, drops, returns, next, crossbarAfter}
+use Rattle.model.specs.Rehearsal.{shadowAfter}
 
 -- The arrivals of a call: any number of records of any 32-bit values, or no whole number of records.
 unfoldable pub lent : Option (List Arrival) → Bool
 lent none = true
 lent (some records) = all? arrivalFits records
+
+-- A cue call has any name.
+unfoldable pub callable : Call → Bool
+callable (takes arrivals) = lent arrivals
+callable (sets name) = true
+callable (drops name) = true
+callable (returns name) = true
 
 -- a slot call of two switches of so many ports: refused exactly when the other refuses, with the same number and the
 -- same place; each output the same cell in all six fields, or none exactly when the other sends none
@@ -70,16 +81,39 @@ pub record SameWaiting (s : Switch) (q : Pifo) : Type 0 where
   pub waiting : (output : ℕ) (c : Cell)
       → count (sameCell c) (keep (λ d. eqb (d .output) output) (cells s)) ≡ count (sameCell c) (getD (q .queues) output [])
 
--- call by call both answer alike, all along the limits are kept, and after the list the same cells wait
-abbrev pub Alike : ℕ → Switch → Pifo → List (Option (List Arrival)) → Type 0
-Alike ports s q [] = SameWaiting s q
-Alike ports s q (arrivals ∷ calls) =
-    AnswersAlike ports (slot s arrivals) (slotPifo q arrivals)
-    × Within (slot s arrivals)
-    × Alike ports (switchAfter s (slot s arrivals)) (pifoAfter q (slotPifo q arrivals)) calls
+-- two cue stores agree: place by place both are free, or hold cues of the same name whose switches stand in a relation
+module _ {S Q : Type 0} (R : S → Q → Type 0) where
+  abbrev pub AgreeAt : Option (Cue S) → Option (Cue Q) → Type 0
+  AgreeAt none none = Unit {0}
+  AgreeAt none (some d) = ⊥
+  AgreeAt (some c) none = ⊥
+  AgreeAt (some c) (some d) = (c .name ≡ d .name) × R (c .switch) (d .switch)
 
--- for every N from 1 to 16, every first slot of 32 bits and every list of slot calls
+  abbrev pub Agree : Cues S → Cues Q → Type 0
+  Agree [] [] = Unit {0}
+  Agree [] (d ∷ ds) = ⊥
+  Agree (c ∷ cs) [] = ⊥
+  Agree (c ∷ cs) (d ∷ ds) = AgreeAt c d × Agree cs ds
+
+-- What a call answers: a slot as above, and within the limits; a cue call is refused exactly when the other refuses, with
+-- the same number.
+abbrev pub CallAlike : ℕ → Rehearsal Switch → Rehearsal Pifo → Call → Type 0
+CallAlike ports x y (takes arrivals) =
+    AnswersAlike ports (slot (x .switch) arrivals) (slotPifo (y .switch) arrivals) × Within (slot (x .switch) arrivals)
+CallAlike ports x y (sets name) =
+    refusal (setCue name (x .switch) (x .cues)) ≡ refusal (setCue name (y .switch) (y .cues))
+CallAlike ports x y (drops name) = refusal (dropCue name (x .cues)) ≡ refusal (dropCue name (y .cues))
+CallAlike ports x y (returns name) = refusal (returnTo name (x .cues)) ≡ refusal (returnTo name (y .cues))
+
+-- call by call both answer alike, all along the limits are kept; and after the list the clocks are equal, the same cells
+-- wait, and the cue stores agree
+abbrev pub Alike : ℕ → Rehearsal Switch → Rehearsal Pifo → List Call → Type 0
+Alike ports x y [] = SameWaiting (x .switch) (y .switch) × Agree SameWaiting (x .cues) (y .cues)
+Alike ports x y (call ∷ calls) =
+    CallAlike ports x y call × Alike ports (next crossbarAfter x call) (next shadowAfter y call) calls
+
+-- for every N from 1 to 16, every first slot of 32 bits and every list of calls
 abbrev pub Demand3 : Type 0
-Demand3 = (ports first : ℕ) (calls : List (Option (List Arrival)))
-    → portsInRange ports ≡ true → fits32 first ≡ true → all? lent calls ≡ true
-    → Alike ports (fresh ports first) (freshPifo ports first) calls
+Demand3 = (ports first : ℕ) (calls : List Call)
+    → portsInRange ports ≡ true → fits32 first ≡ true → all? callable calls ≡ true
+    → Alike ports (begun (fresh ports first)) (begun (freshPifo ports first)) calls

@@ -2,10 +2,13 @@ pub mod Calls
 pub mod Checks
 pub mod CodeSlackness
 pub mod Crossbar
+pub mod Cues
 pub mod Emulation
 pub mod Histories
 pub mod Phase
 pub mod Pifo
+pub mod Rehearsal
+pub mod Rehearsals
 pub mod Sound
 pub mod State
 pub mod Tally

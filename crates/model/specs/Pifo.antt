@@ -1,7 +1,7 @@
 -- Scope 4, the PIFO switch: no lists, crosspoints or phases. Its state is N, a clock and a
 -- queue of cells for each output.
 use Prim.Native.Nat.{ℕ, _+_}
-use mathlib.Core.Bool.{Bool, true, false}
+use mathlib.Core.Bool.{true, false}
 use mathlib.Core.List.{List, [], _∷_, _++_, map, flatten}
 use mathlib.Core.Option.{Option, none, some}
 use lib.Dec.{eqb}
@@ -75,8 +75,3 @@ sentDepartures ports (refused r place) = noDepartures ports
 unfoldable pub pifoAfter : Pifo → Outcome Sent → Pifo
 pifoAfter s (done r) = r .pifo
 pifoAfter s (refused r place) = s
-
--- the switch after a list of slot calls, each call getting it as the last one left it
-unfoldable pub pifoAfterAll : Pifo → List (Option (List Arrival)) → Pifo
-pifoAfterAll s [] = s
-pifoAfterAll s (a ∷ calls) = pifoAfterAll (pifoAfter s (slotPifo s a)) calls

@@ -9,7 +9,8 @@ use Rattle.cell.specs.declared.Arrival.{Arrival}
 use Rattle.cell.specs.declared.Cell.{Cell}
 use Rattle.cell.specs.declared.Tally.{Tally}
 use Rattle.model.specs.Checks.{Outcome, done, refused}
-use Rattle.model.specs.Crossbar.{Course, slot, switchAfter}
+use Rattle.model.specs.Crossbar.{Course, slot}
+use Rattle.model.specs.Rehearsal.{Rehearsal, Call, takes, sets, drops, returns, next, crossbarAfter}
 use Rattle.model.specs.State.{Switch}
 
 unfoldable pub noTally : Tally
@@ -49,12 +50,14 @@ unfoldable pub arrivalCount : Option (List Arrival) → ℕ
 arrivalCount none = 0
 arrivalCount (some records) = length records
 
--- The switch and the tally after a list of slot calls, each call getting both as the last one left them.
-unfoldable pub switchAfterAll : Switch → List (Option (List Arrival)) → Switch
-switchAfterAll s [] = s
-switchAfterAll s (a ∷ calls) = switchAfterAll (switchAfter s (slot s a)) calls
+-- The tally after a call, which is lent it if it is a slot call: a cue call leaves it, and it is never wound back.
+unfoldable pub tallyNext : Rehearsal Switch → Call → Tally → Tally
+tallyNext x (takes arrivals) t = tallyAfter (arrivalCount arrivals) (slot (x .switch) arrivals) t
+tallyNext x (sets name) t = t
+tallyNext x (drops name) t = t
+tallyNext x (returns name) t = t
 
-unfoldable pub tallyAfterAll : Switch → List (Option (List Arrival)) → Tally → Tally
-tallyAfterAll s [] t = t
-tallyAfterAll s (a ∷ calls) t =
-    tallyAfterAll (switchAfter s (slot s a)) calls (tallyAfter (arrivalCount a) (slot s a) t)
+-- The tally after a list of calls, lent to each slot call as the last one left it.
+unfoldable pub tallyAfterAll : Rehearsal Switch → List Call → Tally → Tally
+tallyAfterAll x [] t = t
+tallyAfterAll x (call ∷ calls) t = tallyAfterAll (next crossbarAfter x call) calls (tallyNext x call t)

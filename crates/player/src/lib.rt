@@ -77,7 +77,7 @@ fn help() -> u32
 fn version() -> u32
     ensures { λ r. ⌜ Told r ⌝ }
 {
-    tell(b"crossbar-player 2.1.0\ntable layout 1\n")
+    tell(b"crossbar-player 2.2.0\ntable layout 1\n")
 }
 
 fn unknown() -> u32

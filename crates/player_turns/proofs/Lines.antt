@@ -10,13 +10,12 @@ use mathlib.Core.Bool.{Bool, true, false}
 use mathlib.Core.List.{List, [], _++_}
 use mathlib.Core.Path.{_≡_, refl}
 use borrow.Author.Tests.{leb-true, leb-false}
-use lib.Dec.{leb, lit≤}
+use lib.Dec.{leb}
 use lib.ListN.{length, length-append}
 use Rattle.cell.specs.declared.Refusal.{Refusal}
-use Rattle.cell.specs.declared.Refusal.the-variants.{BadSize, BrokenTable, ClockEnd, NoSuchPort, NoSuchFlow}
-use Rattle.cell.specs.declared.Refusal.the-variants.{InputOrder, RankOrder, Full, BadLine, ShortBuffer}
 use Rattle.cell.specs.Limits.{fits32}
 use Rattle.cell.specs.Refusal.{number}
+use Rattle.cell.proofs.RefusalNumbers.{number-range}
 use Rattle.trace.specs.declared.Key.{Key}
 use Rattle.trace.specs.declared.Key.the-variants.{Refused, Line}
 use Rattle.trace.specs.Line.{line}
@@ -34,22 +33,10 @@ use Rattle.player_turns.specs.Turns.{turnRoom, Wrote}
 pub line-le : (k : Key) (n : ℕ) → fits32 n ≡ true → length (line k n) ≤ 19
 line-le k n h = omega (arith, length-line-le k n h, length-keyText-le k)
 
-number-le : (r : Refusal) → number r ≤ 10
-number-le BadSize = lit≤ tt
-number-le BrokenTable = lit≤ tt
-number-le ClockEnd = lit≤ tt
-number-le NoSuchPort = lit≤ tt
-number-le NoSuchFlow = lit≤ tt
-number-le InputOrder = lit≤ tt
-number-le RankOrder = lit≤ tt
-number-le Full = lit≤ tt
-number-le BadLine = lit≤ tt
-number-le ShortBuffer = lit≤ tt
-
 pub refusal-le : (r : Refusal) (l : ℕ) → l < 2 ^ 64 → length (refusalText r l) ≤ 48
 unfolding refusalText
 refusal-le r l h =
-    let n : fits32 (number r) ≡ true = fits32-i (number r) (omega (arith, number-le r)) in
+    let n : fits32 (number r) ≡ true = fits32-i (number r) (omega (arith, number-range r .1)) in
     omega (
       arith,
       length-append (line Refused (number r)) (line Line l),

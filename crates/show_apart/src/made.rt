@@ -62,6 +62,20 @@ fn load_rows(rows: &mut Rows) {
     }
 }
 
+// Eight arrivals in a call.
+pub(crate) fn load(seed: &mut u32, call: u32) -> [[u32; 6]; 8]
+    requires { ⌜ call < 200 ⌝ }
+{
+    let mut rows = [[NEVER; 6]; 8];
+    let mut k: usize = 0;
+    while k < 8 {
+        let row = load_row(seed, call, k as u32);
+        rows[k] = row;
+        k += 1;
+    }
+    rows
+}
+
 // An arrival at one of two inputs. Of 129 flows one is 8, which turns the slot back.
 fn load_row(seed: &mut u32, call: u32, pair: u32) -> [u32; 6]
     requires { ⌜ call < 200 ⌝ }
@@ -85,7 +99,7 @@ fn load_output(drawn: u32) -> u32
 }
 
 // The next number of a sequence that shows no order.
-fn draw(seed: &mut u32) -> u32 {
+pub(crate) fn draw(seed: &mut u32) -> u32 {
     let last = *seed;
     let next = (75 * (last % 65537) + 74) % 65537;
     *seed = next;

@@ -1,9 +1,12 @@
-// Scope 9, the shows without a star, and shows of our own, on the proved switch against a shadow switch that was
-// written apart: a line for each show, with what came of each slot call. A call that is turned back has its number
-// and the record's place (0 where no record is at fault), and the calls after it go on as if it had not been.
+// Scope 9, the shows without a star, and shows of our own, rehearsals with cues among them, on the proved switch
+// against a shadow switch that was written apart: a line for each show, with what came of each call. A slot call that
+// is turned back has its number and the record's place (0 where no record is at fault), a call of cues its number
+// alone, and the calls after it go on as if it had not been.
 mod made;
+mod rehearsal;
 mod say;
 mod shadow;
+mod shadow_cues;
 mod stage;
 mod wrong;
 
@@ -25,6 +28,7 @@ fn main() {
     ranks();
     matchings();
     made::show_all();
+    rehearsal::show_all();
 }
 
 // `rank=05` gives 9, by the reader.

@@ -56,6 +56,21 @@ fn say_departure(answer: &Answer, at: usize, after: bool)
     tell_word(b" to ", answer, at + 8);
 }
 
+// A call of cues in words, and its result. A byte 0 is said as `\0`.
+pub(crate) fn say_call(call: &[u8], result: u32) {
+    let mut k = 0;
+    while k < call.len() {
+        if call[k] == 0 {
+            say(b"\\0");
+        } else {
+            say(&call[k..k + 1]);
+        }
+        k += 1;
+    }
+    tell(b": ", result as u64);
+    say(b", ");
+}
+
 // The tally's cells.
 pub(crate) fn say_cells(tally: &Tally) {
     tell_word(b"cells in ", tally, 16);

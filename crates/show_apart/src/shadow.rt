@@ -35,6 +35,11 @@ pub(crate) fn fresh(ports: u32, first: u32) -> Shadow {
     shadow
 }
 
+// The number of the next slot.
+pub(crate) fn clock(shadow: &Shadow) -> u32 {
+    shadow[CLOCK]
+}
+
 // Takes a slot. A record is the number of the call, which is not looked at, then input, output, flow, rank and tag.
 // The result is 0, or the number of the refusal and 16 times the record's place. What each of sixteen outputs sends
 // goes into `sent`, in the seven numbers of a place.

@@ -74,8 +74,22 @@ pub(crate) fn play(
     same
 }
 
+// Where the rows of a call begin.
+pub(crate) fn start_of(rows: &[[u32; 6]], call: u32) -> usize
+    ensures { λ r. ⌜ r ≤ length (now (rows .entry)) ⌝ }
+{
+    let mut k = 0;
+    while k < rows.len() {
+        if rows[k][0] == call {
+            return k;
+        }
+        k += 1;
+    }
+    k
+}
+
 // Where the rows of a call end that begin at a place.
-fn end_of(rows: &[[u32; 6]], at: usize, call: u32) -> usize
+pub(crate) fn end_of(rows: &[[u32; 6]], at: usize, call: u32) -> usize
     requires { ⌜ at ≤ length (now rows) ⌝ }
     ensures { λ r. ⌜ (at ≤ r) × (r ≤ length (now (rows .entry))) ⌝ }
 {
@@ -90,7 +104,7 @@ fn end_of(rows: &[[u32; 6]], at: usize, call: u32) -> usize
 }
 
 // A slot call to both switches, told. Whether they agree in its result and its departures.
-fn step(
+pub(crate) fn step(
     table: &mut Table,
     tally: &mut Tally,
     shadow: &mut Shadow,

@@ -30,7 +30,7 @@ use Rattle.model.specs.State.{Switch, cells}
 use Rattle.model.specs.Checks.{Outcome, done, refused, fault, faultFrom, firstFault}
 use Rattle.model.specs.Crossbar.{Course, run, slot}
 use Rattle.model.specs.Tally.{tallyAfter}
-use Rattle.model.proofs.Admitted.{faultless}
+use Rattle.model.proofs.Admitted.{faultless, few-records}
 use Rattle.model.proofs.CheckOrder.{slot-clock-end, faults-first, faults-next}
 use Rattle.layout.specs.Answer.{answerSize}
 use Rattle.layout.specs.Entry.{clockIn}
@@ -282,28 +282,7 @@ module _ (ports : ℕ) (waiting : List Cell) where
           faults-next ports waiting place before c (cs ++ more) q
           ∙ again (sym (faults-next ports waiting place before c cs q) ∙ e)
 
-  -- inputs rise, so there are no more records without a fault than ports
-  none-few : ports ≤ portLimit → (place : ℕ) (before : Option Cell) (cs : List Cell) → turnAfter before ≤ portLimit
-      → faultFrom ports waiting place before cs ≡ none → turnAfter before + length cs ≤ portLimit
-  unfolding faultFrom turnAfter
-  none-few p place before [] t e = omega arith
-  none-few p place before (c ∷ cs) t e =
-      go (fault ports waiting before c) refl (λ h q. none-few p (place + 1) (some c) cs h q)
-    where
-      go : (o : Option Refusal) → fault ports waiting before c ≡ o
-          → (c .input + 1 ≤ portLimit → faultFrom ports waiting (place + 1) (some c) cs ≡ none → c .input + 1 + length cs ≤ portLimit)
-          → turnAfter before + suc (length cs) ≤ portLimit
-      go (some r) q again =
-          absurd (Option·some-ne-none (r, place) (sym (faults-first ports waiting place before c cs q) ∙ e))
-      go none q again =
-          let w = faultless ports waiting before c q in
-          let low : c .input < ports = port-input ports c (w .port) in
-          let late : turnAfter before ≤ c .input = ltb-false (c .input) (turnAfter before) (turn-after before c ∙ w .turn) in
-          let rest : c .input + 1 + length cs ≤ portLimit =
-          again (omega arith) (sym (faults-next ports waiting place before c cs q) ∙ e) in
-          omega arith
-
-  -- so the first seventeen records tell
+  -- inputs rise, so there are no more records without a fault than ports, and the first seventeen tell
   fault-first : ports ≤ portLimit → (cs : List Cell) → 17 ≤ length cs
       → (f : Refusal × ℕ) × (firstFault ports waiting (take 17 cs) ≡ some f) × (firstFault ports waiting cs ≡ some f)
   unfolding firstFault turnAfter
@@ -313,7 +292,7 @@ module _ (ports : ℕ) (waiting : List Cell) where
           → (f : Refusal × ℕ)
           × (faultFrom ports waiting 1 none (take 17 cs) ≡ some f) × (faultFrom ports waiting 1 none cs ≡ some f)
       go none q =
-          absurd (omega (arith, length-take-le 17 cs many, none-few p 1 none (take 17 cs) (omega arith) q))
+          absurd (omega (arith, length-take-le 17 cs many, few-records ports waiting (take 17 cs) q))
       go (some f) q =
           (f, q, ap (faultFrom ports waiting 1 none) (sym (take-append-drop 17 cs)) ∙ fault-front 1 none (take 17 cs) (drop 17 cs) f q)
 

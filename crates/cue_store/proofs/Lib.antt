@@ -1,0 +1,9 @@
+pub mod Accepted
+pub mod CueNames
+pub mod Found
+pub mod NameLoops
+pub mod NameRows
+pub mod Names
+pub mod PlaceBytes
+pub mod PlaceLoops
+pub mod PlaceTests

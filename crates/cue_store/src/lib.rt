@@ -1,0 +1,4 @@
+// The bytes of a cue store as code: names, places, and whether bytes are a store.
+pub mod check;
+pub mod name;
+pub mod place;
