@@ -1,11 +1,13 @@
 /* A buffered crossbar of up to sixteen ports. This header is the whole manual of the host; examples/host.c is an
-   example of it.
+   example of it, and examples/rehearsal.c one of its cues.
 
    The switch is a table of bytes that the host keeps and lends to every call: start makes one, slot runs it for one
-   slot, check says whether bytes are one. No call asks anything of the values that it is lent: a bad one is a refusal.
-   A call keeps nothing, allocates nothing and has no state of its own, so any number of threads may call, each with
-   bytes of its own. A pointer to no bytes may be null: an empty slot is lent NULL, 0. Any other pointer is to as many
-   bytes as the number behind it says, and what one call is lent does not overlap. docs/LAYOUT.md has every byte. */
+   slot, check says whether bytes are one. Up to four cues hold the whole switch, each under a name, to come back to;
+   they are kept in a cue store, bytes of the host as well. No call asks anything of the values that it is lent: a bad
+   one is a refusal. A call keeps nothing, allocates nothing and has no state of its own, so any number of threads may
+   call, each with bytes of its own. A pointer to no bytes may be null: an empty slot is lent NULL, 0. Any other pointer
+   is to as many bytes as the number behind it says, and what one call is lent does not overlap. docs/LAYOUT.md has
+   every byte. */
 #ifndef CROSSBAR_H
 #define CROSSBAR_H
 
@@ -16,15 +18,16 @@
 extern "C" {
 #endif
 
-/* The version of this header and of the library that it describes, and the number of the table's layout, with which
-   every table begins. */
-#define CROSSBAR_VERSION "2.1.0"
+/* The version of this header and of the library that it describes, and the number of the layout, with which every table
+   and every cue store begins. */
+#define CROSSBAR_VERSION "2.2.0"
 #define CROSSBAR_LAYOUT 1u
 
 /* Limits. */
 #define CROSSBAR_PORTS 16u /* ports at most */
 #define CROSSBAR_FLOWS 8u  /* flows of an input and output */
 #define CROSSBAR_CELLS 64u /* cells of an input in the switch at most */
+#define CROSSBAR_CUES 4u   /* cues in a store at most */
 
 /* Sizes in bytes. */
 #define CROSSBAR_TABLE_BYTES 16416u
@@ -32,10 +35,12 @@ extern "C" {
 #define CROSSBAR_DEPARTURE_BYTES 28u  /* 1 and input, output, flow, rank, tag, slot; or zeros */
 #define CROSSBAR_ANSWER_BYTES 584u    /* 16 departures, then the proposals and the occupancies of both phases */
 #define CROSSBAR_TALLY_BYTES 32u      /* slots run, slots refused, cells in, cells out: 64 bits each */
+#define CROSSBAR_NAME_BYTES 8u        /* a cue's name at most */
+#define CROSSBAR_STORE_BYTES 65712u   /* 16 bytes, then four places, a name and a table each */
 
 /* Refusals. 0 is done. */
 #define CROSSBAR_BAD_SIZE 1u      /* bad size: the number of ports is not 1 to 16 */
-#define CROSSBAR_BROKEN_TABLE 2u  /* broken table: the lent table is not sound, or its length is wrong */
+#define CROSSBAR_BROKEN_TABLE 2u  /* broken table: the lent table or cue store is not sound, or its length is wrong */
 #define CROSSBAR_CLOCK_END 3u     /* clock end: the clock is at 4,294,967,295 */
 #define CROSSBAR_NO_SUCH_PORT 4u  /* no such port: an input or an output is not below the number of ports */
 #define CROSSBAR_NO_SUCH_FLOW 5u  /* no such flow: a flow is above 7 */
@@ -44,6 +49,9 @@ extern "C" {
 #define CROSSBAR_FULL 8u          /* full: 64 cells of this input are in the switch */
 #define CROSSBAR_BAD_LINE 9u      /* bad line: the text breaks the grammar */
 #define CROSSBAR_SHORT_BUFFER 10u /* short tray: the buffer for an answer is too short */
+#define CROSSBAR_BAD_NAME 11u     /* bad name: the name of a cue is not 1 to 8 lower-case letters */
+#define CROSSBAR_CUES_FULL 12u    /* cues full: four cues are held, and none of this name */
+#define CROSSBAR_NO_SUCH_CUE 13u  /* no such cue: no cue of this name is held */
 
 /* The result of slot, taken apart. */
 #define CROSSBAR_REFUSAL(result) ((uint32_t)((result) & 255u)) /* 0, or a refusal */
@@ -68,11 +76,11 @@ uint32_t check(const uint8_t *table, size_t table_bytes);
    Done, the result is 0. table is the switch after the slot, its clock one up. The first CROSSBAR_ANSWER_BYTES of
    answer are the departures, output 0 first, then the proposals of both phases, then for each phase the occupancies,
    output 0 first; bytes past them are kept. tally counts one slot run, the cells that arrived and those that departed;
-   a count at its top stays there. On a table that came from start by slot calls alone, the departures are those of a
-   PIFO output-queued switch: each output sends, of all cells for it in the switch, the one of the smallest rank; for
-   equal ranks that of the smaller slot. Among cells of equal rank and slot s, that of input s mod N goes first, then
-   the next, round to the start; N is the number of ports, and s the slot in which the cells were accepted, not the
-   clock.
+   a count at its top stays there. On a table that came from start by slot calls and by returns to cues of such tables
+   alone, the departures are those of a PIFO output-queued switch: each output sends, of all cells for it in the
+   switch, the one of the smallest rank; for equal ranks that of the smaller slot. Among cells of equal rank and slot s,
+   that of input s mod N goes first, then the next, round to the start; N is the number of ports, and s the slot in
+   which the cells were accepted, not the clock.
 
    A table kept from version 2.0.0, where the smaller input went first, is still taken as it is, and its ties go by this
    order too. If cells of equal rank and slot waited in it for one output, its departures are sure to be those of a PIFO
@@ -96,6 +104,47 @@ uint32_t check(const uint8_t *table, size_t table_bytes);
    again. */
 uint64_t slot(uint8_t *table, size_t table_bytes, const uint8_t *arrivals, size_t arrivals_bytes, uint8_t *answer,
               size_t answer_bytes, uint8_t *tally, size_t tally_bytes);
+
+/* Cues. A cue holds the whole switch as it was when the cue was set, clock included, under a name of 1 to
+   CROSSBAR_NAME_BYTES lower-case letters, a to z. A name is lent without a zero behind it: "intro", 5. A cue store has
+   four places, each free or with a cue.
+
+   A store is sound if its names are well formed, no two are alike, and each cue holds a sound table, of any number of
+   ports and any clock; so one store may have cues of switches of several sizes. Anything else lent as a store, be it a
+   sound one with a byte more, is refused with CROSSBAR_BROKEN_TABLE.
+
+   No cue call is lent a tally, so the tally is never wound back: slots that are played, returned from and played again
+   count twice. A refused call changes nothing. */
+
+/* Writes a store without cues into the first CROSSBAR_STORE_BYTES of store; bytes past it are kept. Returns 0, or,
+   changing nothing, CROSSBAR_SHORT_BUFFER. */
+uint32_t cue_start(uint8_t *store, size_t store_bytes);
+
+/* Says whether bytes are a sound cue store: 0, or CROSSBAR_BROKEN_TABLE. Changes nothing. */
+uint32_t cue_check(const uint8_t *store, size_t store_bytes);
+
+/* Sets a cue: under name the store then holds the switch of table. A name that is held is replaced in its place, also
+   where four are held; a new name takes the lowest free place. The other cues are kept. Returns 0, or the first fault
+   in this order:
+     CROSSBAR_BROKEN_TABLE  table is not sound or not CROSSBAR_TABLE_BYTES long, or store is not sound or not
+                            CROSSBAR_STORE_BYTES long
+     CROSSBAR_BAD_NAME
+     CROSSBAR_CUES_FULL     the name is new and four cues are held */
+uint32_t cue_set(const uint8_t *table, size_t table_bytes, uint8_t *store, size_t store_bytes, const uint8_t *name,
+                 size_t name_bytes);
+
+/* Drops a cue, which frees its place for another; the other cues keep theirs. Returns 0, or the first fault in this
+   order: CROSSBAR_BROKEN_TABLE of the store, CROSSBAR_BAD_NAME, CROSSBAR_NO_SUCH_CUE. */
+uint32_t cue_drop(uint8_t *store, size_t store_bytes, const uint8_t *name, size_t name_bytes);
+
+/* Returns to a cue: table is then the switch that the cue holds, with its number of ports and its clock. No cue is
+   dropped, so the host may return to it again. Every slot until the next return answers as if the slots since the cue
+   had not been played. Returns 0, or the first fault in this order:
+     CROSSBAR_BROKEN_TABLE  as for cue_set; table has to be sound although it is written over
+     CROSSBAR_BAD_NAME
+     CROSSBAR_NO_SUCH_CUE */
+uint32_t cue_return(uint8_t *table, size_t table_bytes, const uint8_t *store, size_t store_bytes, const uint8_t *name,
+                    size_t name_bytes);
 
 #ifdef __cplusplus
 }

@@ -1,5 +1,5 @@
-//! Safe calls of the crossbar: a switch, what a slot answers, the tally, and refusals. The promises of the three calls are
-//! in include/crossbar.h, the layouts in docs/LAYOUT.md. It links target/staticlib/libcrossbar.a.
+//! Safe calls of the crossbar: a switch, what a slot answers, the tally, cues to come back to, and refusals. The promises of
+//! the calls are in include/crossbar.h, the layouts in docs/LAYOUT.md. It links target/staticlib/libcrossbar.a.
 
 pub const PORTS: usize = 16;
 pub const TABLE_BYTES: usize = 16416;
@@ -7,6 +7,9 @@ pub const ARRIVAL_BYTES: usize = 20;
 pub const DEPARTURE_BYTES: usize = 28;
 pub const ANSWER_BYTES: usize = 584;
 pub const TALLY_BYTES: usize = 32;
+pub const CUES: usize = 4;
+pub const NAME_BYTES: usize = 8;
+pub const STORE_BYTES: usize = 65712;
 
 mod raw {
     extern "C" {
@@ -22,10 +25,29 @@ mod raw {
             tally: *mut u8,
             tally_bytes: usize,
         ) -> u64;
+        pub fn cue_start(store: *mut u8, store_bytes: usize) -> u32;
+        pub fn cue_check(store: *const u8, store_bytes: usize) -> u32;
+        pub fn cue_set(
+            table: *const u8,
+            table_bytes: usize,
+            store: *mut u8,
+            store_bytes: usize,
+            name: *const u8,
+            name_bytes: usize,
+        ) -> u32;
+        pub fn cue_drop(store: *mut u8, store_bytes: usize, name: *const u8, name_bytes: usize) -> u32;
+        pub fn cue_return(
+            table: *mut u8,
+            table_bytes: usize,
+            store: *const u8,
+            store_bytes: usize,
+            name: *const u8,
+            name_bytes: usize,
+        ) -> u32;
     }
 }
 
-/// The three calls on byte slices, as the host has them.
+/// The calls on byte slices, as the host has them.
 pub fn start_bytes(ports: u32, first: u32, table: &mut [u8]) -> u32 {
     unsafe { raw::start(ports, first, table.as_mut_ptr(), table.len()) }
 }
@@ -49,12 +71,36 @@ pub fn slot_bytes(table: &mut [u8], arrivals: &[u8], answer: &mut [u8], tally: &
     }
 }
 
+pub fn cue_start_bytes(store: &mut [u8]) -> u32 {
+    unsafe { raw::cue_start(store.as_mut_ptr(), store.len()) }
+}
+
+pub fn cue_check_bytes(store: &[u8]) -> u32 {
+    unsafe { raw::cue_check(store.as_ptr(), store.len()) }
+}
+
+pub fn cue_set_bytes(table: &[u8], store: &mut [u8], name: &[u8]) -> u32 {
+    unsafe {
+        raw::cue_set(table.as_ptr(), table.len(), store.as_mut_ptr(), store.len(), name.as_ptr(), name.len())
+    }
+}
+
+pub fn cue_drop_bytes(store: &mut [u8], name: &[u8]) -> u32 {
+    unsafe { raw::cue_drop(store.as_mut_ptr(), store.len(), name.as_ptr(), name.len()) }
+}
+
+pub fn cue_return_bytes(table: &mut [u8], store: &[u8], name: &[u8]) -> u32 {
+    unsafe {
+        raw::cue_return(table.as_mut_ptr(), table.len(), store.as_ptr(), store.len(), name.as_ptr(), name.len())
+    }
+}
+
 /// Why a call was turned back.
 #[derive(Clone, Copy, Debug, PartialEq, Eq)]
 pub enum Refusal {
     /// bad size: the number of ports is not 1 to 16
     BadSize,
-    /// broken table: the lent table is not sound, or its length is wrong
+    /// broken table: the lent table or cue store is not sound, or its length is wrong
     BrokenTable,
     /// clock end: the clock is at 4,294,967,295
     ClockEnd,
@@ -72,6 +118,12 @@ pub enum Refusal {
     BadLine,
     /// short tray: the buffer for an answer is too short
     ShortBuffer,
+    /// bad name: the name of a cue is not 1 to 8 lower-case letters
+    BadName,
+    /// cues full: four cues are held, and none of this name
+    CuesFull,
+    /// no such cue: no cue of this name is held
+    NoSuchCue,
 }
 
 impl Refusal {
@@ -81,8 +133,18 @@ impl Refusal {
 
     fn from_number(n: u32) -> Refusal {
         use Refusal::*;
-        [BadSize, BrokenTable, ClockEnd, NoSuchPort, NoSuchFlow, InputOrder, RankOrder, Full, BadLine, ShortBuffer]
-            [n as usize - 1]
+        [
+            BadSize, BrokenTable, ClockEnd, NoSuchPort, NoSuchFlow, InputOrder, RankOrder, Full, BadLine, ShortBuffer,
+            BadName, CuesFull, NoSuchCue,
+        ][n as usize - 1]
+    }
+
+    /// What a call without an answer says: 0 is done.
+    fn of(n: u32) -> Result<(), Refusal> {
+        match n {
+            0 => Ok(()),
+            n => Err(Refusal::from_number(n)),
+        }
     }
 }
 
@@ -149,18 +211,14 @@ impl Switch {
     /// A fresh switch of 1 to 16 ports.
     pub fn start(ports: u32, first: u32) -> Result<Switch, Refusal> {
         let mut table = vec![0; TABLE_BYTES];
-        match start_bytes(ports, first, &mut table) {
-            0 => Ok(Switch { table, tally: [0; TALLY_BYTES] }),
-            n => Err(Refusal::from_number(n)),
-        }
+        Refusal::of(start_bytes(ports, first, &mut table))?;
+        Ok(Switch { table, tally: [0; TALLY_BYTES] })
     }
 
     /// The switch of a table that was kept, if it is sound.
     pub fn from_table(table: Vec<u8>) -> Result<Switch, Refusal> {
-        match check_bytes(&table) {
-            0 => Ok(Switch { table, tally: [0; TALLY_BYTES] }),
-            n => Err(Refusal::from_number(n)),
-        }
+        Refusal::of(check_bytes(&table))?;
+        Ok(Switch { table, tally: [0; TALLY_BYTES] })
     }
 
     pub fn table(&self) -> &[u8] {
@@ -188,6 +246,52 @@ impl Switch {
             0 => Ok(read_answer(&answer, self.ports())),
             r => Err(Refused { refusal: Refusal::from_number((r % 256) as u32), place: (r / 256) as u32 }),
         }
+    }
+}
+
+/// Up to four cues, each with a name and the whole switch to come back to.
+pub struct Cues {
+    store: Vec<u8>,
+}
+
+impl Cues {
+    /// No cue is held.
+    pub fn start() -> Cues {
+        let mut store = vec![0; STORE_BYTES];
+        assert_eq!(cue_start_bytes(&mut store), 0, "a store has room for a store");
+        Cues { store }
+    }
+
+    /// The cues of a store that was kept, if it is sound.
+    pub fn from_store(store: Vec<u8>) -> Result<Cues, Refusal> {
+        Refusal::of(cue_check_bytes(&store))?;
+        Ok(Cues { store })
+    }
+
+    pub fn store(&self) -> &[u8] {
+        &self.store
+    }
+
+    /// The names of the cues that are held, in the order of their places.
+    pub fn names(&self) -> Vec<String> {
+        let name = |place: &[u8]| place[..NAME_BYTES].iter().take_while(|&&b| b != 0).map(|&b| b as char).collect();
+        let places = self.store[16..].chunks(NAME_BYTES + TABLE_BYTES);
+        places.map(name).filter(|name: &String| !name.is_empty()).collect()
+    }
+
+    /// Holds the switch under this name, in the place of an older cue of the name or in the lowest free one.
+    pub fn set(&mut self, name: &str, switch: &Switch) -> Result<(), Refusal> {
+        Refusal::of(cue_set_bytes(&switch.table, &mut self.store, name.as_bytes()))
+    }
+
+    /// Frees the place of a cue.
+    pub fn drop_cue(&mut self, name: &str) -> Result<(), Refusal> {
+        Refusal::of(cue_drop_bytes(&mut self.store, name.as_bytes()))
+    }
+
+    /// Brings the switch back to where the cue was set. Its tally goes on, and the cue is kept.
+    pub fn return_to(&self, name: &str, switch: &mut Switch) -> Result<(), Refusal> {
+        Refusal::of(cue_return_bytes(&mut switch.table, &self.store, name.as_bytes()))
     }
 }
 

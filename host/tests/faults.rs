@@ -1,4 +1,5 @@
-//! A rule that is wrong in one point is noticed: on random slots from a fresh switch the wrong switch parts from the right one.
+//! A rule that is wrong in one point is noticed: on random slots from a fresh switch, and among them calls of cues, the wrong
+//! switch parts from the right one.
 //!
 //! SLOTS=n and SEED=n in the environment run the right rules longer, or other lists.
 
@@ -7,6 +8,7 @@ mod reference;
 mod traffic;
 
 use random::{setting, Random};
+use reference::cues::{Call, Rehearsal};
 use reference::{Cell, Crossbar, Fault, Pifo, Place, Record};
 use traffic::Traffic;
 
@@ -39,6 +41,19 @@ const AGAINST_THE_ANSWER: [Fault; 4] = [
     Fault::OccupancyBeforeCellsAreSent,
     Fault::OccupancyAfterCellsAreTaken,
     Fault::NoOccupancyWhereACellCameStraight,
+];
+
+/// Wrong rules of cues that demand 3 finds out.
+const CUES_AGAINST_DEMAND_3: [Fault; 9] = [
+    Fault::NamesBySevenLetters,
+    Fault::HeldNameKeepsItsSwitch,
+    Fault::HeldNameTakesASecondPlace,
+    Fault::FullBeforeAHeldName,
+    Fault::FifthNameTakesTheLastPlace,
+    Fault::DroppedCueStays,
+    Fault::ReturnDropsTheCue,
+    Fault::ClockKeptOnReturn,
+    Fault::PifoKeptOnReturn,
 ];
 
 /// How many cells of a place each port has, the port being the cell's input or its output.
@@ -144,4 +159,70 @@ fn wrong_counts_are_noticed() {
         println!("{fault:?}: {calls:?}");
         assert!(calls.is_some(), "{fault:?} goes unnoticed");
     }
+}
+
+/// The two rehearsals that a run compares, with no cue held. The PIFO switch goes wrong by its own fault alone.
+fn rehearsals(fault: Option<Fault>, ports: u32, first: u32) -> (Rehearsal<Crossbar>, Rehearsal<Pifo>) {
+    let (crossbar, pifo) = (Rehearsal::fresh(ports, first), Rehearsal::fresh(ports, first));
+    match fault {
+        None => (crossbar, pifo),
+        Some(Fault::PifoKeptOnReturn) => (crossbar, pifo.with_fault(Fault::PifoKeptOnReturn)),
+        Some(f) => (crossbar.with_fault(f), pifo),
+    }
+}
+
+/// As `noticed`, of random lists of slots and calls of cues.
+fn noticed_of_cues<R>(most: u64, right: impl Fn(u32, u32) -> R) -> Option<u64>
+where
+    R: FnMut(&Call) -> bool,
+{
+    let mut r = Random(setting("SEED", 1) * 2 + 88172645463325252);
+    let mut calls = 0;
+    while calls < most {
+        let (ports, first) = (1 + r.below(8) as u32, r.below(1000) as u32);
+        let mut shown: Rehearsal<Crossbar> = Rehearsal::fresh(ports, first);
+        let mut judge = right(ports, first);
+        let mut traffic = Traffic::new(&mut r, ports);
+        for _ in 0..60 {
+            let call = traffic.call(&mut r, &shown.switch);
+            calls += 1;
+            if !judge(&call) {
+                return Some(calls);
+            }
+            let _ = shown.call(&call);
+        }
+    }
+    None
+}
+
+fn cues_against_demand_3(fault: Option<Fault>, most: u64) -> Option<u64> {
+    noticed_of_cues(most, |ports, first| {
+        let (mut crossbar, mut pifo) = rehearsals(fault, ports, first);
+        move |call: &Call| crossbar.call(call) == pifo.call(call)
+    })
+}
+
+#[test]
+fn the_right_rules_of_cues_pass() {
+    assert_eq!(cues_against_demand_3(None, setting("SLOTS", 100_000)), None);
+}
+
+#[test]
+fn wrong_rules_of_cues_are_noticed() {
+    for fault in CUES_AGAINST_DEMAND_3 {
+        let calls = cues_against_demand_3(Some(fault), MOST);
+        println!("{fault:?}: {calls:?}");
+        assert!(calls.is_some(), "{fault:?} goes unnoticed");
+    }
+}
+
+/// No answer tells which place a new name took; the store does.
+#[test]
+fn a_wrong_place_is_noticed() {
+    let calls = noticed_of_cues(MOST, |ports, first| {
+        let mut right: Rehearsal<Crossbar> = Rehearsal::fresh(ports, first);
+        let mut wrong = right.clone().with_fault(Fault::NewNameTakesTheHighestFreePlace);
+        move |call: &Call| right.call(call) == wrong.call(call) && right.cues.store() == wrong.cues.store()
+    });
+    assert!(calls.is_some());
 }

@@ -10,99 +10,12 @@ mod traffic;
 
 use crossbar_host::{check_bytes, slot_bytes, start_bytes, ANSWER_BYTES, TABLE_BYTES, TALLY_BYTES};
 use random::{setting, Random};
-use reference::{Answer, Cell, Crossbar, Entry, Pifo, Place, Record, CLOCK_END};
-use traffic::Traffic;
-
-fn bytes_of(records: &[Record]) -> Vec<u8> {
-    records.iter().flatten().flat_map(|n| n.to_le_bytes()).collect()
-}
-
-/// The answer's bytes, by docs/LAYOUT.md.
-fn answer_bytes(a: &Answer) -> Vec<u8> {
-    let mut out = vec![0; ANSWER_BYTES];
-    for (o, d) in a.departures.iter().enumerate() {
-        if let Some(c) = d {
-            for (k, n) in [1, c.input, c.output, c.flow, c.rank, c.tag, c.slot].iter().enumerate() {
-                out[28 * o + 4 * k..][..4].copy_from_slice(&n.to_le_bytes());
-            }
-        }
-    }
-    out[448..452].copy_from_slice(&a.proposals[0].to_le_bytes());
-    out[452..456].copy_from_slice(&a.proposals[1].to_le_bytes());
-    for (first, occupancies) in [456, 520].into_iter().zip(&a.occupancies) {
-        for (o, n) in occupancies.iter().enumerate() {
-            out[first + 4 * o..][..4].copy_from_slice(&n.to_le_bytes());
-        }
-    }
-    out
-}
-
-fn raised(tally: &mut [u8], counts: [u64; 4]) {
-    for (k, by) in counts.iter().enumerate() {
-        let at = &mut tally[8 * k..8 * k + 8];
-        let n = u64::from_le_bytes(at.try_into().unwrap());
-        at.copy_from_slice(&n.saturating_add(*by).to_le_bytes());
-    }
-}
-
-/// A sound state with so many cells an input at most, not only those that a fresh switch can reach.
-fn any_state(r: &mut Random, ports: u32, most: u64) -> Crossbar {
-    let clock = r.pick(&[5000, 1 << 20, CLOCK_END, CLOCK_END - 1]);
-    let mut s = Crossbar::fresh(ports, clock);
-    let outputs = r.pick(&[1, 2, ports as u64]).min(ports as u64);
-    let ranks = r.pick(&[2, 10, 1 << 32]);
-    for input in 0..ports {
-        let size = r.below(most + 1) as usize;
-        let mut slot = r.below(100) as u32;
-        let mut crossed = [false; 16];
-        let mut used = [[false; 8]; 16];
-        let mut tries = 0;
-        while s.sections[input as usize].len() < size && tries < 500 {
-            tries += 1;
-            let (output, flow) = (r.below(outputs) as u32, r.below(8) as u32);
-            let mut rank = r.below(ranks) as u32;
-            let place = r.pick(&[Place::List, Place::List, Place::Crosspoint, Place::Buffer]);
-            let mut run = 1;
-            match place {
-                Place::Crosspoint if crossed[output as usize] => continue,
-                Place::Crosspoint => crossed[output as usize] = true,
-                Place::List if used[output as usize][flow as usize] => continue,
-                Place::List => {
-                    used[output as usize][flow as usize] = true;
-                    run = 1 + r.below(3);
-                }
-                Place::Buffer => (),
-            }
-            for _ in 0..run {
-                if s.sections[input as usize].len() == size {
-                    break;
-                }
-                slot += 1 + r.below(40) as u32;
-                let cell = Cell { input, output, flow, rank, tag: r.next() as u32, slot };
-                s.sections[input as usize].push(Entry { cell, place });
-                rank = rank.saturating_add(r.below(2) as u32);
-            }
-        }
-        // Entries that are in no list may stand anywhere between.
-        for _ in 0..3 {
-            let section = &mut s.sections[input as usize];
-            if section.is_empty() {
-                continue;
-            }
-            let at = r.below(section.len() as u64) as usize;
-            if section[at].place != Place::List {
-                let e = section.remove(at);
-                let to = r.below(section.len() as u64 + 1) as usize;
-                section.insert(to, e);
-            }
-        }
-    }
-    s
-}
+use reference::{raised, record_bytes, Answer, Crossbar, Pifo, Record, CLOCK_END};
+use traffic::{any_state, Traffic};
 
 /// One call on the proved switch and on the reference: results and every byte lent.
 fn call(r: &mut Random, table: &mut Vec<u8>, s: &mut Crossbar, records: &[Record], what: &str) -> Result<Answer, (u32, u32)> {
-    let mut arrivals = bytes_of(records);
+    let mut arrivals = record_bytes(records);
     let broken = r.one_in(97);
     if broken {
         let extra = 1 + r.below(19) as usize;
@@ -129,7 +42,7 @@ fn call(r: &mut Random, table: &mut Vec<u8>, s: &mut Crossbar, records: &[Record
     };
     let want = match &expected {
         Ok(a) => {
-            want_answer[..ANSWER_BYTES].copy_from_slice(&answer_bytes(a));
+            want_answer[..ANSWER_BYTES].copy_from_slice(&a.bytes());
             raised(&mut want_tally, [1, 0, records.len() as u64, a.departures.iter().flatten().count() as u64]);
             0
         }
@@ -287,7 +200,7 @@ fn from_any_sound_table() {
 /// Plays a slot on the table and gives its answer.
 fn played(table: &mut [u8], records: &[Record]) -> [u8; ANSWER_BYTES] {
     let (mut answer, mut tally) = ([9; ANSWER_BYTES], [0; TALLY_BYTES]);
-    assert_eq!(slot_bytes(table, &bytes_of(records), &mut answer, &mut tally), 0);
+    assert_eq!(slot_bytes(table, &record_bytes(records), &mut answer, &mut tally), 0);
     answer
 }
 
@@ -362,7 +275,7 @@ fn occupancies_by_hand() {
 /// A refusal, with its record's place, changes the tally alone.
 fn refused(table: &[u8], records: &[Record], answer_room: usize, number: u64, place: u64) {
     let (mut t, mut answer, mut tally) = (table.to_vec(), vec![9; answer_room], [0; TALLY_BYTES]);
-    assert_eq!(slot_bytes(&mut t, &bytes_of(records), &mut answer, &mut tally), number + 256 * place);
+    assert_eq!(slot_bytes(&mut t, &record_bytes(records), &mut answer, &mut tally), number + 256 * place);
     let mut counted = [0; TALLY_BYTES];
     counted[8] = 1;
     assert!(t == table && answer == vec![9; answer_room] && tally == counted, "after refusal {number}");

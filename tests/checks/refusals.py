@@ -3,8 +3,8 @@ import re
 
 from checks.files import fault_at, line_at, read
 
-# The player checks no table and lends no buffer, so what speaks of it leaves these out.
-NOT_OF_THE_PLAYER = {2, 10}
+# The player checks no table, lends no buffer and has no cues, so what speaks of it leaves these out.
+NOT_OF_THE_PLAYER = {2, 10, 11, 12, 13}
 
 
 class Told:
@@ -104,13 +104,13 @@ def tellings():
 
 
 def refusal_faults():
-    scope, names, every = scope_refusals(), code_names(), set(range(1, 11))
+    scope, names, every = scope_refusals(), code_names(), set(range(1, 14))
     for path, numbers in (("docs/SCOPE.md", scope), ("crates/cell/src/lib.rt", names)):
         if set(numbers) != every:
-            yield f"{path}:1: the refusals are not numbered from 1 to 10"
+            yield f"{path}:1: the refusals are not numbered from 1 to 13"
             return
     for path, here, of_player in tellings():
         yield from compare(path, here, scope, names, every - NOT_OF_THE_PLAYER if of_player else every)
     yield from host_order(names)
-    for path in ("examples/README.md", "examples/host.c"):
+    for path in ("examples/README.md", "examples/host.c", "examples/rehearsal.c"):
         yield from mentions(path, scope, names)

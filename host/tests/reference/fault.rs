@@ -38,4 +38,24 @@ pub enum Fault {
     OccupancyAfterCellsAreTaken,
     /// 3.8: an output to which a cell came straight has the occupancy 0.
     NoOccupancyWhereACellCameStraight,
+    /// 13.1: names are the same if their first seven letters are.
+    NamesBySevenLetters,
+    /// 13.3: the cue of a held name stays as it was.
+    HeldNameKeepsItsSwitch,
+    /// 13.3: a held name takes a free place too.
+    HeldNameTakesASecondPlace,
+    /// 13.3: with four held, also a held name is refused with 12.
+    FullBeforeAHeldName,
+    /// 13.3: with four held, a new name writes over the cue in the last place.
+    FifthNameTakesTheLastPlace,
+    /// 13.3: a new name takes the highest free place.
+    NewNameTakesTheHighestFreePlace,
+    /// 13.4: a dropped cue is still held.
+    DroppedCueStays,
+    /// 13.5: a return drops the cue.
+    ReturnDropsTheCue,
+    /// 13.5: a return keeps the clock that the switch has.
+    ClockKeptOnReturn,
+    /// 13.9: the PIFO switch is not brought back.
+    PifoKeptOnReturn,
 }

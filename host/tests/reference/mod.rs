@@ -1,8 +1,9 @@
 //! A crossbar and a PIFO switch written from docs/SCOPE.md alone, clear rather than clever. They share the cell, its order
-//! and the checks of a record, as the scope says, and nothing with the proved code. `player` plays a trace on either. Either
-//! can be given one wrong rule, so that a test can show that it is noticed.
+//! and the checks of a record, as the scope says, and nothing with the proved code. `player` plays a trace on either, and
+//! either keeps cues. Either can be given one wrong rule, so that a test can show that it is noticed.
 #![allow(dead_code)] // each test uses a part of it
 
+pub mod cues;
 mod fault;
 pub mod player;
 
@@ -84,6 +85,42 @@ pub struct Answer {
     pub departures: Vec<Option<Cell>>,
     pub proposals: [u32; 2],
     pub occupancies: [Vec<u32>; 2],
+}
+
+impl Answer {
+    /// The answer's bytes, by docs/LAYOUT.md.
+    pub fn bytes(&self) -> Vec<u8> {
+        let mut out = vec![0; 584];
+        for (o, d) in self.departures.iter().enumerate() {
+            if let Some(c) = d {
+                for (k, n) in [1, c.input, c.output, c.flow, c.rank, c.tag, c.slot].iter().enumerate() {
+                    out[28 * o + 4 * k..][..4].copy_from_slice(&n.to_le_bytes());
+                }
+            }
+        }
+        out[448..452].copy_from_slice(&self.proposals[0].to_le_bytes());
+        out[452..456].copy_from_slice(&self.proposals[1].to_le_bytes());
+        for (first, occupancies) in [456, 520].into_iter().zip(&self.occupancies) {
+            for (o, n) in occupancies.iter().enumerate() {
+                out[first + 4 * o..][..4].copy_from_slice(&n.to_le_bytes());
+            }
+        }
+        out
+    }
+}
+
+/// The bytes of arrivals, by docs/LAYOUT.md.
+pub fn record_bytes(records: &[Record]) -> Vec<u8> {
+    records.iter().flatten().flat_map(|n| n.to_le_bytes()).collect()
+}
+
+/// Raises the counts of a tally; one at its top stays there.
+pub fn raised(tally: &mut [u8], counts: [u64; 4]) {
+    for (k, by) in counts.iter().enumerate() {
+        let at = &mut tally[8 * k..8 * k + 8];
+        let n = u64::from_le_bytes(at.try_into().unwrap());
+        at.copy_from_slice(&n.saturating_add(*by).to_le_bytes());
+    }
 }
 
 #[derive(Clone, Debug, PartialEq, Eq)]

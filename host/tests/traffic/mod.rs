@@ -1,8 +1,16 @@
-//! Random arrivals for the tests of slots: mostly such that the slot runs, some spoiled.
+//! Random arrivals for the tests of slots, mostly such that the slot runs, some spoiled; random calls of a rehearsal, and
+//! random states.
 #![allow(dead_code)] // each test uses a part of it
 
 use super::random::Random;
-use super::reference::{Cell, Crossbar, Record};
+use super::reference::cues::Call;
+use super::reference::{Cell, Crossbar, Entry, Place, Record, CLOCK_END};
+
+/// Names of cues: more than a store has places, some alike but for their ends.
+const NAMES: [&str; 7] = ["a", "z", "intro", "intros", "prologue", "prologus", "finale"];
+
+/// What is no name.
+const NO_NAMES: [&str; 4] = ["", "Intro", "act one", "interlude"];
 
 /// How a list of arrivals is drawn.
 pub struct Traffic {
@@ -41,7 +49,7 @@ impl Traffic {
             if r.below(100) >= self.load {
                 continue;
             }
-            let (output, mut flow) = (r.below(self.outputs), r.below(self.flows));
+            let (output, mut flow) = (r.below(self.outputs.min(s.ports as u64)), r.below(self.flows));
             let mut rank = r.below(self.ranks);
             if self.falling && output != 0 {
                 rank = (1u64 << 20).saturating_sub(10 * (s.clock as u64 & 0xffff)) + r.below(10);
@@ -64,6 +72,18 @@ impl Traffic {
         out
     }
 
+    /// A call of a rehearsal, slots for the most part.
+    pub fn call(&mut self, r: &mut Random, s: &Crossbar) -> Call {
+        let name = if r.one_in(30) { r.pick(&NO_NAMES) } else { r.pick(&NAMES) }.as_bytes().to_vec();
+        match r.below(12) {
+            0 | 1 => Call::Set(name),
+            2 => Call::Drop(name),
+            3 => Call::Return(name),
+            _ if r.one_in(60) => Call::Start(1 + r.below(16) as u32, s.clock),
+            _ => Call::Slot(self.records(r, s)),
+        }
+    }
+
     fn spoil(&self, r: &mut Random, out: &mut Vec<Record>, ports: u32) {
         if out.is_empty() {
             out.push([r.below(20) as u32, r.below(20) as u32, r.below(10) as u32, 0, 0]);
@@ -84,4 +104,59 @@ impl Traffic {
             }
         }
     }
+}
+
+/// A sound state with so many cells an input at most, not only those that a fresh switch can reach.
+pub fn any_state(r: &mut Random, ports: u32, most: u64) -> Crossbar {
+    let clock = r.pick(&[5000, 1 << 20, CLOCK_END, CLOCK_END - 1]);
+    let mut s = Crossbar::fresh(ports, clock);
+    let outputs = r.pick(&[1, 2, ports as u64]).min(ports as u64);
+    let ranks = r.pick(&[2, 10, 1 << 32]);
+    for input in 0..ports {
+        let size = r.below(most + 1) as usize;
+        let mut slot = r.below(100) as u32;
+        let mut crossed = [false; 16];
+        let mut used = [[false; 8]; 16];
+        let mut tries = 0;
+        while s.sections[input as usize].len() < size && tries < 500 {
+            tries += 1;
+            let (output, flow) = (r.below(outputs) as u32, r.below(8) as u32);
+            let mut rank = r.below(ranks) as u32;
+            let place = r.pick(&[Place::List, Place::List, Place::Crosspoint, Place::Buffer]);
+            let mut run = 1;
+            match place {
+                Place::Crosspoint if crossed[output as usize] => continue,
+                Place::Crosspoint => crossed[output as usize] = true,
+                Place::List if used[output as usize][flow as usize] => continue,
+                Place::List => {
+                    used[output as usize][flow as usize] = true;
+                    run = 1 + r.below(3);
+                }
+                Place::Buffer => (),
+            }
+            for _ in 0..run {
+                if s.sections[input as usize].len() == size {
+                    break;
+                }
+                slot += 1 + r.below(40) as u32;
+                let cell = Cell { input, output, flow, rank, tag: r.next() as u32, slot };
+                s.sections[input as usize].push(Entry { cell, place });
+                rank = rank.saturating_add(r.below(2) as u32);
+            }
+        }
+        // Entries that are in no list may stand anywhere between.
+        for _ in 0..3 {
+            let section = &mut s.sections[input as usize];
+            if section.is_empty() {
+                continue;
+            }
+            let at = r.below(section.len() as u64) as usize;
+            if section[at].place != Place::List {
+                let e = section.remove(at);
+                let to = r.below(section.len() as u64 + 1) as usize;
+                section.insert(to, e);
+            }
+        }
+    }
+    s
 }
