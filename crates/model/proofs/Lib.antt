@@ -1,11 +1,11 @@
 pub mod Accord
+pub mod AccordCues
 pub mod Admitted
 pub mod Bags
 pub mod Balance
 pub mod CellOrder
 pub mod CheckOrder
 pub mod CourseLimits
-pub mod CueAccord
 pub mod CueLaws
 pub mod CueSound
 pub mod Demand3

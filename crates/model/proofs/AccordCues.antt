@@ -1,4 +1,5 @@
--- The definitions give every rehearsal that was worked out by hand, and tell sound stores. Assumes nothing.
+-- The definitions give every rehearsal that was worked out by hand, and tell sound stores: before any law, as in Accord.
+-- Assumes nothing.
 use mathlib.Core.Bool.{true}
 use mathlib.Core.List.{flatten}
 use mathlib.Core.Path.{_≡_, refl}
