@@ -1,4 +1,4 @@
--- Laws of the three calls of the host: what they are refused for, and what a refusal keeps.
+-- Laws of start, check and slot on bytes: what they are refused for, and what a refusal keeps.
 use Prim.Native.Nat.{ℕ, _+_, _≤_, _<_}
 use mathlib.Core.Bool.{true, false}
 use mathlib.Core.Path.{_≡_, refl, _∙_, ap}

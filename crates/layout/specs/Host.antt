@@ -1,4 +1,4 @@
--- The three calls of the host on bytes: start, check and slot. Scope 6.1: for a slot the order
+-- The host's calls of a switch on bytes: start, check and slot; those of cues are in Cues. Scope 6.1: for a slot the order
 -- is 2, 10, 3, then record by record 4 to 8; at start 1 comes before 10. Bytes of a buffer past its answer are kept.
 use Prim.Native.Nat.{ℕ, _+_, _*_}
 use mathlib.Core.Bool.{true, false}
