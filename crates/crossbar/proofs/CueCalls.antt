@@ -22,7 +22,7 @@ use Rattle.layout.specs.Number.{bytesOf}
 use Rattle.layout.specs.Table.{encode, decode, isTable, stateOf, tableSize}
 use Rattle.layout.proofs.Cues.{is-store, isStore-some, decodeStore-length, setCall-table, setCall-store, setCall-cues}
 use Rattle.layout.proofs.Cues.{storeCall-short, storeCall-done, dropCall-store, dropCall-cues, returnCall-table, returnCall-store, returnCall-cues}
-use Rattle.layout.proofs.Table.{is-table, isTable-some, encode-decode, decode-sound, decode-length}
+use Rattle.layout.proofs.Table.{is-table, isTable-some, encode-decode, decode-length}
 use Rattle.model.proofs.CueLaws.{held, roomy, cue, set-bad, set-held, set-new, set-full, drop-bad, drop-held, drop-new}
 use Rattle.model.proofs.CueLaws.{return-bad, return-held, return-new}
 use Rattle.model.proofs.FirstPlace.{first-passes, first-most}
@@ -311,7 +311,7 @@ module _ (table store name : List ℕ) where
           (sets-cue ∙ set-at store name cues stands w s k (sym (e ∙ ap (placeFor store) is)) few)
           (p
           ∙ ap₂ (λ m bs. put (placeStart k) placeSize (bytesOf 8 m ++ bs) store) is (sym (encode-decode table s state))
-          ∙ put-cue store cues stands k name s few w (decode-sound table s state))
+          ∙ put-cue store cues stands k name s few w)
 
       pub return-lost : k ≡ placeOf store number → k ≡ cueLimit → (result : ℕ) → result ≡ 13
           → Returned (returnCall table store name) table result table

@@ -14,7 +14,7 @@ use lib.Seq.{take-at, drop-at, take-take, take-add, drop-drop, length-take-le, e
 use Rattle.laws.specs.Lists.{all?, upTo}
 use Rattle.laws.proofs.Lists.{all?-e, getD-mem}
 use Rattle.laws.proofs.Numbers.{length-numbersFrom, numbersFrom-at}
-use Rattle.laws.proofs.Tests.{and-i, and-l, eqb-turned}
+use Rattle.laws.proofs.Tests.{and-l, eqb-turned}
 use Rattle.model.specs.Cues.{cueLimit, nameLimit, wellNamed, firstPlace, isNamed, isFree}
 use Rattle.model.specs.Cues.{Cue, Cues, soundCue, soundCues}
 use Rattle.model.specs.Sound.{sound}
@@ -187,22 +187,22 @@ module _ (store : List ℕ) (cues : Cues Switch) (d : decodeStore store ≡ some
       ∙ ap (drop nameLimit) (place-at k few ∙ ap cueBytes e)
       ∙ drop-at (nameBytes (c .name)) (encode (c .switch)) nameLimit (length-nameBytes (c .name) well)
 
-  put-place : (k : ℕ) (c : Option (Cue Switch)) → k < cueLimit → soundCue sound c ≡ true
+  put-place : (k : ℕ) (c : Option (Cue Switch)) → k < cueLimit
       → put (placeStart k) placeSize (cueBytes c) store ≡ storeBytes (set cues k c)
-  put-place k c few one =
+  put-place k c few =
       ap (put (placeStart k) placeSize (cueBytes c)) (sym (decodeStore-some store cues d .1))
-      ∙ storeBytes-set cues k c good one few
+      ∙ storeBytes-set cues k c good few
 
-  pub put-cue : (k : ℕ) (name : List ℕ) (s : Switch) → k < cueLimit → wellNamed name ≡ true → sound s ≡ true
+  pub put-cue : (k : ℕ) (name : List ℕ) (s : Switch) → k < cueLimit → wellNamed name ≡ true
       → put (placeStart k) placeSize (bytesOf 8 (nameNumber name) ++ encode s) store
       ≡ storeBytes (set cues k (some (record { name = name; switch = s })))
-  unfolding cueBytes soundCue
-  put-cue k name s few h g =
+  unfolding cueBytes
+  put-cue k name s few h =
       ap (λ bs. put (placeStart k) placeSize (bs ++ encode s) store)
       (ap (bytesOf 8) (number-name name h) ∙ name-bytes name h)
-      ∙ put-place k (some (record { name = name; switch = s })) few (and-i (wellNamed name) (sound s) h g)
+      ∙ put-place k (some (record { name = name; switch = s })) few
 
   pub put-free : (k : ℕ) → k < cueLimit
       → put (placeStart k) placeSize (replicate placeSize 0) store ≡ storeBytes (set cues k none)
-  unfolding cueBytes soundCue
-  put-free k few = put-place k none few refl
+  unfolding cueBytes
+  put-free k few = put-place k none few

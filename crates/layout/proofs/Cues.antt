@@ -210,14 +210,13 @@ storeBytes-place cues k h inside =
     ∙ List·getD-map cueBytes cues k none
 
 pub storeBytes-set : (cues : Cues Switch) (k : ℕ) (p : Option (Cue Switch)) → soundCues sound cues ≡ true
-    → soundCue sound p ≡ true → k < cueLimit
+    → k < cueLimit
     → put (storeHeaderSize + placeSize * k) placeSize (cueBytes p) (storeBytes cues) ≡ storeBytes (set cues k p)
 unfolding storeBytes
-storeBytes-set cues k p h one inside =
+storeBytes-set cues k p h inside =
     let within : k < length (map cueBytes cues) = omega (arith, count-places cues h) in
     ap (λ n. put (n + placeSize * k) placeSize (cueBytes p) (storeBytes cues)) (sym length-storeHeader)
     ∙ put-piece placeSize (map cueBytes cues) k (cueBytes p) storeHeader (all-sized cues h) within
-    (length-cueBytes p one)
     ∙ ap (λ xs. storeHeader ++ flatten xs) (sym (map-set cueBytes cues k p))
 
 pub storeBytes-noCues : storeBytes noCues ≡ bytesOf 4 layoutNumber ++ replicate 65708 0

@@ -84,8 +84,8 @@ put-flatten size (y ∷ xs) (suc k) x h inside =
     (ap (λ bs. y ++ bs) (put-flatten size xs k x (sized-others size y xs h) (omega arith)))
 
 pub put-piece : (size : ℕ) (xs : List (List ℕ)) (k : ℕ) (x front : List ℕ) → sized size xs ≡ true → k < length xs
-    → length x ≡ size → put (length front + size * k) size x (front ++ flatten xs) ≡ front ++ flatten (set xs k x)
-put-piece size xs k x front h inside own =
+    → put (length front + size * k) size x (front ++ flatten xs) ≡ front ++ flatten (set xs k x)
+put-piece size xs k x front h inside =
     rw (add-assoc, take-append-add, drop-append-add, append-assoc)
     (ap (λ bs. front ++ bs) (put-flatten size xs k x h inside))
 
