@@ -19,8 +19,8 @@ use Rattle.model.specs.Phase.{Waiting, ahead, among, takesPart, candidates, pha
 use Rattle.model.proofs.PhaseFacts.{lists-listed, head-listed, urgent-head, urgent-ahead, scheduled-head}
 use Rattle.model.proofs.WaitingOrder.{among-i, input-i}
 use Rattle.slot_view.specs.CodeChoices.{ofInput, candidatesOf}
-use Rattle.slot_choice.specs.CodeWalk.{isReady, isPressing, urgentOf}
-use Rattle.slot_choice.proofs.Scans.{scheduled-ready, urgent-pressing, foremost}
+use Rattle.slot_choice.specs.CodeWalk.{urgentOf}
+use Rattle.slot_choice.proofs.Scans.{isReady, isUrgentHead, scheduled-ready, urgent-heads}
 
 -- where some cell is urgent
 candidates-some : (ls us ss : List Waiting) {u : Waiting} → List·Memᴰ u us
@@ -60,9 +60,6 @@ module _ (ports : ℕ) (all : List Waiting)
       ∙ least-keeps ahead (keep (isReady all) all)
       ∙ keep-keep (isReady all) (λ e. none? (λ f. ahead f e) (keep (isReady all) all)) all
 
-  isUrgentHere : Waiting → Bool
-  isUrgentHere e = isPressing ports all e && foremost ports all e
-
   -- it stands first in its list
   stands : Waiting → Bool
   stands e = none? (λ f. ahead f e) (lists all)
@@ -89,9 +86,8 @@ module _ (ports : ℕ) (all : List Waiting)
     unfolding ofInput is
     member m = (mem-keep-in is all m, eqb-true _ _ (mem-keep-passes is all m))
 
-    among-urgent : {e : Waiting} → List·Memᴰ e all → among (phase ports all .urgent) e ≡ isUrgentHere e
-    unfolding isUrgentHere
-    among-urgent m = among-keep isUrgentHere (phase ports all .urgent) (urgent-pressing ports all) m
+    among-urgent : {e : Waiting} → List·Memᴰ e all → among (phase ports all .urgent) e ≡ isUrgentHead ports all e
+    among-urgent m = among-keep (isUrgentHead ports all) (phase ports all .urgent) (urgent-heads ports all) m
 
     among-scheduled : {e : Waiting} → List·Memᴰ e all → among (phase ports all .scheduled) e ≡ isFirst e
     among-scheduled m = among-keep isFirst (phase ports all .scheduled) scheduled-kept m
@@ -103,20 +99,19 @@ module _ (ports : ℕ) (all : List Waiting)
         keep-mem is (subst (List·Memᴰ e) (sym scheduled-kept) (keep-mem isFirst (member m .0) t))
         (mem-keep-passes is all m)
 
-    is-urgent : {e : Waiting} → List·Memᴰ e all → isUrgentHere e ≡ true → List·Memᴰ e (phase ports all .urgent)
-    unfolding isUrgentHere
-    is-urgent {e} m t = subst (List·Memᴰ e) (sym (urgent-pressing ports all)) (keep-mem isUrgentHere m t)
+    is-urgent : {e : Waiting} → List·Memᴰ e all → isUrgentHead ports all e ≡ true → List·Memᴰ e (phase ports all .urgent)
+    is-urgent {e} m t = subst (List·Memᴰ e) (sym (urgent-heads ports all)) (keep-mem (isUrgentHead ports all) m t)
 
     -- no scheduled cell stands first in the list: the urgent cells are matched
     pub candidates-urgent : ((s : Waiting) → List·Memᴰ s (ofInput input (phase ports all .scheduled))
         → none? (λ f. ahead f s) (lists all) ≡ true
         → ⊥) → candidatesOf (phase ports all) input ≡ urgentOf (phase ports all) input
-    unfolding candidatesOf urgentOf ofInput is stands isUrgentHere takes
+    unfolding candidatesOf urgentOf ofInput is stands takes
     candidates-urgent absent =
         ap (map (λ e. e .at))
         (ofInput-candidates
-        ∙ keep-ext takes isUrgentHere (ofInput input all) same-test
-        ∙ sym (ap (keep is) (urgent-pressing ports all) ∙ keep-comm isUrgentHere is all))
+        ∙ keep-ext takes (isUrgentHead ports all) (ofInput input all) same-test
+        ∙ sym (ap (keep is) (urgent-heads ports all) ∙ keep-comm (isUrgentHead ports all) is all))
       where
         no-scheduled : (e : Waiting) → List·Memᴰ e (ofInput input all)
             → (among (phase ports all .scheduled) e && stands e) ≡ false
@@ -127,16 +122,16 @@ module _ (ports : ℕ) (all : List Waiting)
             (sym (among-scheduled (member m .0)) ∙ and-l (among (phase ports all .scheduled) e) (stands e) t))
             (and-r (among (phase ports all .scheduled) e) (stands e) t))
 
-        listed-too : (e : Waiting) → List·Memᴰ e all → isUrgentHere e ≡ true → isListed (e .place) ≡ true
+        listed-too : (e : Waiting) → List·Memᴰ e all → isUrgentHead ports all e ≡ true → isListed (e .place) ≡ true
         listed-too e m t = lists-listed all (head-listed all (urgent-head ports all (is-urgent m t)))
 
-        same-test : (e : Waiting) → List·Memᴰ e (ofInput input all) → takes e ≡ isUrgentHere e
+        same-test : (e : Waiting) → List·Memᴰ e (ofInput input all) → takes e ≡ isUrgentHead ports all e
         same-test e m =
             ap (λ b. isListed (e .place) && b)
-            (ap₂ _||_ (among-urgent (member m .0)) (no-scheduled e m) ∙ or-false (isUrgentHere e))
-            ∙ same (isListed (e .place) && isUrgentHere e) (isUrgentHere e)
-            (and-r (isListed (e .place)) (isUrgentHere e))
-            (λ t. and-i (isListed (e .place)) (isUrgentHere e) (listed-too e (member m .0) t) t)
+            (ap₂ _||_ (among-urgent (member m .0)) (no-scheduled e m) ∙ or-false (isUrgentHead ports all e))
+            ∙ same (isListed (e .place) && isUrgentHead ports all e) (isUrgentHead ports all e)
+            (and-r (isListed (e .place)) (isUrgentHead ports all e))
+            (λ t. and-i (isListed (e .place)) (isUrgentHead ports all e) (listed-too e (member m .0) t) t)
 
     -- the scheduled cell stands first in the list: it is matched alone
     pub candidates-first : (s : Waiting) → ofInput input (phase ports all .scheduled) ≡ s ∷ []

@@ -13,12 +13,11 @@ use borrow.Author.Tests.{eqb-true, eqb-false, eq-eqb, ne-eqb, lt-ltb, le-leb, lt
 use lib.Dec.{eqb, ltb}
 use lib.ListN.{length, getD, set, replicate, length-set, length-replicate, getD-replicate}
 use lib.Seq.{getD-set-same, getD-set-other}
-use Rattle.laws.specs.Lists.{keep, none?, pairwise, least, first?}
+use Rattle.laws.specs.Lists.{keep, none?, pairwise, first?}
 use Rattle.laws.proofs.Tests.{clash, by-fail, same, and-i, and-l, and-r}
 use Rattle.laws.proofs.Lists.{Passing, some?-i, some?-e, some?-false, none?-i, none?-clash, keep-nil, keep-mem}
-use Rattle.laws.proofs.Lists.{mem-keep-in, mem-keep-passes, none?-nil}
-use Rattle.laws.proofs.Least.{least-nil}
-use Rattle.laws.proofs.Pairwise.{pairwise-nil, pairwise-keep}
+use Rattle.laws.proofs.Lists.{mem-keep-in, mem-keep-passes}
+use Rattle.laws.proofs.Pairwise.{pairwise-nil}
 use Rattle.sets.specs.Sets.{positions, has, members, firstOf}
 use Rattle.sets.proofs.Members.{has-setFrom, first-is, first-before, members-none, members-cons, members-with}
 use Rattle.cell.specs.Limits.{sectionRoom}
@@ -27,7 +26,7 @@ use Rattle.sets.specs.Code.{withOne}
 use Rattle.model.specs.State.{isListed}
 use Rattle.model.specs.Phase.{Waiting, ahead, phase, lists}
 use Rattle.model.proofs.PhaseFacts.{lists-i, lists-all, lists-listed, head-listed, scheduled-head}
-use Rattle.model.proofs.WaitingOrder.{ahead-strict, ahead-i, ahead-at, ahead-input}
+use Rattle.model.proofs.WaitingOrder.{ahead-i, ahead-at, ahead-input}
 use Rattle.model.proofs.PhaseMatching.{urgent-all}
 use Rattle.layout.specs.Entry.{countIn}
 use Rattle.layout.specs.Table.{placeOf, entryLimit}
@@ -39,11 +38,11 @@ use Rattle.slot_view.specs.CodeScan.{Readable, Bests, someUrgent}
 use Rattle.slot_view.specs.CodeViewed.{isHead, listedSet, ListsOf, Chosen}
 use Rattle.slot_view.proofs.Window.{waitingAt-at, waitingAt-input, waitingAt-place, inTable-e, inTable-i, inTable-below}
 use Rattle.slot_view.proofs.Window.{inTable-input, ofInput-none}
-use Rattle.slot_choice.specs.CodeWalk.{numbersAt, urgentOf, Scanned, ScannedAll, entered, Entered, isReady, isPressing}
+use Rattle.slot_choice.specs.CodeWalk.{numbersAt, urgentOf, Scanned, ScannedAll, entered, Entered}
 use Rattle.slot_choice.proofs.Best.{numberOf-nil, numberOf-one}
 use Rattle.slot_choice.proofs.Candidates.{candidates-first, candidates-urgent, candidates-none}
 use Rattle.slot_choice.proofs.Columns.{set-both}
-use Rattle.slot_choice.proofs.Scans.{headsOf, ofInput-scheduled, least-ordered, scan-end-scheduled, scan-end-urgent}
+use Rattle.slot_choice.proofs.Scans.{isReady, headsOf, ofInput-urgent, scheduled-none, scheduled-first}
 use Rattle.slot_choice.proofs.Walked.{heads-ordered}
 
 ------------------------------------------------------------------------
@@ -180,15 +179,15 @@ module _ (table : List ℕ) where
     unfolding scheduledOf urgentOf
     scanned-beyond input l =
         let nil = heads-none input l in
-        let none : none? (isReady all) (headsOf (portsIn table) all input) ≡ true =
-        ap (none? (isReady all)) nil ∙ none?-nil (isReady all) in
+        let none : keep (isReady all) (headsOf (portsIn table) all input) ≡ [] =
+        ap (keep (isReady all)) nil ∙ keep-nil (isReady all) in
         record {
-          scheduled-is = sym (ap (λ l. numberOf (first? l)) (scan-end-scheduled (portsIn table) all input none) ∙ numberOf-nil);
+          scheduled-is = sym (ap (λ l. numberOf (first? l)) (scheduled-none (portsIn table) all input none) ∙ numberOf-nil);
           fits = omega arith;
           urgent-are =
               ap (map (λ j. sectionRoom * input + j)) members-none
               ∙ sym (ap (map (λ e. e .at))
-              (scan-end-urgent (portsIn table) all input none ∙ ap (keep (isPressing (portsIn table) all)) nil ∙ keep-nil (isPressing (portsIn table) all)));
+              (ofInput-urgent (portsIn table) all input ∙ ap (keep _) nil ∙ keep-nil _));
         }
 
     some-all : {n : ℕ} {b : Bool} → n ≡ portsIn table → SomeTo n b → b ≡ someUrgent (phase (portsIn table) all)
@@ -248,14 +247,8 @@ module _ (table : List ℕ) where
     schedule input = go (keep (isReady all) (headsOf (portsIn table) all input)) refl
       where
         go : (l : List Waiting) → keep (isReady all) (headsOf (portsIn table) all input) ≡ l → Schedule input
-        go [] e = nothing (ofInput-scheduled (portsIn table) all input ∙ ap (least ahead) e ∙ least-nil ahead)
-        go (s ∷ l) e =
-            one s
-            (ofInput-scheduled (portsIn table) all input
-            ∙ ap (least ahead) e
-            ∙ least-ordered ahead ahead-strict s l
-            (subst (λ k. pairwise ahead k ≡ true) e
-            (pairwise-keep ahead (isReady all) (headsOf (portsIn table) all input) (ordered input))))
+        go [] e = nothing (scheduled-none (portsIn table) all input e)
+        go (s ∷ l) e = one s (scheduled-first (portsIn table) all input (ordered input) e)
 
     scheduledOf-nothing : (input : ℕ) → ofInput input (phase (portsIn table) all .scheduled) ≡ []
         → scheduledOf (phase (portsIn table) all) input ≡ nowhere

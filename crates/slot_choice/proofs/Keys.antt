@@ -189,12 +189,17 @@ module _ (table : List ℕ) (r : Readable table) (bytes : bytes? table ≡ true)
       at = λ cells h o l. leading-best cross keys keyed l (leading .each o l) h;
     }
 
-    pub leading-known : Agrees table (placesIn table) cross → BestKnown table cross best least
+    pub leading-known : Agrees table (placesIn table) cross → BestKnown table keys best least
     leading-known a = record {
-      readable = r;
-      agrees = a;
+      known = record {
+        readable = r;
+        cross = cross;
+        agrees = a;
+        keyed = keyed;
+        below = key-below;
+      };
       bests = leading-bests .at _ (agrees-holds table (placesIn table) r cross a);
-      keys = λ o l. leading-key cross keys keyed l (leading .each o l);
+      leasts = λ o l. leading-key cross keys keyed l (leading .each o l);
     }
 
 ------------------------------------------------------------------------

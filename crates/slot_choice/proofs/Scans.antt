@@ -1,31 +1,33 @@
--- The choices of a phase for one input, as a walk along its cells finds them.
---     scheduled-ready, urgent-pressing   rules 1 to 3 by tests of one cell
---     scan-stop, scan-end                the first cell that is ready ends the walk
+-- The choices of a phase for one input, as a walk along its heads finds them.
+--     scheduled-ready, urgent-heads      rules 1 to 3 by tests of one cell
+--     empty-normal                       a head whose crosspoint is empty is not blocked
+--     scheduled-none, scheduled-first    the first head that is ready is scheduled
+--     urgent-known, urgent-early         whether a head is urgent, once that is known, and where it is yet to come
 use Prim.Native.Nat.{ℕ}
-use mathlib.Core.Bool.{Bool, true, false, not, _&&_, and-comm, and-true}
+use mathlib.Core.Bool.{Bool, true, false, not, _&&_}
 use mathlib.Core.Path.{_≡_, refl, sym, _∙_, ap, ap₂, subst}
 use mathlib.Core.Logic.{_⊎_, inl, inr}
-use mathlib.Core.List.{List, [], _∷_, _++_, append-nil, List·Memᴰ, List·Memᴰ·head}
-use mathlib.Core.List.{List·Memᴰ·cases-cons, Memᴰ·append-left, Memᴰ·append-right}
+use mathlib.Core.List.{List, [], _∷_, _++_, List·Memᴰ, List·Memᴰ·head}
+use mathlib.Core.List.{List·Memᴰ·cases-cons, Memᴰ·append-right}
 use borrow.Author.Tests.{eqb-true, eq-eqb}
 use lib.Dec.{eqb}
 use Rattle.laws.specs.Lists.{keep, some?, none?, all?, least, pairwise}
 use Rattle.laws.specs.Order.{Strict}
-use Rattle.laws.proofs.Tests.{clash, by-fail, same, and-i, and-l, and-r, and-false-r, not-i}
-use Rattle.laws.proofs.Lists.{Passing, some?-e, none?-i, none?-clash, all?-nil, all?-cons}
-use Rattle.laws.proofs.Lists.{keep-pass, keep-append, keep-keep, keep-comm, keep-ext, keep-none}
+use Rattle.laws.proofs.Tests.{clash, by-fail, same, and-i, and-l, and-r, not-i}
+use Rattle.laws.proofs.Lists.{Passing, some?-e, none?-i, none?-clash, all?-nil, all?-cons, all?-i}
+use Rattle.laws.proofs.Lists.{keep-nil, keep-pass, keep-fail, keep-append, keep-keep, keep-comm, keep-ext, keep-none}
+use Rattle.laws.proofs.Lists.{keep-all}
 use Rattle.laws.proofs.Lists.{mem-keep-in, mem-keep-passes}
 use Rattle.laws.proofs.Least.{least-keeps, least-nil, keep-least}
-use Rattle.laws.proofs.Pairwise.{pairwise-head, pairwise-append-r, pairwise-split, pairwise-keep}
+use Rattle.laws.proofs.Pairwise.{pairwise-head, pairwise-append-r, pairwise-keep}
 use Rattle.cell.specs.Flow.{sameFlow}
 use Rattle.model.specs.State.{isListed}
 use Rattle.model.specs.Phase.{Waiting, sameInput, sameOutput, sameCrosspoint, ahead, beats, heads, blocked}
 use Rattle.model.specs.Phase.{crosspointEmpty, ready, scheduled, isUrgent, urgent, phase, lists, crosspoints}
 use Rattle.model.proofs.PhaseFacts.{firsts}
-use Rattle.model.proofs.WaitingOrder.{ahead-strict, ahead-irrefl, ahead-trans, ahead-input, input-i, input-e}
+use Rattle.model.proofs.WaitingOrder.{ahead-strict, ahead-input, input-i, input-e}
 use Rattle.slot_view.specs.CodeChoices.{ofInput}
 use Rattle.slot_view.specs.CodeViewed.{isHead}
-use Rattle.slot_choice.specs.CodeWalk.{isReady, isPressing}
 
 ------------------------------------------------------------------------
 -- a list in order has one least
@@ -51,6 +53,10 @@ module _ {A : Type 0} (lt : A → A → Bool) (strict : Strict lt) where
 ------------------------------------------------------------------------
 -- rules 1 to 3 by tests of one cell
 
+-- a head whose crosspoint is empty
+unfoldable pub isReady : List Waiting → Waiting → Bool
+isReady all e = isHead all e && crosspointEmpty (crosspoints all) e
+
 module _ (ports : ℕ) (all : List Waiting) where
   firsts-heads : firsts all ≡ keep (isHead all) all
   unfolding firsts heads lists isHead
@@ -62,7 +68,7 @@ module _ (ports : ℕ) (all : List Waiting) where
       before e f = sameFlow (e .cell) (f .cell) && ahead e f
 
   -- a cell whose crosspoint is empty is not blocked
-  empty-normal : (e : Waiting) → crosspointEmpty (crosspoints all) e ≡ true → blocked ports (crosspoints all) e ≡ false
+  pub empty-normal : (e : Waiting) → crosspointEmpty (crosspoints all) e ≡ true → blocked ports (crosspoints all) e ≡ false
   unfolding crosspointEmpty blocked
   empty-normal e h =
       by-fail (some? (λ x. sameCrosspoint e x && beats ports e x) (crosspoints all)) (λ s.
@@ -90,28 +96,25 @@ module _ (ports : ℕ) (all : List Waiting) where
           (λ h. and-i (not (blocked ports (crosspoints all) e)) (empty e)
           (not-i (blocked ports (crosspoints all) e) (empty-normal e h)) h)
 
-  -- before every scheduled cell of its input
-  unfoldable pub foremost : Waiting → Bool
-  foremost e = all? (ahead e) (keep (sameInput e) (phase ports all .scheduled))
+  -- a head that is urgent
+  unfoldable pub isUrgentHead : Waiting → Bool
+  isUrgentHead e = isHead all e && isUrgent ports (crosspoints all) (phase ports all .scheduled) e
 
-  pub urgent-pressing : phase ports all .urgent ≡ keep (λ e. isPressing ports all e && foremost e) all
-  unfolding phase urgent isUrgent firsts isPressing foremost
-  urgent-pressing =
-      ap (keep test) firsts-heads
-      ∙ keep-keep (isHead all) test all
-      ∙ keep-ext (λ e. isHead all e && test e) (λ e. isPressing ports all e && foremost e) all
-      (λ e m. go (isHead all e) (blocked ports (crosspoints all) e) (foremost e) (upper e))
+  pub urgent-heads : phase ports all .urgent ≡ keep isUrgentHead all
+  unfolding phase urgent firsts isUrgentHead
+  urgent-heads =
+      ap (keep test) firsts-heads ∙ keep-keep (isHead all) test all
     where
       test : Waiting → Bool
       test e = isUrgent ports (crosspoints all) (phase ports all .scheduled) e
 
-      upper : Waiting → Bool
-      upper e = all? (beats ports e) (keep (sameOutput e) (crosspoints all))
-
-      go : (h b f u : Bool) → (h && (b && (f && u))) ≡ ((h && (b && u)) && f)
-      go true true f u = and-comm f u
-      go true false f u = refl
-      go false b f u = refl
+  -- of the scheduled cells only those of its input count
+  urgent-by : (e : Waiting) (ss ts : List Waiting)
+      → all? (ahead e) (keep (sameInput e) ss) ≡ all? (ahead e) (keep (sameInput e) ts)
+      → isUrgent ports (crosspoints all) ss e ≡ isUrgent ports (crosspoints all) ts e
+  unfolding isUrgent
+  urgent-by e ss ts h =
+      ap (λ b. blocked ports (crosspoints all) e && (b && all? (beats ports e) (keep (sameOutput e) (crosspoints all)))) h
 
   ------------------------------------------------------------------------
   -- one input
@@ -142,13 +145,13 @@ module _ (ports : ℕ) (all : List Waiting) where
         ∙ ap (least ahead)
         (keep-comm (isReady all) is all ∙ of-heads (isReady all) (λ e t. and-l (isHead all e) _ t))
 
-    ofInput-urgent : ofInput input (phase ports all .urgent) ≡ keep (λ e. isPressing ports all e && foremost e) headsOf
-    unfolding ofInput is isPressing
+    pub ofInput-urgent : ofInput input (phase ports all .urgent)
+        ≡ keep (isUrgent ports (crosspoints all) (phase ports all .scheduled)) headsOf
+    unfolding ofInput is headsOf isUrgentHead
     ofInput-urgent =
-        ap (keep is) urgent-pressing
-        ∙ keep-comm (λ e. isPressing ports all e && foremost e) is all
-        ∙ of-heads (λ e. isPressing ports all e && foremost e)
-        (λ e t. and-l (isHead all e) _ (and-l (isPressing ports all e) (foremost e) t))
+        ap (keep is) urgent-heads
+        ∙ keep-comm isUrgentHead is all
+        ∙ sym (keep-keep (isHead all) (isUrgent ports (crosspoints all) (phase ports all .scheduled)) (ofInput input all))
 
     -- the cells of its own input
     near : (e : Waiting) → e .cell .input ≡ input → (l : List Waiting) → keep (sameInput e) l ≡ ofInput input l
@@ -163,79 +166,66 @@ module _ (ports : ℕ) (all : List Waiting) where
     unfolding headsOf ofInput is
     member-input m = eqb-true _ _ (mem-keep-passes is all (mem-keep-in (isHead all) (ofInput input all) m))
 
-    -- where no cell is ready, none is scheduled, and each pressing cell is urgent
-    module _ (none : none? (isReady all) headsOf ≡ true) where
-      pub scan-end-scheduled : ofInput input (phase ports all .scheduled) ≡ []
-      scan-end-scheduled =
-          ofInput-scheduled ∙ ap (least ahead) (keep-none (isReady all) headsOf none) ∙ least-nil ahead
+    -- where the scheduled cells of its input are known
+    pub urgent-known : (e : Waiting) (ss : List Waiting) → e .cell .input ≡ input
+        → ofInput input (phase ports all .scheduled) ≡ ss
+        → isUrgent ports (crosspoints all) ss e ≡ isUrgent ports (crosspoints all) (phase ports all .scheduled) e
+    unfolding ofInput is
+    urgent-known e ss own known =
+        urgent-by e ss (phase ports all .scheduled)
+        (ap (all? (ahead e))
+        (near e own ss
+        ∙ ap (keep is) (sym known)
+        ∙ keep-all is (keep is (phase ports all .scheduled))
+        (all?-i is (keep is (phase ports all .scheduled)) (λ f m. mem-keep-passes is (phase ports all .scheduled) m))
+        ∙ sym (near e own (phase ports all .scheduled))))
 
-      pub scan-end-urgent : ofInput input (phase ports all .urgent) ≡ keep (isPressing ports all) headsOf
-      unfolding foremost
-      scan-end-urgent =
-          ofInput-urgent
-          ∙ keep-ext (λ e. isPressing ports all e && foremost e) (isPressing ports all) headsOf (λ e m.
-          ap (λ b. isPressing ports all e && b)
-          (ap (all? (ahead e)) (near e (member-input m) (phase ports all .scheduled) ∙ scan-end-scheduled)
-          ∙ all?-nil (ahead e))
-          ∙ and-true (isPressing ports all e))
+    -- no head is ready
+    pub scheduled-none : keep (isReady all) headsOf ≡ [] → ofInput input (phase ports all .scheduled) ≡ []
+    scheduled-none h = ofInput-scheduled ∙ ap (least ahead) h ∙ least-nil ahead
 
-    -- the first ready cell is scheduled, and each pressing cell before it is urgent
-    module _ (front back : List Waiting) (e : Waiting) (split : headsOf ≡ front ++ (e ∷ back))
-        (ordered : pairwise ahead headsOf ≡ true)
-        (none : none? (isReady all) front ≡ true) (ready : isReady all e ≡ true) where
-      in-order : pairwise ahead (front ++ (e ∷ back)) ≡ true
-      in-order = ap (pairwise ahead) (sym split) ∙ ordered
-
-      pub scan-stop-scheduled : ofInput input (phase ports all .scheduled) ≡ e ∷ []
-      scan-stop-scheduled =
+    module _ (in-order : pairwise ahead headsOf ≡ true) where
+      -- the first of those that are
+      pub scheduled-first : {s : Waiting} {l : List Waiting} → keep (isReady all) headsOf ≡ s ∷ l
+          → ofInput input (phase ports all .scheduled) ≡ s ∷ []
+      scheduled-first {s} {l} h =
           ofInput-scheduled
-          ∙ ap (λ l. least ahead (keep (isReady all) l)) split
-          ∙ ap (least ahead) kept
-          ∙ least-ordered ahead ahead-strict e (keep (isReady all) back)
-          (subst (λ l. pairwise ahead l ≡ true) kept (pairwise-keep ahead (isReady all) _ in-order))
-        where
-          kept : keep (isReady all) (front ++ (e ∷ back)) ≡ e ∷ keep (isReady all) back
-          kept =
-              keep-append (isReady all) front (e ∷ back)
-              ∙ ap₂ _++_ (keep-none (isReady all) front none) (keep-pass (isReady all) e back ready)
+          ∙ ap (least ahead) h
+          ∙ least-ordered ahead ahead-strict s l
+          (subst (λ k. pairwise ahead k ≡ true) h (pairwise-keep ahead (isReady all) headsOf in-order))
 
-      pub scan-stop-urgent : ofInput input (phase ports all .urgent) ≡ keep (isPressing ports all) front
-      unfolding foremost
-      scan-stop-urgent =
-          ofInput-urgent
-          ∙ ap (keep test) split
-          ∙ keep-append test front (e ∷ back)
-          ∙ ap₂ _++_ (keep-ext test (isPressing ports all) front before)
-          (keep-none test (e ∷ back) (none?-i test (e ∷ back) after))
-          ∙ append-nil (keep (isPressing ports all) front)
-        where
-          test : Waiting → Bool
-          test f = isPressing ports all f && foremost f
+      -- a head that is not ready, where none of those before it is
+      module _ (front back : List Waiting) (e : Waiting) (split : headsOf ≡ front ++ (e ∷ back))
+          (none : keep (isReady all) front ≡ []) (busy : isReady all e ≡ false) where
+        ready-behind : keep (isReady all) headsOf ≡ keep (isReady all) back
+        ready-behind =
+            ap (keep (isReady all)) split
+            ∙ keep-append (isReady all) front (e ∷ back)
+            ∙ ap₂ _++_ none (keep-fail (isReady all) e back busy)
 
-          -- a cell of the input stands before the scheduled cells of its input if it is ahead of this one
-          alone : (f : Waiting) → List·Memᴰ f (front ++ (e ∷ back)) → foremost f ≡ (ahead f e && true)
-          alone f m =
-              ap (all? (ahead f))
-              (near f (member-input (subst (List·Memᴰ f) (sym split) m)) (phase ports all .scheduled) ∙ scan-stop-scheduled)
-              ∙ all?-cons (ahead f) e []
-              ∙ ap (λ b. ahead f e && b) (all?-nil (ahead f))
+        -- it stands before the scheduled cell
+        before-scheduled : all? (ahead e) (keep (sameInput e) (phase ports all .scheduled)) ≡ true
+        before-scheduled =
+            ap (all? (ahead e)) (near e own (phase ports all .scheduled)) ∙ go (keep (isReady all) back) refl
+          where
+            own : e .cell .input ≡ input
+            own = member-input (subst (List·Memᴰ e) (sym split) (Memᴰ·append-right front (List·Memᴰ·head refl)))
 
-          before : (f : Waiting) → List·Memᴰ f front → test f ≡ isPressing ports all f
-          before f m =
-              ap (λ b. isPressing ports all f && b)
-              (alone f (Memᴰ·append-left (e ∷ back) m)
-              ∙ and-true (ahead f e)
-              ∙ pairwise-split ahead m (List·Memᴰ·head refl) in-order)
-              ∙ and-true (isPressing ports all f)
+            go : (l : List Waiting) → keep (isReady all) back ≡ l
+                → all? (ahead e) (ofInput input (phase ports all .scheduled)) ≡ true
+            go [] q = ap (all? (ahead e)) (scheduled-none (ready-behind ∙ q)) ∙ all?-nil (ahead e)
+            go (s ∷ l) q =
+                ap (all? (ahead e)) (scheduled-first (ready-behind ∙ q))
+                ∙ all?-cons (ahead e) s []
+                ∙ and-i (ahead e s) (all? (ahead e) [])
+                (pairwise-head ahead
+                (pairwise-append-r ahead front (e ∷ back) (subst (λ k. pairwise ahead k ≡ true) split in-order))
+                (mem-keep-in (isReady all) back (subst (List·Memᴰ s) (sym q) (List·Memᴰ·head refl))))
+                (all?-nil (ahead e))
 
-          after : (f : Waiting) → List·Memᴰ f (e ∷ back) → test f ≡ false
-          after f m =
-              and-false-r (isPressing ports all f) (foremost f)
-              (alone f (Memᴰ·append-right front m) ∙ and-true (ahead f e) ∙ go (List·Memᴰ·cases-cons m))
-            where
-              go : (f ≡ e) ⊎ List·Memᴰ f back → ahead f e ≡ false
-              go (inl q) = ap (λ g. ahead g e) q ∙ ahead-irrefl e
-              go (inr k) =
-                  by-fail (ahead f e) (λ t.
-                  let before-f = pairwise-head ahead (pairwise-append-r ahead front (e ∷ back) in-order) k in
-                  clash (ahead-trans e f e before-f t) (ahead-irrefl e))
+        -- as if there were none
+        pub urgent-early : isUrgent ports (crosspoints all) [] e
+            ≡ isUrgent ports (crosspoints all) (phase ports all .scheduled) e
+        urgent-early =
+            urgent-by e [] (phase ports all .scheduled)
+            (ap (all? (ahead e)) (keep-nil (sameInput e)) ∙ all?-nil (ahead e) ∙ sym before-scheduled)

@@ -1,56 +1,54 @@
--- The walk along the heads of each input by which a phase chooses: rules 2 and 3 as tests of one cell, what the walk
--- finds, and what is matched. Only the functions of the choice cite these.
-use Prim.Native.Nat.{ℕ, _+_, _*_, _/_, _%_, _^_, _<_, _≤_}
-use mathlib.Core.Bool.{Bool, true, false, cond, _&&_}
+-- The walk along the heads of each input by which a phase chooses: what it asks, what it finds, and what is matched. Only
+-- the functions of the choice cite these.
+use Prim.Native.Nat.{ℕ, _+_, _*_, _%_, _^_, _<_, _≤_}
+use mathlib.Core.Bool.{Bool, cond}
 use mathlib.Core.Path.{_≡_}
-use mathlib.Core.List.{List, map}
-use lib.Dec.{eqb, leb}
+use mathlib.Core.List.{List, [], _∷_, map}
+use lib.Dec.{eqb, ltb, leb}
 use lib.ListN.{length, getD}
-use Rattle.laws.specs.Lists.{keep, all?}
 use Rattle.sets.specs.Sets.{positions, members, firstOf}
 use Rattle.sets.specs.Code.{withOne}
 use Rattle.cell.specs.Limits.{portLimit, sectionRoom}
-use Rattle.model.specs.Phase.{Waiting, sameOutput, beats, blocked, crosspointEmpty, Phase, phase, crosspoints}
+use Rattle.cell.specs.Order.{key}
+use Rattle.model.specs.Phase.{Waiting, Phase, phase, crosspoints}
+use Rattle.layout.specs.Entry.{entryAt}
 use Rattle.layout_table.specs.CodeEntries.{nowhere}
 use Rattle.slot_view.specs.CodeChoices.{ofInput, scheduledOf, bestOf}
 use Rattle.slot_view.specs.CodeView.{placesIn, waitingIn, waitingAt, InTable, Agrees}
 use Rattle.slot_view.specs.CodeScan.{Readable, someUrgent}
 use Rattle.layout.specs.Code.{portsIn}
-use Rattle.slot_view.specs.CodeViewed.{isHead, keyAt}
-
-------------------------------------------------------------------------
--- rules 2 and 3 as tests of one cell
-
--- a head whose crosspoint is empty
-unfoldable pub isReady : List Waiting → Waiting → Bool
-isReady all e = isHead all e && crosspointEmpty (crosspoints all) e
-
--- a blocked head that is over every cell in the crosspoints of its output
-unfoldable pub isPressing : ℕ → List Waiting → Waiting → Bool
-isPressing ports all e =
-    isHead all e && (blocked ports (crosspoints all) e && all? (beats ports e) (keep (sameOutput e) (crosspoints all)))
-
--- what the walk makes of a head
-pub record Means (ports : ℕ) (all : List Waiting) (e : Waiting) (ready pressing : Bool) : Type 0 where
-  pub ready-is : isReady all e ≡ ready
-  pub pressing-is : ready ≡ false → isPressing ports all e ≡ pressing
+use Rattle.slot_view.specs.CodeViewed.{noKey, keyAt, Keyed}
 
 ------------------------------------------------------------------------
 -- what the walk asks
 
--- the crosspoints are those of the table, and the best cell there of each output and its key are known
-pub record BestKnown (table : List ℕ) (cross : List (List ℕ)) (best least : List ℕ) : Type 0 where
+-- the crosspoints are those of the table, by the keys of their cells, which are below the key of none
+pub record KeysKnown (table : List ℕ) (keys : List (List ℕ)) : Type 0 where
   pub readable : Readable table
+  pub cross : List (List ℕ)
   pub agrees : Agrees table (placesIn table) cross
+  pub keyed : Keyed table cross keys
+  pub below : (k : ℕ) → InTable table k → key (entryAt table k .cell) < noKey
+
+-- and the best cell there of each output and its key are known
+pub record BestKnown (table : List ℕ) (keys : List (List ℕ)) (best least : List ℕ) : Type 0 where
+  pub known : KeysKnown table keys
   pub bests : (output : ℕ) → output < portLimit
       → getD best output 0 ≡ bestOf (portsIn table) (crosspoints (waitingIn table)) output
-  pub keys : (output : ℕ) → output < portLimit → getD least output 0 ≡ keyAt table (getD best output 0)
+  pub leasts : (output : ℕ) → output < portLimit → getD least output 0 ≡ keyAt table (getD best output 0)
 
--- the cell with number k is a head of an input
-pub record HeadOf (table : List ℕ) (input k : ℕ) : Type 0 where
-  pub inside : InTable table k
-  pub own : k / sectionRoom ≡ input
-  pub head : isHead (waitingIn table) (waitingAt table (placesIn table) k) ≡ true
+-- a cell stands at a position in the section of an input
+pub record CellAt (table : List ℕ) (input position : ℕ) : Type 0 where
+  pub small : position < sectionRoom
+  pub inside : InTable table (sectionRoom * input + position)
+
+-- the cell there
+abbrev pub cellAt : List ℕ → ℕ → ℕ → Waiting
+cellAt table input position = waitingAt table (placesIn table) (sectionRoom * input + position)
+
+-- the scheduled cell of an input by its position; there is none at 64 or more
+unfoldable pub scheduledAt : List ℕ → ℕ → ℕ → List Waiting
+scheduledAt table input position = cond (ltb position sectionRoom) (cellAt table input position ∷ []) []
 
 ------------------------------------------------------------------------
 -- what it finds

@@ -5,29 +5,22 @@ use layout::CELLS;
 use layout::PORTS;
 use layout_table::priority::NOWHERE;
 use slot_view::Choice;
+use slot_view::NO_KEY;
 ghost use mathlib.Core.Path.{_≡_};
 ghost use mathlib.Core.List.{[]};
 ghost use Prim.Native.Nat.{ℕ, _+_, _≤_, _<_, min};
 ghost use lib.ListN.{length, getD, replicate};
 ghost use Rattle.sets.specs.Sets.{positions};
-ghost use Rattle.cell.specs.Order.{over, key as cellKey};
 ghost use Rattle.cell.specs.Limits.{portLimit};
-ghost use Rattle.layout.specs.Table.{tableSize, entryLimit};
-ghost use Rattle.layout.specs.Entry.{entryAt};
+ghost use Rattle.model.specs.Phase.{isUrgent, crosspointEmpty, crosspoints};
 ghost use Rattle.layout.specs.Code.{portsIn};
 ghost use Rattle.layout_table.specs.CodeEntries.{nowhere};
-ghost use Rattle.slot_view.specs.CodeView.{placesIn, waitingIn, waitingAt, Square, Agrees};
+ghost use Rattle.slot_view.specs.CodeView.{placesIn, waitingIn, Square, Agrees};
 ghost use Rattle.slot_view.specs.CodeScan.{Readable};
 ghost use Rattle.slot_view.specs.CodeViewed.{headSet, ListsOf, Keyed, Chosen};
 ghost use Rattle.slot_choice.specs.CodeKeys.{leastOfFour, leastOf, holdersOf, LeastTo, FirstInRound, LeadingTo};
-ghost use Rattle.slot_choice.specs.CodeWalk.{BestKnown, HeadOf, Means, Scanned, ScannedAll, entered, Entered};
-
-// What a walk along the heads of an input makes of one: whether its crosspoint is empty; and if not, whether it is
-// blocked and over every cell in the crosspoints of its output.
-struct Kind {
-    ready: bool,
-    pressing: bool,
-}
+ghost use Rattle.slot_choice.specs.CodeWalk.{KeysKnown, BestKnown, CellAt, cellAt, scheduledAt, Scanned};
+ghost use Rattle.slot_choice.specs.CodeWalk.{ScannedAll, entered, Entered};
 
 // What the walk finds: the number of the scheduled cell, 1,024 where there is none, and the positions of the urgent
 // cells.
@@ -65,7 +58,7 @@ pub fn choose(
     let urgent = scan_each(
         table,
         heads,
-        cross,
+        keys,
         &best,
         &least,
         &mut scheduled,
@@ -179,13 +172,13 @@ fn first_in_round(set: u64, start: usize) -> usize
 fn scan_each(
     table: &[u8],
     heads: &[u64; PORTS],
-    cross: &[[u16; PORTS]; PORTS],
+    keys: &[[u64; PORTS]; PORTS],
     best: &[u16; PORTS],
     least: &[u64; PORTS],
     scheduled: &mut [u16; PORTS],
     urgent: &mut [u64; PORTS],
 ) -> bool
-    requires { ⌜ BestKnown (now table) (now cross) (now best) (now least) ⌝ }
+    requires { ⌜ BestKnown (now table) (now keys) (now best) (now least) ⌝ }
     requires { ⌜ ((input : ℕ) → input < portLimit → getD (now heads) input 0
         ≡ headSet (now table) (placesIn (now table)) input) ⌝ }
     requires { ⌜ (now scheduled ≡ replicate portLimit nowhere) × (now urgent ≡ replicate portLimit 0) ⌝ }
@@ -195,7 +188,7 @@ fn scan_each(
     let ports = layout_table::header::ports_of(table);
     let mut input = 0;
     while input < ports {
-        let found = scan(table, heads[input], cross, best, least, input);
+        let found = scan(table, heads[input], keys, best, least, input);
         scheduled[input] = found.scheduled;
         urgent[input] = found.urgent;
         some = some | (found.urgent != 0);
@@ -204,18 +197,18 @@ fn scan_each(
     some
 }
 
-// Rules 1 to 3 for an input: the first head in its list whose crosspoint is empty is scheduled, and each pressing
-// head before it is urgent. The walk ends there, since nothing behind it can be urgent. Nothing branches on which
-// heads press, as that would be guessed badly.
+// Rules 1 to 3 for an input, along the heads of its list. The first whose crosspoint is empty is scheduled; up to there a
+// head is asked with none, since it stands before the one to come, and from there on with that. Nothing branches on which
+// heads are urgent, as that would be guessed badly.
 fn scan(
     table: &[u8],
     heads: u64,
-    cross: &[[u16; PORTS]; PORTS],
+    keys: &[[u64; PORTS]; PORTS],
     best: &[u16; PORTS],
     least: &[u64; PORTS],
     input: usize,
 ) -> Found
-    requires { ⌜ BestKnown (now table) (now cross) (now best) (now least) ⌝ }
+    requires { ⌜ BestKnown (now table) (now keys) (now best) (now least) ⌝ }
     requires { ⌜ (input < portsIn (now table)) × (heads ≡ headSet (now table) (placesIn (now table)) input) ⌝ }
     ensures { λ r. ⌜ Scanned (now (table .entry)) input (r .scheduled) (r .urgent) ⌝ }
 {
@@ -223,68 +216,75 @@ fn scan(
     let mut left = heads;
     while left != 0 {
         let position = sets::first(left);
-        let k = CELLS * input + position;
-        left = sets::rest(left);
-        let kind = kind_of(table, cross, best, least, input, k);
-        if kind.ready {
-            return Found {
-                scheduled: k as u16,
-                urgent,
-            };
+        if is_ready(table, keys, input, position) {
+            break;
         }
-        urgent = sets::with_if(urgent, position, kind.pressing);
+        left = sets::rest(left);
+        let member = is_urgent(table, keys, best, least, input, position, CELLS);
+        urgent = sets::with_if(urgent, position, member);
+    }
+    let scheduled = sets::first(left);
+    while left != 0 {
+        let position = sets::first(left);
+        left = sets::rest(left);
+        let member = is_urgent(table, keys, best, least, input, position, scheduled);
+        urgent = sets::with_if(urgent, position, member);
     }
     Found {
-        scheduled: NOWHERE,
+        scheduled: if scheduled < CELLS {
+            (CELLS * input + scheduled) as u16
+        } else {
+            NOWHERE
+        },
         urgent,
     }
 }
 
-// Rules 2 and 3 for a head.
-fn kind_of(
+// Rule 2 for a head, by its position in the section of its input: its crosspoint is empty.
+fn is_ready(table: &[u8], keys: &[[u64; PORTS]; PORTS], input: usize, position: usize) -> bool
+    requires { ⌜ KeysKnown (now table) (now keys) ⌝ }
+    requires { ⌜ CellAt (now table) input position ⌝ }
+    ensures { λ r. ⌜ r ≡ crosspointEmpty (crosspoints (waitingIn (now (table .entry))))
+        (cellAt (now (table .entry)) input position) ⌝ }
+{
+    let output = layout_table::entry::output_of(table, CELLS * input + position) as usize;
+    keys[output][input] == NO_KEY
+}
+
+// Rule 3 for a head, by its position, and for any scheduled cell of its input, by its own; 64 or more stands for none.
+// The tests are those of Pan and Yang, section 4.2, in the order of their text. No branch is taken on the first, as it
+// would be guessed badly.
+fn is_urgent(
     table: &[u8],
-    cross: &[[u16; PORTS]; PORTS],
+    keys: &[[u64; PORTS]; PORTS],
     best: &[u16; PORTS],
     least: &[u64; PORTS],
     input: usize,
-    k: usize,
-) -> Kind
-    requires { ⌜ BestKnown (now table) (now cross) (now best) (now least) ⌝ }
-    requires { ⌜ HeadOf (now table) input k ⌝ }
-    ensures { λ r. ⌜ Means (portsIn (now (table .entry))) (waitingIn (now (table .entry)))
-        (waitingAt (now (table .entry)) (placesIn (now (table .entry))) k) (r .ready) (r .pressing) ⌝ }
+    position: usize,
+    scheduled: usize,
+) -> bool
+    requires { ⌜ BestKnown (now table) (now keys) (now best) (now least) ⌝ }
+    requires { ⌜ CellAt (now table) input position ⌝ }
+    ensures { λ r. ⌜ r ≡ isUrgent (portsIn (now (table .entry))) (crosspoints (waitingIn (now (table .entry))))
+        (scheduledAt (now (table .entry)) input scheduled) (cellAt (now (table .entry)) input position) ⌝ }
 {
+    let k = CELLS * input + position;
     let output = layout_table::entry::output_of(table, k) as usize;
-    let held = cross[input][output];
-    let rival = best[output];
-    let key = least[output];
-    if held >= NOWHERE {
-        return Kind {
-            ready: true,
-            pressing: false,
-        };
+    let key = layout_table::entry::key_of(table, k);
+    // Whether it is blocked: its crosspoint holds a cell of lower output priority. Cells of one input never tie.
+    let held = keys[output][input];
+    let blocked = (key < held) & (held != NO_KEY);
+    // Its place: before the scheduled cell.
+    if position >= scheduled {
+        return false;
     }
-    Kind {
-        ready: false,
-        pressing: is_pressing(table, k, rival, key),
+    // The crosspoints of its output: over every cell there, so over the best.
+    let rival = least[output];
+    if key == rival {
+        return blocked
+            & layout_table::priority::goes_first(table, key, k, rival, best[output] as usize);
     }
-}
-
-// Rule 3 for a head whose crosspoint is full, by the best cell in the crosspoints of its output and its key: the head
-// is blocked and over every cell there if it is over that one.
-fn is_pressing(table: &[u8], k: usize, best: u16, key: u64) -> bool
-    requires { ⌜ (length (now table) ≡ tableSize) × (k < entryLimit) × (best < entryLimit) ⌝ }
-    requires { ⌜ key ≡ cellKey (entryAt (now table) best .cell) ⌝ }
-    ensures { λ r. ⌜ r ≡ over (portsIn (now (table .entry))) (entryAt (now (table .entry)) k .cell)
-        (entryAt (now (table .entry)) best .cell) ⌝ }
-{
-    layout_table::priority::goes_first(
-        table,
-        layout_table::entry::key_of(table, k),
-        k,
-        key,
-        best as usize,
-    )
+    blocked & (key < rival)
 }
 
 // Rule 4 for each input, where some cell is urgent.

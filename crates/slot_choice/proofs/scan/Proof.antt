@@ -1,134 +1,233 @@
--- Head by head, none so far was ready, and the positions of the pressing ones are gathered.
+-- Head by head: up to the first ready one none is scheduled, and from there on that one is. The positions of the urgent ones
+-- are gathered.
 use borrow.Author.Needs.{needs}
-use Prim.Native.Nat.{_+_, _*_, _<_}
+use Prim.Native.Nat.{_<_}
 use native.Mathlib.Omega.{arith}
-use mathlib.Core.Path.{sym, _∙_, subst}
+use mathlib.Core.Path.{_≡_, sym, _∙_, ap, subst}
+use mathlib.Core.Logic.{_⊎_, inl, inr}
 use Rattle.sets.specs.Sets.{firstOf}
-use Rattle.sets.proofs.Members.{rest-less, visited-member}
+use Rattle.sets.proofs.Members.{rest-less}
 use Rattle.sets.specs.Code.{restOf}
+use Rattle.model.specs.Phase.{crosspointEmpty, isUrgent, crosspoints}
 use Rattle.layout.specs.Code.{portsIn}
-use Rattle.slot_view.specs.CodeView.{placesIn, waitingIn, waitingAt}
-use Rattle.slot_choice.specs.CodeWalk.{HeadOf, Means, Scanned}
-use Rattle.slot_choice.proofs.Walked.{Walked, head-here, walked-start, walked-position, walked-next}
-use Rattle.slot_choice.proofs.Walked.{walked-stop, walked-end}
+use Rattle.slot_view.specs.CodeView.{waitingIn}
+use Rattle.slot_choice.specs.CodeWalk.{CellAt, cellAt, scheduledAt}
+use Rattle.slot_choice.proofs.Walked.{Walked, walked-cell, walked-known, walked-next, walked-one, walked-none}
+use Rattle.slot_choice.proofs.Walked.{Early, early-start, early-known, early-next, ScheduledAt, scheduled-here}
+use Rattle.slot_choice.proofs.Walked.{scheduled-end}
 use Rattle.slot_choice.proofs.scan.Statement.{statement}
 use Rattle.slot_choice.proofs.scan.Tie as tie
 
 abbrev Inv-loop : tie.InvT-loop
-Inv-loop table heads cross best least input urgent₀ left₀ urgent left = Walked table input urgent left
+Inv-loop table heads keys best least input urgent₀ left₀ urgent left = Early table input urgent left
 
 abbrev μ-loop : tie.MeasureT-loop
-μ-loop table heads cross best least input urgent₀ left₀ urgent left = left
+μ-loop table heads keys best least input urgent₀ left₀ urgent left = left
+
+abbrev Inv-loop2 : tie.InvT-loop2
+Inv-loop2 table heads keys best least input urgent₀ left₀ scheduled urgent left = Walked table input urgent left
+
+abbrev μ-loop2 : tie.MeasureT-loop2
+μ-loop2 table heads keys best least input urgent₀ left₀ scheduled urgent left = left
+
+------------------------------------------------------------------------
+-- up to the first ready head
 
 -- where a position is left: it is a head's
-module _ (c : tie.In-loop Inv-loop μ-loop) where
+module _ (c : tie.In-loop Inv-loop μ-loop Inv-loop2 μ-loop2) where
   some : 0 < c .before .loop .left
   some = omega (arith, c .loop-test .taken)
 
-  position : firstOf (c .before .loop .left) < 64
-  position =
+  cell : let a = c .before .before .before .args in CellAt (a .table .now) (a .input) (firstOf (c .before .loop .left))
+  cell =
       let start = c .before .before .before in
-      walked-position _ _ (start .pre .0 .readable) (start .pre .1 .0) (c .before .loop .inv) some
-
-  head : let a = c .before .before .before .args in
-      HeadOf (a .table .now) (a .input) (64 * a .input + firstOf (c .before .loop .left))
-  head =
-      let start = c .before .before .before in
-      head-here _ _ (start .pre .0 .readable) (start .pre .1 .0) (visited-member (c .before .loop .inv .visited) some)
+      walked-cell _ _ (start .pre .0 .known .readable) (start .pre .1 .0) (c .before .loop .inv .walked) some
 
   less : restOf (c .before .loop .left) < c .before .loop .left
-  less = rest-less (c .before .loop .left) some (c .before .loop .inv .visited .fits)
+  less = rest-less (c .before .loop .left) some (c .before .loop .inv .walked .visited .fits)
 
--- what it is
-kind : (c : tie.After-kind-of Inv-loop μ-loop)
-    → let in-loop = c .before .before .before in
-    let a = in-loop .before .before .before .args in
-    let table = a .table .now in
-    Means (portsIn table) (waitingIn table)
-    (waitingAt table (placesIn table) (64 * a .input + firstOf (in-loop .before .loop .left)))
-    (c .kind-of .result .ready) (c .kind-of .result .pressing)
-kind c =
-    let in-loop = c .before .before .before in
-    let a = in-loop .before .before .before .args in
-    let table = a .table .now in
-    subst
-    (λ j. Means (portsIn table) (waitingIn table) (waitingAt table (placesIn table) (64 * a .input + j)) (c .kind-of .result .ready)
-    (c .kind-of .result .pressing))
-    (c .before .before .first .ensures) (c .kind-of .ensures)
+-- the same, by what the code calls its position
+here : (c : tie.After-first Inv-loop μ-loop Inv-loop2 μ-loop2)
+    → let a = c .before .before .before .before .args in CellAt (a .table .now) (a .input) (c .first .result)
+here c =
+    let a = c .before .before .before .before .args in
+    subst (CellAt (a .table .now) (a .input)) (sym (c .first .ensures)) (cell (c .before))
 
-loop-holds : tie.Need-loop-holds Inv-loop μ-loop
+-- whether its crosspoint is empty
+empty : (c : tie.After-is-ready Inv-loop μ-loop Inv-loop2 μ-loop2)
+    → let loop = c .before .before .before in
+    let a = loop .before .before .args in
+    crosspointEmpty (crosspoints (waitingIn (a .table .now))) (cellAt (a .table .now) (a .input) (firstOf (loop .loop .left)))
+    ≡ c .is-ready .result
+empty c =
+    let loop = c .before .before .before in
+    let a = loop .before .before .args in
+    ap (λ j. crosspointEmpty (crosspoints (waitingIn (a .table .now))) (cellAt (a .table .now) (a .input) j))
+    (sym (c .before .first .ensures))
+    ∙ sym (c .is-ready .ensures)
+
+loop-holds : tie.Need-loop-holds Inv-loop μ-loop Inv-loop2 μ-loop2
 loop-holds c =
     let start = c .before in
-    let heads = start .pre .1 .1 in
-    subst (Walked (start .args .table .now) (start .args .input) 0) (sym heads)
-    (walked-start _ _ (omega (arith, start .fits .heads .fits)))
+    subst (Early (start .args .table .now) (start .args .input) 0) (sym (start .pre .1 .1))
+    (early-start _ _ (omega (arith, start .fits .heads .fits, start .pre .1 .1)))
 
-first-requires : tie.Need-first-requires Inv-loop μ-loop
+first-requires : tie.Need-first-requires Inv-loop μ-loop Inv-loop2 μ-loop2
 first-requires c κs = search needs
 
-mul-k : tie.Need-mul-k Inv-loop μ-loop
-mul-k c =
-    let start = c .before .before .before .before in
-    omega (arith, start .pre .1 .0, start .pre .0 .readable .ports)
+is-ready-requires : tie.Need-is-ready-requires Inv-loop μ-loop Inv-loop2 μ-loop2
+is-ready-requires c κs = (c .before .before .before .before .pre .0 .known, here c)
 
-add-k : tie.Need-add-k Inv-loop μ-loop
-add-k c =
-    let start = c .before .before .before .before in
-    omega (arith, start .pre .1 .0, start .pre .0 .readable .ports, c .first .ensures, position (c .before))
+rest-requires : tie.Need-rest-requires Inv-loop μ-loop Inv-loop2 μ-loop2
+rest-requires c κs = some (c .before .before .before)
 
-rest-requires : tie.Need-rest-requires Inv-loop μ-loop
-rest-requires c κs = some (c .before)
-
-kind-of-requires : tie.Need-kind-of-requires Inv-loop μ-loop
-kind-of-requires c κs =
-    let in-loop = c .before .before in
-    let start = in-loop .before .before .before in (
-      start .pre .0,
-      subst (λ j. HeadOf (start .args .table .now) (start .args .input) (64 * start .args .input + j))
-          (sym (c .before .first .ensures)) (head in-loop),
-    )
-
-cast-t14 : tie.Need-cast-t14 Inv-loop μ-loop
-cast-t14 c =
+is-urgent-requires : tie.Need-is-urgent-requires Inv-loop μ-loop Inv-loop2 μ-loop2
+is-urgent-requires c κs =
     let first = c .before .before .before in
-    let start = first .before .before .before .before in
-    omega (arith, start .pre .1 .0, start .pre .0 .readable .ports, first .first .ensures, position (first .before))
+    (first .before .before .before .before .pre .0, here first)
 
-returns : tie.Need-returns Inv-loop μ-loop
-returns c =
-    let first = c .before .before .before in
-    let start = first .before .before .before .before in
-    let l = first .before .before .loop in
-    subst (λ j. Scanned (start .args .table .now) (start .args .input) (64 * start .args .input + j) (l .urgent))
-    (sym (first .first .ensures))
-    (walked-stop _ _ (start .pre .0 .readable) (start .pre .1 .0) (l .inv) (some (first .before))
-    (kind (c .before) .ready-is ∙ c .if1 .taken))
+with-if-requires : tie.Need-with-if-requires Inv-loop μ-loop Inv-loop2 μ-loop2
+with-if-requires c κs = here (c .before .before .before .before) .small
 
-with-if-requires : tie.Need-with-if-requires Inv-loop μ-loop
-with-if-requires c κs =
-    let first = c .before .before .before in
-    omega (arith, first .first .ensures, position (first .before))
-
-loop-less : tie.Need-loop-less Inv-loop μ-loop
+loop-less : tie.Need-loop-less Inv-loop μ-loop Inv-loop2 μ-loop2
 loop-less c =
-    let rest = c .before .before .before in
-    omega (arith, rest .rest .ensures, less (rest .before .before))
+    let rest = c .before .before in
+    omega (arith, rest .rest .ensures, less (rest .before .before .before .before))
 
-loop-again : tie.Need-loop-again Inv-loop μ-loop
+loop-again : tie.Need-loop-again Inv-loop μ-loop Inv-loop2 μ-loop2
 loop-again c =
-    let known = c .before .before in
-    let rest = known .before in
-    let first = rest .before in
-    let start = first .before .before .before .before in
-    let busy = c .before .if1 .left in
+    let asked = c .before in
+    let rest = asked .before in
+    let busy = rest .before in
+    let first = busy .before .before in
+    let loop = first .before .before in
+    let start = loop .before .before in
+    let table = start .args .table .now in
+    let full = empty (busy .before) ∙ busy .if1 .left in
     rw (c .with-if .ensures, first .first .ensures, rest .rest .ensures)
-    (walked-next _ _ (start .pre .0 .readable) (start .pre .1 .0) (first .before .before .loop .inv)
-    (some (first .before)) (kind known .ready-is ∙ busy) (known .kind-of .result .pressing) (kind known .pressing-is busy))
+    (early-next _ _ (start .pre .0 .known .readable) (start .pre .1 .0) (loop .loop .inv) (some (first .before)) full
+    (asked .is-urgent .result)
+    (asked .is-urgent .ensures
+    ∙ ap (λ j. isUrgent (portsIn table) (crosspoints (waitingIn table)) (scheduledAt table (start .args .input) 64)
+    (cellAt table (start .args .input) j)) (first .first .ensures)
+    ∙ early-known _ _ (start .pre .0 .known .readable) (start .pre .1 .0) (loop .loop .inv) (some (first .before)) full))
 
-returns-2 : tie.Need-returns-2 Inv-loop μ-loop
+------------------------------------------------------------------------
+-- from there on
+
+first-requires-2 : tie.Need-first-requires-2 Inv-loop μ-loop Inv-loop2 μ-loop2
+first-requires-2 c κs = search needs
+
+-- either way
+by-either : {A B C : Type 0} → (A → C) → (B → C) → A ⊎ B → C
+by-either f g (inl a) = f a
+by-either f g (inr b) = g b
+
+-- the next head is scheduled, or none where none is left
+scheduled : (c : tie.After-first2 Inv-loop μ-loop Inv-loop2 μ-loop2)
+    → let start = c .before .before .before .before in
+    ScheduledAt (start .args .table .now) (start .args .input) (start .pre .0 .known .readable) (start .pre .1 .0)
+    (c .first2 .result)
+scheduled c =
+    let at = c .before .before in
+    let start = at .before .before in
+    let readable = start .pre .0 .known .readable in
+    subst (ScheduledAt (start .args .table .now) (start .args .input) readable (start .pre .1 .0))
+    (sym (c .first2 .ensures))
+    (by-either (λ end. scheduled-end _ _ readable (start .pre .1 .0) (at .loop .inv) (end .left)) (λ stop.
+    let in-loop : tie.In-loop Inv-loop μ-loop Inv-loop2 μ-loop2 = record { before = at; loop-test = stop .0 } in
+    let first : tie.After-first Inv-loop μ-loop Inv-loop2 μ-loop2 = record { before = in-loop; first = stop .1 } in
+    scheduled-here _ _ readable (start .pre .1 .0) (at .loop .inv) (some in-loop)
+    (empty (record { before = first; is-ready = stop .2 }) ∙ stop .3 .taken))
+    (c .before .loop-test .came))
+
+loop2-holds : tie.Need-loop2-holds Inv-loop μ-loop Inv-loop2 μ-loop2
+loop2-holds c = c .before .before .loop .inv .walked
+
+-- where a position is left
+module _ (c : tie.In-loop2 Inv-loop μ-loop Inv-loop2 μ-loop2) where
+  some-2 : 0 < c .before .loop2 .left
+  some-2 = omega (arith, c .loop2-test .taken)
+
+  less-2 : restOf (c .before .loop2 .left) < c .before .loop2 .left
+  less-2 = rest-less (c .before .loop2 .left) some-2 (c .before .loop2 .inv .visited .fits)
+
+here-2 : (c : tie.After-first3 Inv-loop μ-loop Inv-loop2 μ-loop2)
+    → let a = c .before .before .before .before .before .before .before .args in
+    CellAt (a .table .now) (a .input) (c .first3 .result)
+here-2 c =
+    let at = c .before .before in
+    let start = at .before .before .before .before .before in
+    subst (CellAt (start .args .table .now) (start .args .input)) (sym (c .first3 .ensures))
+    (walked-cell _ _ (start .pre .0 .known .readable) (start .pre .1 .0) (at .loop2 .inv) (some-2 (c .before)))
+
+first-requires-3 : tie.Need-first-requires-3 Inv-loop μ-loop Inv-loop2 μ-loop2
+first-requires-3 c κs = search needs
+
+rest-requires-2 : tie.Need-rest-requires-2 Inv-loop μ-loop Inv-loop2 μ-loop2
+rest-requires-2 c κs = some-2 (c .before)
+
+is-urgent-requires-2 : tie.Need-is-urgent-requires-2 Inv-loop μ-loop Inv-loop2 μ-loop2
+is-urgent-requires-2 c κs =
+    (c .before .before .before .before .before .before .before .before .pre .0, here-2 (c .before))
+
+with-if-requires-2 : tie.Need-with-if-requires-2 Inv-loop μ-loop Inv-loop2 μ-loop2
+with-if-requires-2 c κs = here-2 (c .before .before) .small
+
+loop2-less : tie.Need-loop2-less Inv-loop μ-loop Inv-loop2 μ-loop2
+loop2-less c =
+    let rest = c .before .before in
+    omega (arith, rest .rest2 .ensures, less-2 (rest .before .before))
+
+loop2-again : tie.Need-loop2-again Inv-loop μ-loop Inv-loop2 μ-loop2
+loop2-again c =
+    let asked = c .before in
+    let rest = asked .before in
+    let first = rest .before in
+    let at = first .before .before in
+    let start = at .before .before .before .before .before in
+    let table = start .args .table .now in
+    rw (c .with-if2 .ensures, first .first3 .ensures, rest .rest2 .ensures)
+    (walked-next _ _ (start .pre .0 .known .readable) (start .pre .1 .0) (at .loop2 .inv) (some-2 (first .before))
+    (asked .is-urgent2 .result)
+    (asked .is-urgent2 .ensures
+    ∙ ap (λ j. isUrgent (portsIn table) (crosspoints (waitingIn table))
+    (scheduledAt table (start .args .input) (at .before .first2 .result)) (cellAt table (start .args .input) j))
+    (first .first3 .ensures)
+    ∙ walked-known _ _ (start .pre .0 .known .readable) (start .pre .1 .0) (at .loop2 .inv) (some-2 (first .before)) _
+    (scheduled (at .before))))
+
+------------------------------------------------------------------------
+-- at the end
+
+mul-t52 : tie.Need-mul-t52 Inv-loop μ-loop Inv-loop2 μ-loop2
+mul-t52 c =
+    let start = c .before .before .before .before .before .before .before in
+    omega (arith, start .pre .1 .0, start .pre .0 .known .readable .ports)
+
+add-t54 : tie.Need-add-t54 Inv-loop μ-loop Inv-loop2 μ-loop2
+add-t54 c =
+    let start = c .before .before .before .before .before .before .before in
+    omega (arith, start .pre .1 .0, start .pre .0 .known .readable .ports, c .if2 .taken)
+
+cast-t50 : tie.Need-cast-t50 Inv-loop μ-loop Inv-loop2 μ-loop2
+cast-t50 c =
+    let start = c .before .before .before .before .before .before .before in
+    omega (arith, start .pre .1 .0, start .pre .0 .known .readable .ports, c .if2 .taken)
+
+returns : tie.Need-returns Inv-loop μ-loop Inv-loop2 μ-loop2
+returns c =
+    let at = c .before .before in
+    let start = at .before .before .before .before .before in
+    walked-one _ _ (start .pre .0 .known .readable) (start .pre .1 .0) (at .loop2 .inv) (c .before .loop2-test .left) _
+    (scheduled (at .before)) (c .if2 .taken)
+
+returns-2 : tie.Need-returns-2 Inv-loop μ-loop Inv-loop2 μ-loop2
 returns-2 c =
-    let start = c .before .before .before in
-    walked-end _ _ (start .pre .0 .readable) (start .pre .1 .0) (c .before .loop .inv) (c .loop-test .left)
+    let at = c .before .before in
+    let start = at .before .before .before .before .before in
+    walked-none _ _ (start .pre .0 .known .readable) (start .pre .1 .0) (at .loop2 .inv) (c .before .loop2-test .left) _
+    (scheduled (at .before)) (c .if2 .left)
 
 pub scan-spec : {M : Type 1} → statement M
 scan-spec =
@@ -136,15 +235,26 @@ scan-spec =
     (tie.spec
     Inv-loop
     μ-loop
+    Inv-loop2
+    μ-loop2
     loop-holds
     first-requires
-    mul-k
-    add-k
+    is-ready-requires
     rest-requires
-    kind-of-requires
-    cast-t14
-    returns
+    is-urgent-requires
     with-if-requires
     loop-less
     loop-again
+    first-requires-2
+    loop2-holds
+    first-requires-3
+    rest-requires-2
+    is-urgent-requires-2
+    with-if-requires-2
+    loop2-less
+    loop2-again
+    mul-t52
+    add-t54
+    cast-t50
+    returns
     returns-2)

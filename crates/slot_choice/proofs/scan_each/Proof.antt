@@ -9,11 +9,11 @@ use Rattle.slot_choice.proofs.scan_each.Statement.{statement}
 use Rattle.slot_choice.proofs.scan_each.Tie as tie
 
 abbrev Inv-loop : tie.InvT-loop
-Inv-loop table heads cross best least scheduled₀ urgent₀ some₀ ports input₀ scheduled urgent some input =
+Inv-loop table heads keys best least scheduled₀ urgent₀ some₀ ports input₀ scheduled urgent some input =
     (input ≤ ports) × ScannedTo table input scheduled urgent some
 
 abbrev μ-loop : tie.MeasureT-loop
-μ-loop table heads cross best least scheduled₀ urgent₀ some₀ ports input₀ scheduled urgent some input = ports - input
+μ-loop table heads keys best least scheduled₀ urgent₀ some₀ ports input₀ scheduled urgent some input = ports - input
 
 ports-of-requires : tie.Need-ports-of-requires Inv-loop μ-loop
 ports-of-requires c κs = search needs
@@ -24,7 +24,7 @@ inside : (c : tie.In-loop Inv-loop μ-loop)
 inside c = omega (arith, c .loop-test .taken, c .before .before .ports-of .ensures)
 
 below-ports : (c : tie.In-loop Inv-loop μ-loop) → c .before .loop .input < 16
-below-ports c = omega (arith, inside c, c .before .before .before .before .pre .0 .readable .ports)
+below-ports c = omega (arith, inside c, c .before .before .before .before .pre .0 .known .readable .ports)
 
 loop-holds : tie.Need-loop-holds Inv-loop μ-loop
 loop-holds c =
@@ -71,7 +71,7 @@ returns c =
     let start = c .before .before .before .before in
     let l = c .before .loop in
     let end : l .input ≡ portsIn (start .args .table .now) = omega (arith, c .before .before .ports-of .ensures) in
-    scanned-all _ (start .pre .0 .readable) end (l .inv .1)
+    scanned-all _ (start .pre .0 .known .readable) end (l .inv .1)
 
 pub scan-each-spec : {M : Type 1} → statement M
 scan-each-spec =
