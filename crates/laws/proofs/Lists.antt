@@ -74,10 +74,6 @@ module _ {A : Type 0} where
   ------------------------------------------------------------------------
   -- none?
 
-  pub none?-nil : (p : A → Bool) → none? p [] ≡ true
-  unfolding none?
-  none?-nil p = refl
-
   pub none?-cons : (p : A → Bool) (x : A) (l : List A) → none? p (x ∷ l) ≡ not (p x) && none? p l
   unfolding none?
   none?-cons p x l = refl
