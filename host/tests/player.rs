@@ -376,21 +376,33 @@ fn ending(out: &[u8]) -> usize {
     }
 }
 
-#[test]
-fn random_and_damaged_texts() {
-    let program = program();
-    let texts = setting("TEXTS", 100_000);
-    let mut r = Random(setting("SEED", 1) * 2 + 6364136223846793005);
-    let (mut bytes, mut endings) = (0, [0u64; 10]);
+/// Plays random texts, whole and damaged, and counts their bytes and how they end.
+fn play_random(program: &str, texts: u64, mut r: Random) -> (usize, [u64; 10]) {
+    let (mut bytes, mut endings) = (0, [0; 10]);
     for _ in 0..texts {
         let mut text = trace(&mut r);
         for _ in 0..r.pick(&[0, 0, 1, 1, 2, 3]) {
             damage(&mut r, &mut text);
         }
         let pieces = if r.one_in(100) { 1 + r.below(10) as usize } else { 1 };
-        endings[ending(&compare(&program, &text, text.len() / pieces + 1))] += 1;
+        endings[ending(&compare(program, &text, text.len() / pieces + 1))] += 1;
         bytes += text.len();
     }
+    (bytes, endings)
+}
+
+/// Two lists beside each other, since most of the time goes into starting the program.
+#[test]
+fn random_and_damaged_texts() {
+    let program = program();
+    let texts = setting("TEXTS", 100_000);
+    let random = |list| Random((setting("SEED", 1) * 2 + list) * 2 + 6364136223846793005);
+    let (one, other) = std::thread::scope(|scope| {
+        let other = scope.spawn(|| play_random(&program, texts / 2, random(1)));
+        (play_random(&program, texts - texts / 2, random(0)), other.join().unwrap())
+    });
+    let bytes = one.0 + other.0;
+    let endings: [u64; 10] = std::array::from_fn(|n| one.1[n] + other.1[n]);
     println!("{texts} texts of {bytes} bytes: {} played to the end, refused {:?}", endings[0], &endings[1..]);
     assert!([0, 1, 3, 4, 5, 6, 7, 8, 9].iter().all(|&n| endings[n] > 0), "some ending never came: {endings:?}");
 }
