@@ -197,9 +197,9 @@ fn scan_each(
     some
 }
 
-// Rules 1 to 3 for an input, along the heads of its list. The first whose crosspoint is empty is scheduled; up to there a
-// head is asked with none, since it stands before the one to come, and from there on with that. Nothing branches on which
-// heads are urgent, as that would be guessed badly.
+// Rules 1 to 3 for an input, along the heads of its list. The first whose crosspoint is empty is scheduled; up to there
+// a head is asked with none, since it stands before the one to come, and from there on with that. Nothing branches on
+// which heads are urgent, as that would be guessed badly.
 fn scan(
     table: &[u8],
     heads: u64,
@@ -271,7 +271,7 @@ fn is_urgent(
     let k = CELLS * input + position;
     let output = layout_table::entry::output_of(table, k) as usize;
     let key = layout_table::entry::key_of(table, k);
-    // Whether it is blocked: its crosspoint holds a cell of lower output priority. Cells of one input never tie.
+    // Whether it is blocked: its crosspoint holds a cell of lower output priority. Of one input the keys decide.
     let held = keys[output][input];
     let blocked = (key < held) & (held != NO_KEY);
     // Its place: before the scheduled cell.
