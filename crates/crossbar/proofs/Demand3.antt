@@ -37,7 +37,7 @@ use Rattle.layout.specs.Host.{resultOf, startCall, bufferAfter, tableAfter, ans
 use Rattle.layout.specs.Table.{decode, encode, tableSize}
 use Rattle.layout.specs.TallyBytes.{tallySize}
 use Rattle.layout.proofs.Answer.{length-departuresBytes, answer-parts}
-use Rattle.layout.proofs.Arrivals.{recordsOf-fits}
+use Rattle.layout.proofs.Arrivals.{recordsOf-lent}
 use Rattle.layout.proofs.Cues.{length-storeBytes, decodeStore-storeBytes, decodeStore-some, storeCall-done, setCall-cues}
 use Rattle.layout.proofs.Cues.{dropCall-cues, returnCall-cues}
 use Rattle.layout.proofs.Number.{isByte, bytes?}
@@ -72,12 +72,7 @@ call-slot table s c t h = go (recordsOf (c .arrivals)) refl
 
 -- and its records are of 32 bits
 call-lent : (c : Slot) → lendable c ≡ true → lent (recordsOf (c .arrivals)) ≡ true
-unfolding lent
-call-lent c h = go (recordsOf (c .arrivals)) refl
-  where
-    go : (o : Option (List Arrival)) → recordsOf (c .arrivals) ≡ o → lent (recordsOf (c .arrivals)) ≡ true
-    go none e = ap lent e
-    go (some records) e = ap lent e ∙ recordsOf-fits (c .arrivals) records (parts c h .0) e
+call-lent c h = recordsOf-lent (c .arrivals) (parts c h .0)
 
 -- the answer's departures are those of the slot
 answer-departures : (answer : List ℕ) (c : Course) → take departuresSize (answerAfter answer (done c)) ≡ departuresBytes portLimit (c .departures)
@@ -112,8 +107,8 @@ module _ (s : Switch) (a : Option (List Arrival)) (good : sound s ≡ true) (l :
       record {
         refusals = h .refusals;
         departures = ap (λ x. x .departures) (answer-read s a good l answer (refused r place) e) ∙ h .departures;
-        outputs = λ z. absurd (result-refused r place z);
-        bytes = λ z. absurd (result-refused r place z);
+        outputs = λ z. absurd (result-refused Course r place z);
+        bytes = λ z. absurd (result-refused Course r place z);
         kept = λ _. refl;
       }
 

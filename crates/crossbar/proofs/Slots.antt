@@ -9,27 +9,22 @@ use borrow.Author.Tests.{eq-eqb}
 use lib.ListN.{length}
 use Rattle.cell.specs.declared.Refusal.the-variants.{BrokenTable}
 use Rattle.cell.specs.Refusal.{number}
-use Rattle.model.specs.Checks.{Outcome, done, refused, refusalOf}
+use Rattle.model.specs.Checks.{Outcome}
 use Rattle.model.specs.Crossbar.{Course}
 use Rattle.model.specs.Tally.{tallyAfter, arrivalCount}
 use Rattle.layout.specs.Arrivals.{recordsOf}
+use Rattle.layout.specs.Host.{faultResult}
 use Rattle.layout.specs.Host.{resultOf, slotCall, tableAfter, answerAfter, tallyBytesAfter}
 use Rattle.layout.specs.TallyBytes.{tallyOf, tallyBytes, tallySize}
-use Rattle.layout.proofs.Host.{slotCall-tally, tallyBytesAfter-broken}
+use Rattle.layout.proofs.Host.{slotCall-tally, result-fault, tallyBytesAfter-broken}
 use Rattle.cell.specs.declared.Fault.{Fault}
 use Rattle.slot_call.specs.CodeLent.{lentSlot, LentLeaves}
-use Rattle.crossbar.specs.Code.{faultResult}
 
 -- a call with a tally of the right length comes to the slot on lent bytes
 call-lent : (table arrivals answer tally : List ℕ) → length tally ≡ tallySize
     → slotCall table arrivals answer tally ≡ lentSlot table arrivals (length answer)
 unfolding slotCall lentSlot
 call-lent table arrivals answer tally size = rw size
-
-result-fault : (o : Outcome Course) → faultResult (refusalOf o) ≡ resultOf o
-unfolding refusalOf resultOf
-result-fault (done c) = refl
-result-fault (refused r place) = refl
 
 -- the result of a call, and the table, the answer and the tally that it leaves
 abbrev pub Answers : List ℕ → List ℕ → List ℕ → List ℕ → ℕ → List ℕ → List ℕ → List ℕ → Type 0

@@ -2,14 +2,13 @@
 // switch are here, those of its cues in `cues`.
 pub mod cues;
 
-use cell::Fault;
 use cell::Refusal;
 use cell::Switch;
 use layout::TABLE_BYTES;
 use layout::TALLY_BYTES;
+use layout::result::result_of;
 use layout_table::header::write_fresh;
 ghost use mathlib.Core.Path.{_≡_};
-ghost use Rattle.crossbar.specs.Code.{faultResult};
 ghost use Rattle.layout.specs.Host.{checkCall, startCall, bufferAfter, resultOf};
 ghost use Rattle.layout.specs.Host.{slotCall, CallLeaves};
 
@@ -65,14 +64,4 @@ pub extern "C" fn slot(
         return Refusal::BrokenTable.number() as u64;
     }
     result_of(slot_call::bytes::slot(table, arrivals, answer, tally))
-}
-
-// 0, or the number of the refusal and 256 times the record's place.
-fn result_of(fault: Fault) -> u64
-    ensures { λ r. ⌜ r ≡ faultResult fault ⌝ }
-{
-    match fault {
-        Fault::Clear => 0,
-        Fault::At(refusal, place) => refusal.number() as u64 + 256 * (place as u64),
-    }
 }

@@ -106,7 +106,7 @@ nothing-sent (suc k) bs =
     ∙ nothing-sent k bs)
 
 -- the departures, and none at so many outputs more
-departuresIn-all : (n : ℕ) (ds : List (Option Cell)) (k : ℕ) (bs : List ℕ) → all? departureFits ds ≡ true
+pub departuresIn-all : (n : ℕ) (ds : List (Option Cell)) (k : ℕ) (bs : List ℕ) → all? departureFits ds ≡ true
     → n ≡ length ds + k → departuresIn n (departuresBytes n ds ++ bs) ≡ ds ++ noDepartures k
 unfolding departuresIn departuresBytes all?
 departuresIn-all n [] k bs h e = nothing-sent n bs ∙ ap noDepartures (omega arith)

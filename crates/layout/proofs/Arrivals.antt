@@ -4,7 +4,7 @@ use Prim.Native.Nat.{ℕ, zero, suc, _+_, _*_, _/_, _%_, _≤_}
 use mathlib.Core.Bool.{Bool, true, false}
 use mathlib.Core.Path.{_≡_, refl, sym, _∙_, ap, ap₂}
 use mathlib.Core.List.{List, [], _∷_, _++_}
-use mathlib.Core.Option.{none, some, Option·some-injective, Option·some-ne-none}
+use mathlib.Core.Option.{Option, none, some, Option·some-injective, Option·some-ne-none}
 use native.Mathlib.Omega.{arith}
 use borrow.Author.Tests.{eqb-true, eqb-false, eq-eqb, ne-eqb}
 use lib.Dec.{eqb, lit≤}
@@ -15,6 +15,7 @@ use Rattle.laws.proofs.Tests.{and-i, and-l, and-r}
 use Rattle.cell.specs.declared.Arrival.{Arrival}
 use Rattle.cell.specs.Cell.{arrivalFits}
 use Rattle.cell.specs.Limits.{fits32}
+use Rattle.model.specs.Emulation.{lent}
 use Rattle.layout.specs.Number.{bytesOf, numberAt, word}
 use Rattle.layout.specs.Arrivals.{arrivalSize, arrivalBytes, arrivalOf, arrivalsBytes, arrivalsOf, recordsOf}
 use Rattle.layout.proofs.Number.{bytes?, bytes?-take, bytes?-drop, length-bytesOf}
@@ -163,3 +164,12 @@ recordsOf-fits bs rs h e =
     let whole : length bs % arrivalSize ≡ 0 = recordsOf-some bs rs e .0 in
     let size : length bs ≡ arrivalSize * (length bs / arrivalSize) = omega arith in
     rw (← recordsOf-some bs rs e .1) (arrivalsOf-fits (length bs / arrivalSize) bs h size)
+
+-- so lent bytes are records of 32 bits, or no whole number of records
+pub recordsOf-lent : (bs : List ℕ) → bytes? bs ≡ true → lent (recordsOf bs) ≡ true
+unfolding lent
+recordsOf-lent bs h = go (recordsOf bs) refl
+  where
+    go : (o : Option (List Arrival)) → recordsOf bs ≡ o → lent (recordsOf bs) ≡ true
+    go none e = ap lent e
+    go (some rs) e = ap lent e ∙ recordsOf-fits bs rs h e

@@ -1,4 +1,4 @@
--- Laws of start, check and slot on bytes: what they are refused for, and what a refusal keeps.
+-- Laws of start, check and slot on bytes: what they are refused for, and what a wrong tally keeps.
 use Prim.Native.Nat.{ℕ, _+_, _≤_, _<_}
 use mathlib.Core.Bool.{true, false}
 use mathlib.Core.Path.{_≡_, refl, _∙_, ap}
@@ -14,13 +14,14 @@ use Rattle.cell.specs.declared.Refusal.the-variants.{BadSize, BrokenTable, Shor
 use Rattle.cell.specs.Limits.{portsInRange}
 use Rattle.cell.proofs.RefusalNumbers.{number-range}
 use Rattle.model.specs.State.{Switch, fresh}
-use Rattle.model.specs.Checks.{Outcome, done, refused}
+use Rattle.model.specs.Checks.{Outcome, done, refused, refusalOf}
 use Rattle.model.specs.Crossbar.{Course, start, slot}
 use Rattle.layout.specs.Arrivals.{recordsOf}
+use Rattle.layout.specs.Host.{faultResult}
 use Rattle.layout.specs.Answer.{answerSize}
 use Rattle.layout.specs.Table.{decode, tableSize}
 use Rattle.layout.specs.TallyBytes.{tallySize}
-use Rattle.layout.specs.Host.{filled, startCall, checkCall, slotOf, slotCall, tableAfter}
+use Rattle.layout.specs.Host.{filled, startCall, checkCall, slotOf, slotCall}
 use Rattle.layout.specs.Host.{resultOf, tallyBytesAfter}
 
 ------------------------------------------------------------------------
@@ -95,15 +96,17 @@ module _ (table arrivals answer tally : List ℕ) where
     slotCall-slot h = rw (t, a, c, le-ltb (length answer) answerSize h, slotOf)
 
 -- 0 is the result of no refusal
-pub result-refused : (r : Refusal) (place : ℕ) → resultOf {A = Course} (refused r place) ≡ 0 → ⊥
+pub result-refused : (A : Type 0) (r : Refusal) (place : ℕ) → resultOf {A = A} (refused r place) ≡ 0 → ⊥
 unfolding resultOf
-result-refused r place h = omega (arith, number-range r .0)
+result-refused A r place h = omega (arith, number-range r .0)
 
--- a refused slot keeps the table and the answer, and a tally of another length is kept by every slot
-pub tableAfter-refused : (table : List ℕ) (r : Refusal) (place : ℕ) → tableAfter table (refused r place) ≡ table
-unfolding tableAfter
-tableAfter-refused table r place = refl
+-- the result by the fault
+pub result-fault : {A : Type 0} (o : Outcome A) → faultResult (refusalOf o) ≡ resultOf o
+unfolding refusalOf resultOf
+result-fault (done a) = refl
+result-fault (refused r place) = refl
 
+-- a tally of another length is kept by every slot
 pub tallyBytesAfter-broken : (arrivals tally : List ℕ) (o : Outcome Course) → (length tally ≡ tallySize → ⊥)
     → tallyBytesAfter arrivals tally o ≡ tally
 unfolding tallyBytesAfter

@@ -6,6 +6,9 @@ pub mod Halves
 pub mod Host
 pub mod Limits
 pub mod Number
+pub mod Oq
+pub mod OqRead
+pub mod OqRows
 pub mod Pieces
 pub mod Put
 pub mod Read

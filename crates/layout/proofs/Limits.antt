@@ -47,7 +47,7 @@ pub record Goes (s : Switch) (c : Course) : Type 0 where
   pub clock : c .switch .clock ≡ s .clock + 1
 
 -- one departure for each output
-length-departures : (ports : ℕ) (out : List Waiting) → length (departuresOf ports out) ≡ ports
+pub length-departures : (ports : ℕ) (out : List Waiting) → length (departuresOf ports out) ≡ ports
 unfolding departuresOf upTo
 length-departures ports out = length-map (upTo ports) _ ∙ length-numbersFrom 0 ports
 
@@ -81,7 +81,7 @@ module _ (ports clock : ℕ) (sections : List (List Entry)) (h : soundSections p
   departure-fits [] f = refl
   departure-fits (w ∷ l) f = f w (List·Memᴰ·head refl)
 
-  departures-fit : all? departureFits (departuresOf ports (leaving ports (waiting sections))) ≡ true
+  pub departures-fit : all? departureFits (departuresOf ports (leaving ports (waiting sections))) ≡ true
   unfolding departuresOf
   departures-fit =
       all?-map departureFits _ (upTo ports)

@@ -44,7 +44,7 @@ module _ (s : Switch) (a : Option (List Arrival)) (h : sound s ≡ true) (l : le
       ap (λ n. answerIn n (answerBytes (answerOf c) ++ rest)) (sym (g .outputs))
       ∙ answerIn-answerBytes (answerOf c) rest (g .few) (g .fit) (g .first) (g .second) (g .outputsOne) (g .heldOne)
       (g .outputsTwo) (g .heldTwo)
-  answer-read buffer (refused r place) e = rw (ne-eqb _ 0 (result-refused r place), answerRead)
+  answer-read buffer (refused r place) e = rw (ne-eqb _ 0 (result-refused Course r place), answerRead)
 
   pub outputs-read : (buffer : List ℕ) (c : Course) → slot s a ≡ done c
       → departuresIn portLimit (answerAfter buffer (done c)) ≡ c .departures ++ noDepartures (portLimit - s .ports)

@@ -1,15 +1,20 @@
 -- The arrivals of a slot as bytes: records of 20 bytes, five numbers of 32 bits each. Any bits are a record.
-use Prim.Native.Nat.{ℕ, zero, suc, _/_, _%_}
+use Prim.Native.Nat.{ℕ, zero, suc, _+_, _/_, _%_}
 use mathlib.Core.Bool.{true, false}
 use mathlib.Core.List.{List, [], _∷_, _++_}
 use mathlib.Core.Option.{Option, none, some}
 use lib.Dec.{eqb}
 use lib.ListN.{length, take, drop}
 use Rattle.cell.specs.declared.Arrival.{Arrival}
+use Rattle.cell.specs.Limits.{portLimit}
 use Rattle.layout.specs.Number.{bytesOf, word}
 
 abbrev pub arrivalSize : ℕ
 arrivalSize = 20
+
+-- so many records are looked at: inputs rise and are below N, so that the one behind them has a fault or stands behind one
+abbrev pub heldLimit : ℕ
+heldLimit = portLimit + 1
 
 -- input, output, flow, rank, tag
 unfoldable pub arrivalBytes : Arrival → List ℕ

@@ -8,6 +8,8 @@ use mathlib.Core.Path.{_≡_}
 use lib.Dec.{ltb, eqb}
 use lib.ListN.{length, drop}
 use Rattle.cell.specs.declared.Arrival.{Arrival}
+use Rattle.cell.specs.declared.Fault.{Fault}
+use Rattle.cell.specs.declared.Fault.the-variants.{Clear, At}
 use Rattle.cell.specs.declared.Refusal.the-variants.{BrokenTable, ShortBuffer}
 use Rattle.cell.specs.Refusal.{number}
 use Rattle.model.specs.State.{Switch}
@@ -27,6 +29,11 @@ filled bs buffer = bs ++ drop (length bs) buffer
 unfoldable pub resultOf : {A : Type 0} → Outcome A → ℕ
 resultOf (done a) = 0
 resultOf (refused r place) = number r + 256 * place
+
+-- the same of a fault
+abbrev pub faultResult : Fault → ℕ
+faultResult Clear = 0
+faultResult (At r place) = number r + 256 * place
 
 -- Start: the fresh table, or 1, then 10.
 unfoldable pub startCall : ℕ → ℕ → List ℕ → Outcome Switch

@@ -1,9 +1,11 @@
 pub mod Answer
 pub mod Arrivals
 pub mod Code
+pub mod CodeOq
 pub mod Cues
 pub mod Entry
 pub mod Host
 pub mod Number
+pub mod Oq
 pub mod Table
 pub mod TallyBytes

@@ -1,5 +1,6 @@
 // The bytes of the table, of the arrivals, of the answer, of the tally and of the cue store: definitions in specs/ and
 // laws in proofs/. Here are their sizes, for all code that reads or writes them, each made of the others.
+pub mod result;
 pub mod run;
 pub mod word;
 
@@ -20,6 +21,13 @@ pub const HEADER_BYTES: usize = 32;
 pub const ENTRY_BYTES: usize = 16;
 
 pub const TABLE_BYTES: usize = HEADER_BYTES + ENTRIES * ENTRY_BYTES;
+
+// The bytes of the output-queued switch's table: a number of its own, then a table.
+pub const OQ_NUMBER: u32 = 101;
+
+pub const OQ_NUMBER_BYTES: usize = 4;
+
+pub const OQ_TABLE_BYTES: usize = OQ_NUMBER_BYTES + TABLE_BYTES;
 
 // The bytes of an answer: a departure for each output, then the proposals of both phases, then those phases'
 // occupancies, a number for each output, where they stand.

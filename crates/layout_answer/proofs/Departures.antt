@@ -100,7 +100,7 @@ unfolding isSent departureIn departureBytes word numberAt numberOf bytesOf
 sent-bytes none = refl
 sent-bytes (some c) = refl
 
-sent-departures : (n : ℕ) (ds : List (Option Cell)) (rest : List ℕ) → length ds ≤ n
+pub sent-departures : (n : ℕ) (ds : List (Option Cell)) (rest : List ℕ) → length ds ≤ n
     → sentBelow n (departuresBytes n ds ++ rest) ≡ count isSent ds
 unfolding departuresIn departuresBytes count isSent
 sent-departures zero [] rest room = refl

@@ -99,7 +99,7 @@ fn write_held(answer: &mut [u8], at: usize, n: u16)
 
 // How many departures an answer has.
 pub fn departures_in(answer: &[u8]) -> u64
-    requires { ⌜ answerSize ≤ length (now answer) ⌝ }
+    requires { ⌜ departuresSize ≤ length (now answer) ⌝ }
     ensures { λ r. ⌜ r ≡ sentIn (now (answer .entry)) ⌝ }
 {
     let mut count: u64 = 0;

@@ -23,9 +23,10 @@ use Rattle.model.specs.Emulation.{cellsAt}
 use Rattle.model.specs.Pifo.{freshPifo, queued, join, best, rest, runPifo, slotPifo, pifoAfter}
 use Rattle.model.specs.Sound.{soundEntry, together, otherSlot, otherCrosspoint, soundSection, soundSections}
 use Rattle.model.specs.Sound.{sound}
-use Rattle.model.specs.Calls.{sameDeparture, sameCells, stand, coursePasses, courseOccupies, crossbarAnswers, pifoAnswers}
-use Rattle.model.specs.Calls.{crossbarRuns, pifoRuns, bothRun, enterAt, sectionsFrom, switchWith, arrival}
-use Rattle.model.specs.Calls.{cell, call, tables}
+use Rattle.model.specs.Oq.{joinBuffer, joinBuffers, runOq, slotOq, oqAfter}
+use Rattle.model.specs.Calls.{sameDeparture, sameCells, stand, coursePasses, courseOccupies, crossbarAnswers}
+use Rattle.model.specs.Calls.{departuresAnswer, pifoAnswers, oqAnswers, crossbarRuns, pifoRuns, oqRuns, allRun}
+use Rattle.model.specs.Calls.{enterAt, sectionsFrom, switchWith, arrival, cell, call, tables}
 use Rattle.model.specs.Histories.{given, recordOf, runs, crowded, threeInputs, twoOfPair, behindScheduled, listOrder}
 use Rattle.model.specs.Histories.{notOverAll, scheduledMatched, fullCrosspoint, straightAlone, arrivals}
 use Rattle.model.specs.Histories.{tieOfInputs, turnOfEach, turnOfTheLastInput, tieOfSlots, tieOfUrgent, fallingRanks}
@@ -56,8 +57,8 @@ unfolding flatten keep some? none? all? count least pairwise update first? numbe
     firstFault numberFrom numberSections numbered waiting lists crosspoints sameInput sameOutput ahead beats among sameCrosspoint heads blocked
     crosspointEmpty ready scheduled isUrgent urgent takesPart candidates straight sent pulled atCrosspoint occupancy outputChoice phase placeSent placeAfter placedBy moved inListOf newEntry
     enterAfter enter arrive leaving departuresOf without run occupancies answerOf slot switchAfter cellsAt freshPifo queued join best rest runPifo slotPifo pifoAfter soundEntry
-    together otherSlot otherCrosspoint soundSection soundSections sound sameDeparture sameList sameCells stand coursePasses courseOccupies crossbarAnswers pifoAnswers
-    crossbarRuns pifoRuns bothRun enterAt sectionsFrom switchWith arrival cell call tables given recordOf runs crowded threeInputs twoOfPair behindScheduled
+    together otherSlot otherCrosspoint soundSection soundSections sound sameDeparture sameList sameCells stand coursePasses courseOccupies crossbarAnswers departuresAnswer pifoAnswers
+    oqAnswers crossbarRuns pifoRuns oqRuns allRun joinBuffer joinBuffers runOq slotOq oqAfter enterAt sectionsFrom switchWith arrival cell call tables given recordOf runs crowded threeInputs twoOfPair behindScheduled
     listOrder notOverAll scheduledMatched fullCrosspoint straightAlone arrivals tieOfInputs turnOfEach turnOfTheLastInput tieOfSlots tieOfUrgent fallingRanks fullInput orderOfChecks
     lastSlot turnOfTheLastSlot
 histories-given =

@@ -22,7 +22,7 @@ use Rattle.model.specs.Cues.{noCues, isLetter, wellNamed, firstPlace, is
 use Rattle.model.specs.Cues.{soundCue, otherName, soundCues}
 use Rattle.model.specs.Pifo.{freshPifo, queued, join, best, rest, runPifo, slotPifo, pifoAfter}
 use Rattle.model.specs.Rehearsal.{begun, left, next}
-use Rattle.model.specs.Calls.{sameDeparture, crossbarAnswers, pifoAnswers, arrival, cell, call}
+use Rattle.model.specs.Calls.{sameDeparture, crossbarAnswers, departuresAnswer, pifoAnswers, arrival, cell, call}
 use Rattle.model.specs.Rehearsals.{answersWith, sameHeld, heldName, holds, plays?, rehearsed, freePlaces, a, b, c, d, e}
 use Rattle.model.specs.Rehearsals.{comesBack, setAgain, fourHeld, lowestFree, names, soundStores}
 
@@ -38,7 +38,7 @@ unfolding flatten keep some? none? all? count least update first? numbersFrom up
     firstFault numberFrom numberSections numbered waiting lists crosspoints sameInput sameOutput ahead beats among sameCrosspoint heads blocked
     crosspointEmpty ready scheduled isUrgent urgent takesPart candidates straight sent pulled atCrosspoint occupancy outputChoice phase placeSent placeAfter placedBy moved inListOf newEntry
     enterAfter enter arrive leaving departuresOf without run slot switchAfter noCues isLetter wellNamed firstPlace isFree isNamed setCue dropCue returnTo
-    freshPifo queued join best rest runPifo slotPifo pifoAfter begun left next sameDeparture crossbarAnswers pifoAnswers arrival cell call
+    freshPifo queued join best rest runPifo slotPifo pifoAfter begun left next sameDeparture crossbarAnswers departuresAnswer pifoAnswers arrival cell call
     answersWith sameHeld heldName holds plays? rehearsed freePlaces a b c d e comesBack setAgain fourHeld lowestFree names pairwise soundCue otherName soundCues
     soundStores
 rehearsals-given = (refl, refl, refl, refl, refl, refl)

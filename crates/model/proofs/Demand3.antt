@@ -49,7 +49,11 @@ pub record Kept (s : Switch) (q : Pifo) : Type 0 where
 module _ (s : Switch) (q : Pifo) (kept : Kept s q) (records : List Arrival) (fits : all? arrivalFits records ≡ true)
     (ticks : eqb (s .clock) clockEnd ≡ false)
     (clear : firstFault (s .ports) (cells s) (arriving s records) ≡ none) where
-  settled : Settled s (arriving s records)
+  abbrev course : Course
+  course = run s (arriving s records)
+
+  settled : Settled s (arriving s records) (waiting (course .settled)) (course .switch)
+  unfolding run
   settled =
       let o = settled-orderly s records (kept .table) fits ticks clear in
       record {
@@ -57,10 +61,16 @@ module _ (s : Switch) (q : Pifo) (kept : Kept s q) (records : List Arrival) (fit
         arrivals = o .arrivals;
         best = settled-best s records (kept .table) fits ticks clear (kept .slack);
         all = settled-count s records (kept .table) fits ticks clear;
+        ports = refl;
+        clock = refl;
         stay = run-cells s (arriving s records);
       }
 
-  kept-run : Kept (run s (arriving s records) .switch) (runPifo q (arriving s records) .pifo)
+  same-departures : course .departures ≡ runPifo q (arriving s records) .departures
+  unfolding run
+  same-departures = related-departures s q (kept .related) (arriving s records) clear settled
+
+  kept-run : Kept (course .switch) (runPifo q (arriving s records) .pifo)
   unfolding run
   kept-run =
       record {
@@ -89,13 +99,7 @@ step s q kept a fits = go (related-refused s q (kept .related) a)
         let fit : all? arrivalFits records ≡ true = subst (λ x. lent x ≡ true) p fits in
         rw (e, f)
         (record {
-          answers = λ ports.
-              record {
-                refusals = refl;
-                departures =
-                    related-departures s q (kept .related) (arriving s records) clear
-                    (settled s q kept records fit ticks clear);
-              };
+          answers = λ ports. record { refusals = refl; departures = same-departures s q kept records fit ticks clear };
           limits = within-limits s records (kept .table) fit ticks clear;
           kept = kept-run s q kept records fit ticks clear;
         })

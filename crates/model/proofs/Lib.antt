@@ -1,5 +1,6 @@
 pub mod Accord
 pub mod AccordCues
+pub mod AccordOq
 pub mod Admitted
 pub mod Bags
 pub mod Balance
@@ -11,7 +12,10 @@ pub mod CueSound
 pub mod Demand3
 pub mod Enter
 pub mod FirstPlace
+pub mod Insert
 pub mod Numbering
+pub mod OqAlike
+pub mod OqSound
 pub mod OutputChoice
 pub mod PhaseFacts
 pub mod PhaseGain

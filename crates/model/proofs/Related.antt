@@ -1,8 +1,10 @@
--- The relation between the crossbar and the PIFO switch, and that every slot call keeps it: equal N, equal clocks, the
--- same bag of waiting cells.
+-- The relation between a switch and the PIFO switch, and that every slot call keeps it: equal N, equal clocks, the same
+-- bag of waiting cells. An accepted slot is looked at as it stands before the departures, so that its laws hold of the
+-- crossbar (Demand3) and of the output-queued switch (OqAlike).
 --     related-fresh          two fresh switches
 --     related-refused        a call is refused by both, alike, or by neither
---     related-departures     of an accepted slot are equal
+--     Settled                what an accepted slot is to have come to
+--     related-departures     then its departures are equal
 --     related-run            and the relation holds after it
 --     related-same-waiting   the same cells wait in both, output by output
 use Prim.Native.Nat.{ℕ, zero, suc, _+_, _<_}
@@ -22,8 +24,8 @@ use Rattle.cell.specs.Cell.{accepted, sameCell}
 use Rattle.cell.specs.Limits.{clockEnd}
 use Rattle.model.specs.State.{Entry, Switch, fresh, cells}
 use Rattle.model.specs.Checks.{done, refused, firstFault}
-use Rattle.model.specs.Phase.{Waiting, waiting, among}
-use Rattle.model.specs.Crossbar.{leaving, run, slot}
+use Rattle.model.specs.Phase.{Waiting, among}
+use Rattle.model.specs.Crossbar.{leaving, departuresOf, run, slot}
 use Rattle.model.specs.Pifo.{Pifo, freshPifo, queued, join, runPifo, slotPifo}
 use Rattle.model.specs.CodeSlackness.{otherNumber, otherArrival}
 use Rattle.model.specs.Emulation.{SameWaiting}
@@ -153,32 +155,24 @@ module _ (s : Switch) (q : Pifo) (rel : Related s q) where
 ------------------------------------------------------------------------
 -- an accepted slot
 
-run-ports : (s : Switch) (cs : List Cell) → (run s cs) .switch .ports ≡ s .ports
-unfolding run
-run-ports s cs = refl
-
-run-clock : (s : Switch) (cs : List Cell) → (run s cs) .switch .clock ≡ s .clock + 1
-unfolding run
-run-clock s cs = refl
-
--- the cells of the crossbar before the departures, and the queues of the PIFO switch
-abbrev pub settledIn : Switch → List Cell → List Waiting
-settledIn s cs = waiting ((run s cs) .settled)
-
+-- the queues of the PIFO switch when the new cells have joined
 abbrev joinedIn : Pifo → List Cell → List (List Cell)
 joinedIn q cs = join cs (q .queues)
 
--- what the crossbar's phases are to have come to
-pub record Settled (s : Switch) (cs : List Cell) : Type 0 where
-  pub numbers : pairwise otherNumber (settledIn s cs) ≡ true
-  pub arrivals : pairwise otherArrival (settledIn s cs) ≡ true
-  pub best : Best (s .ports) (settledIn s cs)
-  pub all : SameBag (cellsOf (settledIn s cs)) (cs ++ cells s)
-  pub stay : cells ((run s cs) .switch)
-      ≡ cellsOf (keep (λ e. not (among (leaving (s .ports) (settledIn s cs)) e)) (settledIn s cs))
+-- What an accepted slot is to have come to, with these cells before the departures and this switch after them. Each
+-- output is to send the cell of highest output priority in its buffer, and every other cell stays.
+pub record Settled (s : Switch) (cs : List Cell) (settled : List Waiting) (after : Switch) : Type 0 where
+  pub numbers : pairwise otherNumber settled ≡ true
+  pub arrivals : pairwise otherArrival settled ≡ true
+  pub best : Best (s .ports) settled
+  pub all : SameBag (cellsOf settled) (cs ++ cells s)
+  pub ports : after .ports ≡ s .ports
+  pub clock : after .clock ≡ s .clock + 1
+  pub stay : cells after ≡ cellsOf (keep (λ e. not (among (leaving (s .ports) settled) e)) settled)
 
 module _ (s : Switch) (q : Pifo) (rel : Related s q) (cs : List Cell)
-    (fine : firstFault (s .ports) (cells s) cs ≡ none) (settled : Settled s cs) where
+    (fine : firstFault (s .ports) (cells s) cs ≡ none)
+    {settled : List Waiting} {after : Switch} (course : Settled s cs settled after) where
   queues-right : Queues (q .ports) (joinedIn q cs)
   queues-right = queues-join (q .ports) cs (q .queues) (rel .queues)
 
@@ -187,32 +181,31 @@ module _ (s : Switch) (q : Pifo) (rel : Related s q) (cs : List Cell)
       rw (rel .queues .size, ← rel .ports) (admitted (s .ports) (cells s) cs fine .outputs c m)
 
   -- after arrival the same cells wait in both
-  same-cells : SameBag (cellsOf (settledIn s cs)) (flatten (joinedIn q cs))
+  same-cells : SameBag (cellsOf settled) (flatten (joinedIn q cs))
   unfolding queued
   same-cells p =
-      settled .all p
+      course .all p
       ∙ count-append p cs (cells s)
       ∙ ap (λ n. count p cs + n) (rel .bag p)
       ∙ sym (join-count p cs (q .queues) outputs-exist)
 
-  pub related-departures : (run s cs) .departures ≡ (runPifo q cs) .departures
-  unfolding run runPifo
+  pub related-departures : departuresOf (s .ports) (leaving (s .ports) settled) ≡ (runPifo q cs) .departures
+  unfolding runPifo
   related-departures =
-      departures-bag (s .ports) (settledIn s cs) (settled .arrivals) (settled .best)
-      (flatten (joinedIn q cs)) same-cells
+      departures-bag (s .ports) settled (course .arrivals) (course .best) (flatten (joinedIn q cs)) same-cells
       ∙ ap (λ n. map (λ o. first? (keep (goesTo o) (least (beatsCell n) (flatten (joinedIn q cs))))) (upTo n))
       (rel .ports)
       ∙ sym (best-queues (q .ports) (joinedIn q cs) queues-right)
 
-  pub related-run : Related ((run s cs) .switch) ((runPifo q cs) .pifo)
+  pub related-run : Related after ((runPifo q cs) .pifo)
   unfolding runPifo queued
   related-run =
       record {
-        ports = run-ports s cs ∙ rel .ports;
-        clock = run-clock s cs ∙ ap (λ n. n + 1) (rel .clock);
+        ports = course .ports ∙ rel .ports;
+        clock = course .clock ∙ ap (λ n. n + 1) (rel .clock);
         bag = λ p.
-            ap (count p) (settled .stay)
-            ∙ staying-bag (s .ports) (settledIn s cs) (settled .numbers) (settled .best)
+            ap (count p) (course .stay)
+            ∙ staying-bag (s .ports) settled (course .numbers) (course .best)
             (flatten (joinedIn q cs)) same-cells p
             ∙ ap (λ n. count p (keep (λ c. some? (λ d. beatsCell n d c) (flatten (joinedIn q cs))) (flatten (joinedIn q cs))))
             (rel .ports)

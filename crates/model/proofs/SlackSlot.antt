@@ -6,13 +6,13 @@
 --     settled-best       so before departure the buffers hold the best cell of each output
 use Prim.Native.Nat.{ℕ, suc, _+_, _≤_, _<_}
 use native.Mathlib.Omega.{arith}
-use mathlib.Core.Bool.{Bool, true, false}
-use mathlib.Core.Path.{_≡_, refl}
-use mathlib.Core.List.{List, [], _∷_, map, flatten, List·Memᴰ, List·Memᴰ·head, List·Memᴰ·tail, List·Memᴰ·not-nil}
+use mathlib.Core.Bool.{true, false}
+use mathlib.Core.Path.{_≡_}
+use mathlib.Core.List.{List, map, flatten, List·Memᴰ, List·Memᴰ·not-nil}
 use mathlib.Core.Option.{none}
 use lib.Dec.{ltb, eqb}
-use lib.ListN.{length, getD}
-use Rattle.laws.specs.Lists.{all?, count, pairwise, update}
+use lib.ListN.{length}
+use Rattle.laws.specs.Lists.{all?, pairwise}
 use Rattle.cell.specs.declared.Arrival.{Arrival}
 use Rattle.cell.specs.declared.Cell.{Cell}
 use Rattle.cell.specs.Cell.{accepted, arrivalFits}
@@ -20,11 +20,10 @@ use Rattle.cell.specs.Limits.{clockEnd}
 use Rattle.model.specs.State.{Entry, Switch, fresh, cells}
 use Rattle.model.specs.Checks.{firstFault}
 use Rattle.model.specs.Phase.{waiting, phase, moved}
-use Rattle.model.specs.Crossbar.{enter, arrive, Course, run}
+use Rattle.model.specs.Crossbar.{arrive, Course, run}
 use Rattle.model.specs.CodeSlackness.{Slack, Orderly}
 use Rattle.model.specs.Sound.{soundSections, sound}
-use Rattle.model.proofs.Bags.{flatten-mem, length-update, count-update}
-use Rattle.model.proofs.Enter.{count-enter}
+use Rattle.model.proofs.Bags.{flatten-mem}
 use Rattle.model.proofs.Numbering.{Housed, waiting-moved}
 use Rattle.model.proofs.PhaseSlack.{phase-slack}
 use Rattle.model.proofs.SameDeparture.{Best}
@@ -33,7 +32,7 @@ use Rattle.model.proofs.SlackArrival.{FollowAll, enter-slack}
 use Rattle.model.proofs.SlackDeparture.{departure-slack, best-buffered}
 use Rattle.model.proofs.SlackSections.{behind-nil, threadAt, cushionAt, shields, SlackAt, slack-at, at-slack}
 use Rattle.model.proofs.SoundArrival.{Arrived, kept, entered, arrive-at, arrival-inputs, arrival-turns}
-use Rattle.model.proofs.SoundArrival.{arrival-follow-all}
+use Rattle.model.proofs.SoundArrival.{arrive-entries, arrival-follow-all}
 use Rattle.model.proofs.SoundLaws.{sound-e}
 use Rattle.model.proofs.SoundOrderly.{sound-housed, sound-orderly}
 use Rattle.model.proofs.SoundSlot.{arrived-sound, between-sound, settled-sound, settled-orderly, run-sound}
@@ -56,21 +55,6 @@ fresh-slack ports first =
 ------------------------------------------------------------------------
 -- arrival
 
--- nothing goes
-count-arrive : (p : Entry → Bool) (cs : List Cell) (sections : List (List Entry))
-    → ((c : Cell) → List·Memᴰ c cs → c .input < length sections)
-    → count p (flatten sections) ≤ count p (flatten (arrive cs sections))
-unfolding arrive
-count-arrive p [] sections within = omega arith
-count-arrive p (c ∷ cs) sections within =
-    omega (
-      arith,
-      count-arrive p cs (update (c .input) (enter c) sections)
-          (λ d m. rw (length-update (c .input) (enter c) sections) (within d (List·Memᴰ·tail m))),
-      count-update p (c .input) (enter c) sections (within c (List·Memᴰ·head refl)),
-      count-enter p c (getD sections (c .input) []),
-    )
-
 pub arrival-slack : (ports : ℕ) (cs : List Cell) (sections : List (List Entry))
     → ((c : Cell) → List·Memᴰ c cs → c .input < length sections)
     → pairwise (λ c d. ltb (c .input) (d .input)) cs ≡ true → FollowAll ports (flatten sections) cs
@@ -78,8 +62,9 @@ pub arrival-slack : (ports : ℕ) (cs : List Cell) (sections : List (List Entry)
 unfolding cushionAt
 arrival-slack ports cs sections within turns follow slack k pre e s b = go (arrive-at cs sections within turns k)
   where
+    -- nothing goes
     more : cushionAt ports sections e ≤ cushionAt ports (arrive cs sections) e
-    more = count-arrive (shields ports (e .cell)) cs sections within
+    more = omega (arith, arrive-entries (shields ports (e .cell)) cs sections within)
 
     go : Arrived cs sections k → threadAt pre e + 0 ≤ cushionAt ports (arrive cs sections) e + 1
     go (kept q) = omega (arith, slack k pre e (rw q at s) b, more)

@@ -1,29 +1,29 @@
 -- Arrival keeps the table sound, for the clock of the next slot.
 --     Enters, enters             where a new cell enters a section: in front, or behind the last one of its flow
+--     Inserted, inserted         between which entries it stands then
 --     enter-sound                of one section
 --     Arrived, arrive-at         each section gets at most one cell
---     length-arrive, arrive-count
+--     length-arrive, arrive-entries, arrive-count
 --     arrival-follows, arrival-room   what the checks 7 and 8 say of the table
+--     arrival-entry, arrival-rooms    what all checks say of each new cell
 --     arrival-sound              of the whole table
-use Prim.Native.Nat.{ℕ, suc, _+_, _≤_, _<_}
+use Prim.Native.Nat.{ℕ, _+_, _≤_, _<_}
 use native.Mathlib.Omega.{arith}
-use mathlib.Core.Bool.{Bool, true, false, cond, not, _&&_, and-false}
-use mathlib.Core.Path.{_≡_, refl, sym, _∙_, ap, subst}
-use mathlib.Core.Logic.{_⊎_, inl, inr, _≢_}
-use mathlib.Core.List.{List, [], _∷_, _++_, map, flatten, List·Memᴰ, List·Memᴰ·head, List·Memᴰ·tail}
-use mathlib.Core.List.{List·Memᴰ·cases-cons, Memᴰ·append-left, Memᴰ·append-right, Memᴰ·map, Memᴰ·of-map}
+use mathlib.Core.Bool.{Bool, true, false, cond, not, _&&_}
+use mathlib.Core.Path.{_≡_, refl, sym, _∙_, ap}
+use mathlib.Core.Logic.{_⊎_, inl, inr}
+use mathlib.Core.List.{List, [], _∷_, _++_, map, flatten, List·Memᴰ, List·Memᴰ·head}
+use mathlib.Core.List.{Memᴰ·append-right, Memᴰ·map, Memᴰ·of-map}
 use mathlib.Core.Option.{none}
 use lib.Dec.{ltb, eqb}
-use lib.ListN.{length, getD, length-append}
+use lib.ListN.{length, getD}
 use lib.Seq.{append-snoc}
-use borrow.Author.Tests.{ltb-true, ltb-false, leb-false, eqb-true, eqb-false, eq-eqb, ne-eqb}
+use borrow.Author.Tests.{ltb-false, leb-false, eq-eqb}
 use Rattle.laws.specs.Lists.{keep, some?, none?, all?, count, pairwise, update}
-use Rattle.laws.proofs.Tests.{clash, by-fail, and-i, and-l, and-r, and-false-r, not-i, or-cases}
+use Rattle.laws.proofs.Tests.{clash, by-fail, and-i, and-l, and-r, and-false-r, or-cases}
 use Rattle.laws.proofs.Lists.{some?-i, none?-not-some?, none?-false, none?-i, all?-e, all?-i, keep-append, keep-pass}
 use Rattle.laws.proofs.Lists.{mem-keep-in, mem-keep-passes, none?-clash}
-use Rattle.laws.proofs.Count.{count-nil, count-cons, count-map, count-all}
-use Rattle.laws.proofs.Pairwise.{pairwise-head, pairwise-tail, pairwise-cons, pairwise-append, pairwise-append-l}
-use Rattle.laws.proofs.Pairwise.{pairwise-append-r, pairwise-split}
+use Rattle.laws.proofs.Count.{count-map, count-all}
 use Rattle.cell.specs.declared.Arrival.{Arrival}
 use Rattle.cell.specs.declared.Cell.{Cell}
 use Rattle.cell.specs.Cell.{accepted, arrivalFits}
@@ -31,19 +31,21 @@ use Rattle.cell.specs.Flow.{sameFlow}
 use Rattle.cell.specs.Limits.{cellLimit, sectionRoom, fits32}
 use Rattle.cell.proofs.Flow.{flow-sym}
 use Rattle.cell.proofs.Order.{over-in-flow}
-use Rattle.model.specs.State.{Entry, Switch, cells, isListed, isCrossed}
+use Rattle.model.specs.State.{Place, listed, Entry, Switch, cells, isListed, isCrossed}
 use Rattle.model.specs.Checks.{fallingRank, full, firstFault}
 use Rattle.model.specs.Crossbar.{inListOf, newEntry, enter, enterAfter, arrive}
-use Rattle.model.specs.Sound.{together, otherSlot, otherCrosspoint, soundSections, sound}
+use Rattle.model.specs.Sound.{together, soundSections, sound}
 use Rattle.model.proofs.Admitted.{Admitted, admitted}
-use Rattle.model.proofs.Bags.{flatten-mem, mem-flatten, length-update, getD-update-same, getD-update-other}
-use Rattle.model.proofs.Bags.{count-update}
+use Rattle.model.proofs.Bags.{flatten-mem, mem-flatten}
 use Rattle.model.proofs.Enter.{new-cell, new-listed, in-list, in-flow, isLast, enterAfter-last, enterAfter-next}
-use Rattle.model.proofs.Enter.{enter-after, enter-front, New, enter-mem, count-enter}
+use Rattle.model.proofs.Enter.{enter-after, enter-front}
+use Rattle.model.proofs.Insert.{Between, count-between, between-sound, Came, come-at}
+use Rattle.model.proofs.Insert.{length-come, come-count, come-sound}
+pub use Rattle.model.proofs.Insert.{kept, entered}
 use Rattle.model.proofs.Sections.{count-flatten-at}
 use Rattle.model.proofs.SlackArrival.{Follows, FollowAll}
 use Rattle.model.proofs.SoundLaws.{ofFlow, together-front, together-insert, SoundEntry, SoundSection, sections-e}
-use Rattle.model.proofs.SoundLaws.{sections-i, section-later, SoundTable, sound-e}
+use Rattle.model.proofs.SoundLaws.{SoundTable, sound-e}
 
 ------------------------------------------------------------------------
 -- where a new cell enters
@@ -118,11 +120,8 @@ enters c es = go (some? (inListOf c) es) refl
     go false h = front (none?-not-some? (inListOf c) es ∙ ap not h) (enter-front c es h)
 
 -- between which entries it stands then
-pub record Inserted (c : Cell) (es : List Entry) : Type 0 where
-  pub pre : List Entry
-  pub post : List Entry
-  pub split : es ≡ pre ++ post
-  pub entered : enter c es ≡ pre ++ newEntry c ∷ post
+abbrev pub Inserted : Cell → List Entry → Type 0
+Inserted c es = Between (newEntry c) es (enter c es)
 
 pub inserted : (c : Cell) (es : List Entry) → Inserted c es
 inserted c es = go (enters c es)
@@ -137,40 +136,17 @@ inserted c es = go (enters c es)
           entered = e ∙ sym (append-snoc pre d (newEntry c ∷ post));
         }
 
-pub length-enter : (c : Cell) (es : List Entry) → length (enter c es) ≡ suc (length es)
-length-enter c es =
-    let w = inserted c es in
-    let a : length es ≡ length (w .pre) + length (w .post) = ap length (w .split) ∙ length-append (w .pre) (w .post) in
-    let b : length (enter c es) ≡ length (w .pre) + suc (length (w .post)) =
-    ap length (w .entered) ∙ length-append (w .pre) (newEntry c ∷ w .post) in
-    omega arith
-
-pairwise-insert : {A : Type 0} (r : A → A → Bool) (pre : List A) (n : A) (post : List A)
-    → pairwise r (pre ++ post) ≡ true → ((x : A) → List·Memᴰ x pre → r x n ≡ true)
-    → ((y : A) → List·Memᴰ y post → r n y ≡ true) → pairwise r (pre ++ n ∷ post) ≡ true
-pairwise-insert {A} r pre n post h a b =
-    pairwise-append r pre (n ∷ post) (pairwise-append-l r pre post h)
-    (pairwise-cons r n post b (pairwise-append-r r pre post h))
-    (λ x y i j. go x y i (List·Memᴰ·cases-cons j))
-  where
-    go : (x y : A) → List·Memᴰ x pre → (y ≡ n) ⊎ List·Memᴰ y post → r x y ≡ true
-    go x y i (inl q) = ap (r x) q ∙ a x i
-    go x y i (inr j) = pairwise-split r i j h
+-- the new entry and those that were there
+count-enter : (p : Entry → Bool) (c : Cell) (es : List Entry)
+    → count p (enter c es) ≡ cond (p (newEntry c)) 1 0 + count p es
+count-enter p c es = count-between (newEntry c) es (enter c es) (inserted c es) p
 
 ------------------------------------------------------------------------
 -- one section
 
-otherSlot-i : (e f : Entry) → e .cell .slot ≢ f .cell .slot → otherSlot e f ≡ true
-unfolding otherSlot
-otherSlot-i e f h = not-i (eqb (e .cell .slot) (f .cell .slot)) (ne-eqb _ _ h)
-
-new-crosspoint-l : (c : Cell) (e : Entry) → otherCrosspoint (newEntry c) e ≡ true
-unfolding otherCrosspoint newEntry isCrossed
-new-crosspoint-l c e = refl
-
-new-crosspoint-r : (c : Cell) (e : Entry) → otherCrosspoint e (newEntry c) ≡ true
-unfolding otherCrosspoint newEntry isCrossed
-new-crosspoint-r c e = ap not (and-false (isCrossed (e .place)))
+new-uncrossed : (c : Cell) → isCrossed (newEntry c .place) ≡ false
+unfolding newEntry isCrossed
+new-uncrossed c = refl
 
 abbrev listedEntry : Entry → Bool
 listedEntry e = isListed (e .place)
@@ -219,110 +195,54 @@ enter-together ports c es h follows = go (enters c es)
 pub enter-sound : (ports clock k : ℕ) (c : Cell) (es : List Entry) → SoundSection ports clock k es
     → SoundEntry ports (clock + 1) k (newEntry c) → c .slot ≡ clock → length es < sectionRoom → Follows ports es c
     → SoundSection ports (clock + 1) k (enter c es)
-unfolding newEntry
 enter-sound ports clock k c es s new slot room follows =
-    record {
-      short = omega (arith, length-enter c es);
-      entries = λ e m. each e (enter-mem c es m);
-      flows = enter-together ports c es (s .flows) follows;
-      slots =
-          rw (w .entered)
-          (pairwise-insert otherSlot (w .pre) (newEntry c) (w .post) (rw (w .split) at (s .slots))
-          (λ x i. otherSlot-i x (newEntry c) (λ q. omega (arith, old x (Memᴰ·append-left (w .post) i))))
-          (λ y j. otherSlot-i (newEntry c) y (λ q. omega (arith, old y (Memᴰ·append-right (w .pre) j)))));
-      crosspoints =
-          rw (w .entered)
-          (pairwise-insert otherCrosspoint (w .pre) (newEntry c) (w .post) (rw (w .split) at (s .crosspoints))
-          (λ x i. new-crosspoint-r c x)
-          (λ y j. new-crosspoint-l c y));
-    }
-  where
-    w : Inserted c es
-    w = inserted c es
-
-    later : SoundSection ports (clock + 1) k es
-    later = section-later ports clock k es s
-
-    old : (e : Entry) → List·Memᴰ e (w .pre ++ w .post) → e .cell .slot < c .slot
-    old e m = omega (arith, s .entries e (rw (w .split) m) .slot)
-
-    each : (e : Entry) → New c es e → SoundEntry ports (clock + 1) k e
-    each e (inl q) = rw q new
-    each e (inr m) = later .entries e m
+    between-sound (newEntry c) es (enter c es) (inserted c es) ports clock k s new
+    (ap (λ d. d .slot) (new-cell c) ∙ slot)
+    (new-uncrossed c) room
+    (enter-together ports c es (s .flows) follows)
 
 ------------------------------------------------------------------------
 -- all sections
 
--- what arrival makes of section k: nothing has come, or one cell
-pub data Arrived (cs : List Cell) (sections : List (List Entry)) (k : ℕ) : Type 0 where
-  kept : getD (arrive cs sections) k [] ≡ getD sections k [] → Arrived cs sections k
-  entered : (c : Cell) → List·Memᴰ c cs → c .input ≡ k → getD (arrive cs sections) k [] ≡ enter c (getD sections k [])
-      → Arrived cs sections k
+arrive-nil : (sections : List (List Entry)) → arrive [] sections ≡ sections
+unfolding arrive
+arrive-nil sections = refl
 
-abbrev rises : Cell → Cell → Bool
-rises c d = ltb (c .input) (d .input)
+arrive-cons : (c : Cell) (cs : List Cell) (sections : List (List Entry))
+    → arrive (c ∷ cs) sections ≡ arrive cs (update (c .input) (enter c) sections)
+unfolding arrive
+arrive-cons c cs sections = refl
+
+-- what arrival makes of section k: nothing has come, or one cell
+abbrev pub Arrived : List Cell → List (List Entry) → ℕ → Type 0
+Arrived cs sections k = Came enter cs sections (arrive cs sections) k
 
 pub arrive-at : (cs : List Cell) (sections : List (List Entry))
     → ((c : Cell) → List·Memᴰ c cs → c .input < length sections)
     → pairwise (λ c d. ltb (c .input) (d .input)) cs ≡ true → (k : ℕ) → Arrived cs sections k
-unfolding arrive
-arrive-at [] sections within turns k = kept refl
-arrive-at (c ∷ cs) sections within turns k =
-    go
-    (arrive-at cs after
-    (λ d m. rw (length-update (c .input) (enter c) sections) (within d (List·Memᴰ·tail m)))
-    (pairwise-tail rises c cs turns) k)
-    (eqb k (c .input)) refl
-  where
-    after : List (List Entry)
-    after = update (c .input) (enter c) sections
-
-    own : k ≡ c .input → getD after k [] ≡ enter c (getD sections k [])
-    own q =
-        rw q (getD-update-same (c .input) (enter c) sections [] (within c (List·Memᴰ·head refl)))
-
-    other : k ≢ c .input → getD after k [] ≡ getD sections k []
-    other q = getD-update-other (c .input) k (enter c) sections [] q
-
-    go : Arrived cs after k → (b : Bool) → eqb k (c .input) ≡ b → Arrived (c ∷ cs) sections k
-    go (kept e) true q =
-        entered c (List·Memᴰ·head refl) (sym (eqb-true k (c .input) q)) (e ∙ own (eqb-true k (c .input) q))
-    go (kept e) false q = kept (e ∙ other (eqb-false k (c .input) q))
-    go (entered d m i e) b q =
-        entered d (List·Memᴰ·tail m) i (e ∙ ap (enter d) (other (λ r.
-        omega (arith, ltb-true (c .input) (d .input) (pairwise-head rises turns m)))))
+arrive-at = come-at enter arrive arrive-nil arrive-cons
 
 pub length-arrive : (cs : List Cell) (sections : List (List Entry)) → length (arrive cs sections) ≡ length sections
-unfolding arrive
-length-arrive [] sections = refl
-length-arrive (c ∷ cs) sections =
-    length-arrive cs (update (c .input) (enter c) sections) ∙ length-update (c .input) (enter c) sections
+length-arrive = length-come enter arrive arrive-nil arrive-cons
 
--- the cells are those that were there and those that came
+-- the entries, and so the cells, are those that were there and those that came
+pub arrive-entries : (p : Entry → Bool) (cs : List Cell) (sections : List (List Entry))
+    → ((c : Cell) → List·Memᴰ c cs → c .input < length sections)
+    → count p (flatten (arrive cs sections)) ≡ count (λ c. p (newEntry c)) cs + count p (flatten sections)
+arrive-entries = come-count enter arrive arrive-nil arrive-cons newEntry count-enter
+
 pub arrive-count : (p : Cell → Bool) (cs : List Cell) (sections : List (List Entry))
     → ((c : Cell) → List·Memᴰ c cs → c .input < length sections)
     → count p (map (λ e. e .cell) (flatten (arrive cs sections)))
     ≡ count p cs + count p (map (λ e. e .cell) (flatten sections))
-unfolding arrive
-arrive-count p [] sections within = omega (arith, count-nil p)
-arrive-count p (c ∷ cs) sections within =
-    let rest = arrive-count p cs after
-    (λ d m. rw (length-update (c .input) (enter c) sections) (within d (List·Memᴰ·tail m))) in
+unfolding newEntry
+arrive-count p cs sections within =
     omega (
       arith,
-      count-cons p c cs,
-      count-map p (λ e. e .cell) (flatten after),
+      arrive-entries (λ e. p (e .cell)) cs sections within,
+      count-map p (λ e. e .cell) (flatten (arrive cs sections)),
       count-map p (λ e. e .cell) (flatten sections),
-      count-update q (c .input) (enter c) sections (within c (List·Memᴰ·head refl)),
-      count-enter q c (getD sections (c .input) []),
-      ap {B = ℕ} (λ d. cond (p d) 1 0) (new-cell c),
     )
-  where
-    q : Entry → Bool
-    q e = p (e .cell)
-
-    after : List (List Entry)
-    after = update (c .input) (enter c) sections
 
 -- each cell that comes is fit for its section, with room for it, and comes after its flow
 pub arrive-sound : (ports clock : ℕ) (cs : List Cell) (sections : List (List Entry))
@@ -335,20 +255,9 @@ pub arrive-sound : (ports clock : ℕ) (cs : List Cell) (sections : List (List E
     → FollowAll ports (flatten sections) cs
     → soundSections ports (clock + 1) 0 (arrive cs sections) ≡ true
 arrive-sound ports clock cs sections h within turns fit slots rooms follow =
-    sections-i ports (clock + 1) (arrive cs sections) (λ k. go k (arrive-at cs sections within turns k))
-  where
-    before : (k : ℕ) → SoundSection ports clock k (getD sections k [])
-    before k = sections-e ports clock sections h k
-
-    go : (k : ℕ) → Arrived cs sections k → SoundSection ports (clock + 1) k (getD (arrive cs sections) k [])
-    go k (kept e) = rw e (section-later ports clock k (getD sections k []) (before k))
-    go k (entered c m i e) =
-        rw e
-        (enter-sound ports clock k c (getD sections k []) (before k)
-        (subst (λ j. SoundEntry ports (clock + 1) j (newEntry c)) i (fit c m))
-        (slots c m)
-        (subst (λ j. length (getD sections j []) < sectionRoom) i (rooms c m))
-        (λ d j s. follow c m d (flatten-mem sections k j) s))
+    come-sound enter arrive arrive-nil arrive-cons ports clock cs sections h within turns (λ c m s.
+    enter-sound ports clock (c .input) c (getD sections (c .input) []) s (fit c m) (slots c m) (rooms c m)
+    (λ d j t. follow c m d (flatten-mem sections (c .input) j) t))
 
 ------------------------------------------------------------------------
 -- the checks of the records
@@ -454,14 +363,10 @@ module _ (s : Switch) (records : List Arrival) (h : sound s ≡ true)
       (accepted-slot (s .clock) records c m)
       (arrival-admitted .ranks c m)
 
-  -- the table is sound when the cells have come
-  pub arrival-sound : all? arrivalFits records ≡ true
-      → soundSections (s .ports) (s .clock + 1) 0 (arrive (map (accepted (s .clock)) records) (s .sections)) ≡ true
-  unfolding cells newEntry
-  arrival-sound fits =
-      arrive-sound (s .ports) (s .clock) (map (accepted (s .clock)) records) (s .sections) (table .sections)
-      arrival-inputs arrival-turns
-      (λ c m.
+  -- each is fit for the section of its input, wherever it is put
+  pub arrival-entry : all? arrivalFits records ≡ true → (c : Cell) → List·Memᴰ c (map (accepted (s .clock)) records)
+      → (place : Place) → SoundEntry (s .ports) (s .clock + 1) (c .input) (record { cell = c; place = place })
+  arrival-entry fits c m place =
       record {
         input = refl;
         output = arrival-admitted .outputs c m;
@@ -469,7 +374,20 @@ module _ (s : Switch) (records : List Arrival) (h : sound s ≡ true)
         rank = accepted-rank (s .clock) records fits c m;
         tag = accepted-tag (s .clock) records fits c m;
         slot = omega (arith, accepted-slot (s .clock) records c m);
-      })
-      (accepted-slot (s .clock) records)
-      (λ c m. arrival-room (s .ports) (s .clock) (s .sections) (table .sections) c (arrival-admitted .rooms c m))
-      arrival-follow-all
+      }
+
+  -- and the section has room for it
+  pub arrival-rooms : (c : Cell) → List·Memᴰ c (map (accepted (s .clock)) records)
+      → length (getD (s .sections) (c .input) []) < sectionRoom
+  unfolding cells
+  arrival-rooms c m = arrival-room (s .ports) (s .clock) (s .sections) (table .sections) c (arrival-admitted .rooms c m)
+
+  -- the table is sound when the cells have come
+  pub arrival-sound : all? arrivalFits records ≡ true
+      → soundSections (s .ports) (s .clock + 1) 0 (arrive (map (accepted (s .clock)) records) (s .sections)) ≡ true
+  unfolding newEntry
+  arrival-sound fits =
+      arrive-sound (s .ports) (s .clock) (map (accepted (s .clock)) records) (s .sections) (table .sections)
+      arrival-inputs arrival-turns
+      (λ c m. arrival-entry fits c m listed)
+      (accepted-slot (s .clock) records) arrival-rooms arrival-follow-all

@@ -58,7 +58,7 @@ sound-fresh n first p f =
 -- an accepted slot
 
 -- the clock of the next slot still fits
-next-clock : (clock : ℕ) → fits32 clock ≡ true → eqb clock clockEnd ≡ false → fits32 (clock + 1) ≡ true
+pub next-clock : (clock : ℕ) → fits32 clock ≡ true → eqb clock clockEnd ≡ false → fits32 (clock + 1) ≡ true
 unfolding fits32
 next-clock clock f e =
     let a : clock ≤ 4294967295 = leb-true clock 4294967295 f in
@@ -84,7 +84,8 @@ called s records = go (eqb (s .clock) clockEnd) refl (firstFault (s .ports) (cel
     go false e (some f) q = refuses (f .0) (f .1) (rw (e, q, slot))
     go false e none q = runs e q (rw (e, q, slot))
 
-abbrev came : Switch → List Arrival → List Cell
+-- the cells that the records of a slot become
+abbrev pub came : Switch → List Arrival → List Cell
 came s records = map (accepted (s .clock)) records
 
 -- the cells that stay

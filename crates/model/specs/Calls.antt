@@ -15,6 +15,7 @@ use Rattle.model.specs.State.{isBuffered}
 use Rattle.model.specs.Checks.{Outcome, done, refused}
 use Rattle.model.specs.Crossbar.{Course, answerOf, slot, switchAfter}
 use Rattle.model.specs.Emulation.{cellsAt}
+use Rattle.model.specs.Oq.{Served, slotOq, oqAfter}
 use Rattle.model.specs.Pifo.{Pifo, freshPifo, Sent, slotPifo, pifoAfter}
 
 -- Where the cells wait: the lists, input by input and in their order; the cells at the crosspoints and those in the
@@ -75,14 +76,21 @@ crossbarAnswers (refuses n p) (refused r place) = eqb (number r) n && eqb place 
 crossbarAnswers (passes a b s e) o = coursePasses a b s o && crossbarAnswers e o
 crossbarAnswers (occupies one two e) o = courseOccupies one two o && crossbarAnswers e o
 
--- the PIFO switch has no tables and no crosspoints, and makes no proposals
+-- The PIFO switch and the output-queued switch have no lists and no crosspoints, and make no proposals: of what is
+-- expected they have the departures or the refusal. A slot of either is given by its departures.
+unfoldable pub departuresAnswer : {A : Type 0} → (A → List (Option Cell)) → Expected → Outcome A → Bool
+departuresAnswer departures (sends ds one two) (done c) = sameList sameDeparture (departures c) ds
+departuresAnswer departures (sends ds one two) (refused r place) = false
+departuresAnswer departures (refuses n p) (done c) = false
+departuresAnswer departures (refuses n p) (refused r place) = eqb (number r) n && eqb place p
+departuresAnswer departures (passes a b s e) o = departuresAnswer departures e o
+departuresAnswer departures (occupies one two e) o = departuresAnswer departures e o
+
 unfoldable pub pifoAnswers : Expected → Outcome Sent → Bool
-pifoAnswers (sends ds one two) (done c) = sameList sameDeparture (c .departures) ds
-pifoAnswers (sends ds one two) (refused r place) = false
-pifoAnswers (refuses n p) (done c) = false
-pifoAnswers (refuses n p) (refused r place) = eqb (number r) n && eqb place p
-pifoAnswers (passes a b s e) o = pifoAnswers e o
-pifoAnswers (occupies one two e) o = pifoAnswers e o
+pifoAnswers e o = departuresAnswer (λ c. c .departures) e o
+
+unfoldable pub oqAnswers : Expected → Outcome Served → Bool
+oqAnswers e o = departuresAnswer (λ c. c .departures) e o
 
 -- call by call, each call getting the switch that the call before returned, or left in refusing; last the clock
 unfoldable pub crossbarRuns : Switch → List Call → ℕ → Bool
@@ -97,10 +105,18 @@ pifoRuns s (c ∷ calls) clock =
     let o = slotPifo s (some (c .arrivals)) in
     pifoAnswers (c .expected) o && pifoRuns (pifoAfter s o) calls clock
 
--- both switches, fresh with N and a first slot
-unfoldable pub bothRun : ℕ → ℕ → List Call → ℕ → Bool
-bothRun n first calls clock =
-    crossbarRuns (fresh n first) calls clock && pifoRuns (freshPifo n first) calls clock
+unfoldable pub oqRuns : Switch → List Call → ℕ → Bool
+oqRuns s [] clock = eqb (s .clock) clock
+oqRuns s (c ∷ calls) clock =
+    let o = slotOq s (some (c .arrivals)) in
+    oqAnswers (c .expected) o && oqRuns (oqAfter s o) calls clock
+
+-- all three switches, fresh with N and a first slot
+unfoldable pub allRun : ℕ → ℕ → List Call → ℕ → Bool
+allRun n first calls clock =
+    crossbarRuns (fresh n first) calls clock
+    && (pifoRuns (freshPifo n first) calls clock
+    && oqRuns (fresh n first) calls clock)
 
 -- The switch that has N, a clock and these tables.
 unfoldable pub enterAt : Place → ℕ → List Cell → List Entry

@@ -10,19 +10,19 @@ use lib.ListN.{replicate}
 use Rattle.laws.specs.Lists.{upTo}
 use Rattle.cell.specs.declared.Arrival.{Arrival}
 use Rattle.cell.specs.declared.Cell.{Cell}
-use Rattle.model.specs.Calls.{Tables, tables, Call, call, Expected, sends, refuses, passes, occupies, crossbarRuns, bothRun}
+use Rattle.model.specs.Calls.{Tables, tables, Call, call, Expected, sends, refuses, passes, occupies, crossbarRuns, allRun}
 use Rattle.model.specs.Calls.{switchWith, arrival, cell}
 use Rattle.model.specs.Sound.{sound}
 
 -- A row has N, a clock, slot calls, and the clock after them.
 pub data History : Type 0 where
-  -- from a fresh switch; the PIFO switch answers the same
+  -- from a fresh switch; the PIFO switch and the output-queued switch answer the same
   fresh : ℕ → ℕ → List Call → ℕ → History
   -- from a switch with these tables, which are sound: a host may lend them, though no fresh switch need come to them
   lent : ℕ → ℕ → Tables → List Call → ℕ → History
 
 unfoldable pub given : History → Bool
-given (fresh ports first calls clock) = bothRun ports first calls clock
+given (fresh ports first calls clock) = allRun ports first calls clock
 given (lent ports first t calls clock) =
     let s = switchWith ports first t in crossbarRuns s calls clock && sound s
 

@@ -5,6 +5,9 @@ pub mod Crossbar
 pub mod Cues
 pub mod Emulation
 pub mod Histories
+pub mod Oq
+pub mod OqEmulation
+pub mod OqRows
 pub mod Phase
 pub mod Pifo
 pub mod Rehearsal

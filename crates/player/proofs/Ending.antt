@@ -8,6 +8,7 @@ use mathlib.Core.Path.{_≡_, refl, sym, ap}
 use lib.ListN.{length, take, drop}
 use Rattle.trace.specs.Piece.{enough}
 use Rattle.player_text.specs.Turn.{Over}
+use Rattle.player_turns.specs.declared.Engine.{Engine}
 use Rattle.player_turns.specs.declared.Stage.{Stage}
 use Rattle.player_turns.specs.declared.Stage.the-variants.{Opening, Playing, Ended, TurnedBack}
 use Rattle.player_turns.specs.Turns.{standing, turnRoom, Took}
@@ -24,15 +25,15 @@ over-finished Ended l table o = inl refl
 over-finished TurnedBack l table o = inr refl
 
 -- the round is one of a driver that had the text and gets nothing more
-pub finished : (last : Bool) (stage : Stage) (l : ℕ) (text table buffer table′ buffer′ : List ℕ) (stage′ : Stage)
-    (l′ taken n : ℕ)
-    → Took last (standing stage l table) text table buffer table′ buffer′ stage′ l′ taken n → n ≡ 0
+pub finished : (engine : Engine) (last : Bool) (stage : Stage) (l : ℕ) (text table buffer table′ buffer′ : List ℕ)
+    (stage′ : Stage) (l′ taken n : ℕ)
+    → Took engine last (standing stage l table) text table buffer table′ buffer′ stage′ l′ taken n → n ≡ 0
     → turnRoom ≤ length buffer → (last ≡ true) ⊎ (enough ≤ length text) → Finished stage′
 unfolding place
-finished last stage l text table buffer table′ buffer′ stage′ l′ taken n took none room there =
+finished engine last stage l text table buffer table′ buffer′ stage′ l′ taken n took none room there =
     let h : Held = record { stage = stage; line = l; table = table; text = [] } in
     let h′ : Held = record { stage = stage′; line = l′; table = table′; text = drop taken text } in
-    let run : Run h (text ∷ []) [] h′ =
+    let run : Run engine h (text ∷ []) [] h′ =
     stops
     (record {
       buffer = buffer;

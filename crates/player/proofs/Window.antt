@@ -10,6 +10,7 @@ use lib.ListN.{length, getD, set, take, drop, length-append, length-drop, length
 use lib.Seq.{take-suc, drop-cons, append-snoc, set-at, getD-append-add, getD-drop, length-take-le, take-append-le, take-take}
 use Rattle.layout.specs.Host.{filled}
 use Rattle.player_text.specs.Turn.{Turn}
+use Rattle.player_turns.specs.declared.Engine.{Engine}
 use Rattle.player_turns.specs.declared.Stage.{Stage}
 use Rattle.player_turns.specs.Turns.{Left}
 use Rattle.player.specs.CodeWindow.{moved}
@@ -64,15 +65,15 @@ read-kept at filled window part h few =
     ∙ take-take at filled window h
 
 -- what turns take is there, and what they write fits
-pub taken-there : (turn : Turn) (then buffer table′ buffer′ : List ℕ) (stage : Stage) (l taken n k : ℕ) (window : List ℕ)
-    → Left turn then (take k window) buffer table′ buffer′ stage l taken n → taken ≤ k
-taken-there turn then buffer table′ buffer′ stage l taken n k window h =
+pub taken-there : (engine : Engine) (turn : Turn) (then buffer table′ buffer′ : List ℕ) (stage : Stage) (l taken n k : ℕ)
+    (window : List ℕ) → Left engine turn then (take k window) buffer table′ buffer′ stage l taken n → taken ≤ k
+taken-there engine turn then buffer table′ buffer′ stage l taken n k window h =
     omega (arith, h .used, length-take k window)
 
-pub written-fits : (turn : Turn) (then text buffer table′ buffer′ : List ℕ) (stage : Stage) (l taken n : ℕ)
-    → Left turn then text buffer table′ buffer′ stage l taken n → length buffer′ ≡ length buffer → n ≤ length buffer′
+pub written-fits : (engine : Engine) (turn : Turn) (then text buffer table′ buffer′ : List ℕ) (stage : Stage) (l taken n : ℕ)
+    → Left engine turn then text buffer table′ buffer′ stage l taken n → length buffer′ ≡ length buffer → n ≤ length buffer′
 unfolding filled
-written-fits turn then text buffer table′ buffer′ stage l taken n h same =
+written-fits engine turn then text buffer table′ buffer′ stage l taken n h same =
     let size : length buffer′ ≡ length (turn .written) + (length buffer - length (turn .written)) =
     ap length (h .wrote .bytes)
     ∙ length-append (turn .written) (drop (length (turn .written)) buffer)

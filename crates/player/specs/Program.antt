@@ -1,6 +1,6 @@
--- The program: what its arguments ask for, and the status that it answers.
+-- The programs: what their arguments ask for, and the status that they answer.
 --     requestOf    by the number of arguments and the first of them
---     Answered     the status of the program
+--     Answered     the status
 --     Told         of a text that is to be written: it was, or writing failed
 use Prim.Native.Nat.{ℕ, zero, suc, _≤_}
 use mathlib.Core.Bool.{cond}

@@ -1,8 +1,9 @@
-// The player as a program: the arguments in, an exit status out. It answers --help and --version, or plays a trace from
-// standard input to standard output, a window of text at a time.
+// The player as two programs, one for each switch: the arguments in, an exit status out. They answer --help and
+// --version, or play a trace from standard input to standard output, a window of text at a time.
 use libc::STDERR_FILENO;
 use libc::STDIN_FILENO;
 use libc::STDOUT_FILENO;
+use player_turns::Engine;
 use player_turns::Stage;
 use player_turns::take_turns;
 ghost use mathlib.Core.Path.{_≡_};
@@ -27,18 +28,33 @@ struct Filling {
     failed: bool,
 }
 
-// The program: how many arguments there are, and the first of them, or no bytes. The result is the exit status: 0,
-// the trace was played to its end, or the help or the version was written; 1, it was refused; 2, reading or writing
-// failed, or the arguments are wrong.
+// The program on the crossbar: how many arguments there are, and the first of them, or no bytes. The result is the exit
+// status: 0, the trace was played to its end, or the help or the version was written; 1, it was refused; 2, reading or
+// writing failed, or the arguments are wrong.
 #[no_mangle]
 pub extern "C" fn crossbar_player(words: usize, word: &[u8]) -> u32
     ensures { λ r. ⌜ Answered (requestOf words (now (word .entry))) r ⌝ }
 {
+    answer(Engine::Crossbar, words, word)
+}
+
+// The same on the output-queued switch.
+#[no_mangle]
+pub extern "C" fn oq_player(words: usize, word: &[u8]) -> u32
+    ensures { λ r. ⌜ Answered (requestOf words (now (word .entry))) r ⌝ }
+{
+    answer(Engine::Oq, words, word)
+}
+
+// By what is asked for.
+fn answer(engine: Engine, words: usize, word: &[u8]) -> u32
+    ensures { λ r. ⌜ Answered (requestOf words (now (word .entry))) r ⌝ }
+{
     match request_of(words, word) {
-        Request::Play => play(),
-        Request::Help => help(),
-        Request::Version => version(),
-        Request::Unknown => unknown(),
+        Request::Play => play(engine),
+        Request::Help => help(engine),
+        Request::Version => version(engine),
+        Request::Unknown => unknown(engine),
     }
 }
 
@@ -61,70 +77,97 @@ fn request_of(words: usize, word: &[u8]) -> Request
     Request::Unknown
 }
 
-fn help() -> u32
+fn help(engine: Engine) -> u32
     ensures { λ r. ⌜ Told r ⌝ }
 {
-    tell(
-        b"usage: crossbar-player < trace\n\
-           \x20      crossbar-player --help | --version\n\
-           Plays a trace of arrivals through a buffered crossbar switch and writes the departures.\n\
-           Exit status: 0 the trace was played to its end; 1 it was refused, as the last two lines say;\n\
-           2 reading or writing failed, or the arguments are wrong.\n\
-           The manual is crossbar-player(1).\n",
-    )
+    match engine {
+        Engine::Crossbar => tell(
+            engine,
+            b"usage: crossbar-player < trace\n\
+               \x20      crossbar-player --help | --version\n\
+               Plays a trace of arrivals through a buffered crossbar switch and writes the departures.\n\
+               Exit status: 0 the trace was played to its end; 1 it was refused, as the last two lines say;\n\
+               2 reading or writing failed, or the arguments are wrong.\n\
+               The manual is crossbar-player(1).\n",
+        ),
+        Engine::Oq => tell(
+            engine,
+            b"usage: oq-player < trace\n\
+               \x20      oq-player --help | --version\n\
+               Plays a trace of arrivals through an output-queued switch and writes the departures.\n\
+               Exit status: 0 the trace was played to its end; 1 it was refused, as the last two lines say;\n\
+               2 reading or writing failed, or the arguments are wrong.\n\
+               The manual is oq-player(1).\n",
+        ),
+    }
 }
 
-fn version() -> u32
+fn version(engine: Engine) -> u32
     ensures { λ r. ⌜ Told r ⌝ }
 {
-    tell(b"crossbar-player 2.2.0\ntable layout 1\n")
+    match engine {
+        Engine::Crossbar => tell(engine, b"crossbar-player 2.3.0\ntable layout 1\n"),
+        Engine::Oq => tell(engine, b"oq-player 2.3.0\noutput-queued table layout 101\n"),
+    }
 }
 
-fn unknown() -> u32
+fn unknown(engine: Engine) -> u32
     ensures { λ r. ⌜ r ≡ 2 ⌝ }
 {
-    fail(b"crossbar-player: unknown argument, or more than one: try --help\n")
+    fail(engine, b"unknown argument, or more than one: try --help\n")
 }
 
 // Writes a text on standard output.
-fn tell(text: &[u8]) -> u32
+fn tell(engine: Engine, text: &[u8]) -> u32
     ensures { λ r. ⌜ Told r ⌝ }
 {
     if io::write_all(STDOUT_FILENO, text) {
         return 0;
     }
-    cannot_write()
+    cannot_write(engine)
 }
 
-fn cannot_read() -> u32
+fn cannot_read(engine: Engine) -> u32
     ensures { λ r. ⌜ r ≡ 2 ⌝ }
 {
-    fail(b"crossbar-player: cannot read standard input\n")
+    fail(engine, b"cannot read standard input\n")
 }
 
-fn cannot_write() -> u32
+fn cannot_write(engine: Engine) -> u32
     ensures { λ r. ⌜ r ≡ 2 ⌝ }
 {
-    fail(b"crossbar-player: cannot write standard output\n")
+    fail(engine, b"cannot write standard output\n")
 }
 
-fn too_long() -> u32
+fn too_long(engine: Engine) -> u32
     ensures { λ r. ⌜ r ≡ 2 ⌝ }
 {
-    fail(b"crossbar-player: the trace is too long\n")
+    fail(engine, b"the trace is too long\n")
 }
 
-// Writes a complaint on standard error.
-fn fail(complaint: &[u8]) -> u32
+// Writes a complaint on standard error, behind the program's name.
+fn fail(engine: Engine, complaint: &[u8]) -> u32
     ensures { λ r. ⌜ r ≡ 2 ⌝ }
 {
+    name_program(engine);
     io::write_all(STDERR_FILENO, complaint);
     2
 }
 
+fn name_program(engine: Engine) {
+    match engine {
+        Engine::Crossbar => {
+            io::write_all(STDERR_FILENO, b"crossbar-player: ");
+        }
+        Engine::Oq => {
+            io::write_all(STDERR_FILENO, b"oq-player: ");
+        }
+    }
+}
+
 // Plays standard input to standard output, by rounds: text is read behind that which is left, turns are taken on it,
 // and what they wrote is written out. A round that writes nothing ends it.
-fn play() -> u32
+fn play(engine: Engine) -> u32
     ensures { λ r. ⌜ r ≤ 2 ⌝ }
 {
     let mut table = [0u8; layout::TABLE_BYTES];
@@ -140,23 +183,31 @@ fn play() -> u32
         rounds -= 1;
         let filling = fill(&mut window, filled, last);
         if filling.failed {
-            return cannot_read();
+            return cannot_read(engine);
         }
         filled = filling.filled;
         last = filling.last;
-        let turn = take_turns(stage, line, &window[..filled], last, &mut table, &mut out);
+        let turn = take_turns(
+            engine,
+            stage,
+            line,
+            &window[..filled],
+            last,
+            &mut table,
+            &mut out,
+        );
         stage = turn.stage;
         line = turn.line;
         if turn.written == 0 {
             return status_of(stage);
         }
         if !io::write_all(STDOUT_FILENO, &out[..turn.written]) {
-            return cannot_write();
+            return cannot_write(engine);
         }
         close_up(&mut window, turn.used, filled);
         filled -= turn.used;
     }
-    too_long()
+    too_long(engine)
 }
 
 // The status of a trace that was played, by where the player stands at the end.

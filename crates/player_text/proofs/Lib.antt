@@ -1,3 +1,4 @@
 pub mod Pieces
 pub mod SameText
+pub mod Ticks
 pub mod Written

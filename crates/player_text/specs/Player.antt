@@ -1,5 +1,5 @@
 -- Scope 8: the player, as text in, text out, over any switch that answers slot calls. `playCrossbar` is
--- the player; `playPifo` is what it would be over the PIFO switch.
+-- the player, `playOq` that of the output-queued switch; `playPifo` is what it would be over the PIFO switch.
 use Prim.Native.Nat.{ℕ, zero, suc, _+_, _*_}
 use mathlib.Core.List.{List, _++_}
 use mathlib.Core.Option.{Option, some}
@@ -9,6 +9,7 @@ use Rattle.cell.specs.declared.Cell.{Cell}
 use Rattle.cell.specs.declared.Refusal.the-variants.{BadLine}
 use Rattle.model.specs.Checks.{Outcome, done, refused}
 use Rattle.model.specs.Crossbar.{slot}
+use Rattle.model.specs.Oq.{slotOq}
 use Rattle.model.specs.Pifo.{Pifo, freshPifo, slotPifo}
 use Rattle.model.specs.State.{Switch, fresh}
 use Rattle.trace.specs.declared.Key.the-variants.{Ports, First, Slot, End}
@@ -60,6 +61,16 @@ crossbar =
       ];
     }
 
+unfoldable pub oq : Machine Switch
+oq =
+    record {
+      fresh = fresh;
+      slot = λ s records. elim (slotOq s (some records)) [
+        | done d ↦ done (d .departures, d .switch)
+        | refused r place ↦ refused r place
+      ];
+    }
+
 unfoldable pub pifo : Machine Pifo
 pifo =
     record {
@@ -72,6 +83,9 @@ pifo =
 
 unfoldable pub playCrossbar : List ℕ → List ℕ
 playCrossbar = play crossbar
+
+unfoldable pub playOq : List ℕ → List ℕ
+playOq = play oq
 
 unfoldable pub playPifo : List ℕ → List ℕ
 playPifo = play pifo

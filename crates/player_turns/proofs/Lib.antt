@@ -1,4 +1,5 @@
 pub mod Driver
+pub mod Engines
 pub mod Lines
 pub mod Records
 pub mod Sent

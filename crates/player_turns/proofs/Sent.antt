@@ -2,7 +2,7 @@
 --     sent-none, sent-some      what one departure is
 --     departure-le, departures-le   how many bytes they have
 --     departures-more, put-more one output more
---     departures-filled         those of the slot that the bytes answer
+--     departures-taken          those of the slot that the bytes answer
 use Prim.Native.Nat.{ℕ, zero, suc, _+_, _*_, _-_, _≤_, _<_}
 use native.Mathlib.Numerals.{add-one}
 use native.Mathlib.Omega.{arith}
@@ -12,13 +12,12 @@ use mathlib.Core.Option.{Option, none, some}
 use mathlib.Core.Path.{_≡_, refl, sym, ap, _∙_}
 use borrow.Author.Tests.{eqb-true, eqb-false, eq-eqb, ne-eqb}
 use lib.Dec.{eqb, lit≤}
-use lib.ListN.{length, take, drop, length-append, length-drop}
+use lib.ListN.{length, take, drop, length-append, length-drop, take-append-drop}
 use lib.Seq.{drop-drop, length-take-le}
 use Rattle.cell.specs.declared.Cell.{Cell}
 use Rattle.cell.specs.Limits.{portLimit}
 use Rattle.laws.specs.Lists.{all?}
 use Rattle.model.specs.Checks.{noDepartures}
-use Rattle.model.specs.Crossbar.{Course, answerOf}
 use Rattle.trace.specs.declared.Key.the-variants.{In, Out, Flow, Rank, Tag}
 use Rattle.trace.specs.Ascii.{ascii}
 use Rattle.trace.specs.Line.{keyName, keyText}
@@ -26,10 +25,9 @@ use Rattle.trace.specs.Lines.{departureText, departuresText}
 use Rattle.trace.proofs.Lengths.{length-line-le}
 use Rattle.trace_line_writer.specs.Writing.{lastPlace, Put}
 use Rattle.trace_line_writer.proofs.Pour.{put-then}
-use Rattle.layout.specs.Answer.{departureSize, answerBytes, departureIn, departuresIn, cellIn, departuresSize}
-use Rattle.layout.specs.Host.{filled}
+use Rattle.layout.specs.Answer.{departureSize, departuresSize, departuresBytes, departureIn, departuresIn, cellIn}
 use Rattle.layout.specs.Number.{word}
-use Rattle.layout.proofs.Answer.{departureFits, answerBytes-outputs}
+use Rattle.layout.proofs.Answer.{departureFits, departuresIn-all}
 use Rattle.layout.proofs.Number.{bytes?, bytes?-take, bytes?-drop, word-fits}
 
 -- one departure
@@ -130,10 +128,12 @@ unfolding departuresText
 text-sent [] k = text-none k
 text-sent (d ∷ ds) k = ap (λ t. departureText d ++ t) (text-sent ds k)
 
-pub departures-filled : (c : Course) (buffer : List ℕ) → length (c .departures) ≤ portLimit
-    → all? departureFits (c .departures) ≡ true
-    → departuresText (departuresIn portLimit (filled (answerBytes (answerOf c)) buffer)) ≡ departuresText (c .departures)
-unfolding filled answerOf
-departures-filled c buffer few h =
-    ap departuresText (answerBytes-outputs (answerOf c) (drop (length (answerBytes (answerOf c))) buffer) few h)
-    ∙ text-sent (c .departures) (portLimit - length (c .departures))
+pub departures-taken : (ds : List (Option Cell)) (answer : List ℕ)
+    → take departuresSize answer ≡ departuresBytes portLimit ds → length ds ≤ portLimit → all? departureFits ds ≡ true
+    → departuresText (departuresIn portLimit answer) ≡ departuresText ds
+departures-taken ds answer same few h =
+    ap (λ bs. departuresText (departuresIn portLimit bs))
+    (sym (take-append-drop departuresSize answer) ∙ ap (λ bs. bs ++ drop departuresSize answer) same)
+    ∙ ap departuresText
+    (departuresIn-all portLimit ds (portLimit - length ds) (drop departuresSize answer) h (omega arith))
+    ∙ text-sent ds (portLimit - length ds)

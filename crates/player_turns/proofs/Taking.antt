@@ -11,8 +11,9 @@ use Rattle.layout.specs.Host.{filled}
 use Rattle.player_text.specs.Turn.{Standing, Turn, turn, turns, followed}
 use Rattle.layout.proofs.Host.{length-filled}
 use Rattle.player_text.proofs.Pieces.{turn-stuck}
+use Rattle.player_turns.specs.declared.Engine.{Engine}
 use Rattle.player_turns.specs.declared.Stage.{Stage}
-use Rattle.player_turns.specs.Turns.{standing, Stands, Wrote, tableThen, tableAfterTurns, Took, turnRoom}
+use Rattle.player_turns.specs.Turns.{machineOf, standing, Stands, Wrote, tableThen, tableAfterTurns, Took, turnRoom}
 use Rattle.player_turns.proofs.Turns.{table-stays}
 use Rattle.player_turns.specs.Code.{Turned}
 
@@ -30,7 +31,7 @@ put-behind l a ys =
     (ap (λ k. drop k (drop a l)) (sym (length-drop a l)) ∙ drop-length (drop a l))
     ∙ ap (λ r. take a l ++ r) (append-nil ys)
 
-module _ (last : Bool) (s₀ : Standing) (text table₀ out₀ : List ℕ) where
+module _ (engine : Engine) (last : Bool) (s₀ : Standing) (text table₀ out₀ : List ℕ) where
   -- so many turns are taken, they wrote w, and m more go on from there
   pub record Going (table out : List ℕ) (stage : Stage) (l used written : ℕ) : Type 0 where
     pub taken : ℕ
@@ -38,12 +39,12 @@ module _ (last : Bool) (s₀ : Standing) (text table₀ out₀ : List ℕ) where
     pub wrote : Wrote w out₀ out written
     pub room : length w ≤ length out₀
     pub within : used ≤ length text
-    pub stands : Stands stage l table
-    pub goes : (m : ℕ) → turns (taken + m) last s₀ text
+    pub stands : Stands engine stage l table
+    pub goes : (m : ℕ) → turns (machineOf engine) (taken + m) last s₀ text
         ≡ followed (record { written = w; left = drop used text; after = standing stage l table })
-        (turns m last (standing stage l table) (drop used text))
-    pub tables : (m : ℕ) → tableAfterTurns (taken + m) last s₀ text table₀
-        ≡ tableAfterTurns m last (standing stage l table) (drop used text) table
+        (turns (machineOf engine) m last (standing stage l table) (drop used text))
+    pub tables : (m : ℕ) → tableAfterTurns engine (taken + m) last s₀ text table₀
+        ≡ tableAfterTurns engine m last (standing stage l table) (drop used text) table
 
   -- the buffer keeps its length
   wrote-length : (w out : List ℕ) (n : ℕ) → Wrote w out₀ out n → length w ≤ length out₀ → length out ≡ length out₀
@@ -58,7 +59,7 @@ module _ (last : Bool) (s₀ : Standing) (text table₀ out₀ : List ℕ) where
   going-room g = omega (arith, g .room, g .wrote .count, going-length g)
 
   -- none yet
-  pub going-none : (stage : Stage) (l : ℕ) → s₀ ≡ standing stage l table₀ → Stands stage l table₀
+  pub going-none : (stage : Stage) (l : ℕ) → s₀ ≡ standing stage l table₀ → Stands engine stage l table₀
       → Going table₀ out₀ stage l 0 0
   unfolding followed filled
   going-none stage l e h =
@@ -69,16 +70,16 @@ module _ (last : Bool) (s₀ : Standing) (text table₀ out₀ : List ℕ) where
         room = omega arith;
         within = omega arith;
         stands = h;
-        goes = λ m. let k : 0 + m ≡ m = omega arith in ap₂ (λ k s. turns k last s text) k e;
-        tables = λ m. let k : 0 + m ≡ m = omega arith in ap₂ (λ k s. tableAfterTurns k last s text table₀) k e;
+        goes = λ m. let k : 0 + m ≡ m = omega arith in ap₂ (λ k s. turns (machineOf engine) k last s text) k e;
+        tables = λ m. let k : 0 + m ≡ m = omega arith in ap₂ (λ k s. tableAfterTurns engine k last s text table₀) k e;
       }
 
   -- they may stop there, where the buffer may be too short for another
   pub going-stops : (table out : List ℕ) (stage : Stage) (l used written : ℕ) → Going table out stage l used written
-      → length out - written < turnRoom → Took last s₀ text table₀ out₀ table out stage l used written
+      → length out - written < turnRoom → Took engine last s₀ text table₀ out₀ table out stage l used written
   unfolding followed turns tableAfterTurns
   going-stops table out stage l used written g short =
-      let all : turns (g .taken + 0) last s₀ text
+      let all : turns (machineOf engine) (g .taken + 0) last s₀ text
       ≡ record { written = g .w ++ []; left = drop used text; after = standing stage l table } = g .goes 0 in
       record {
         many = g .taken + 0;
@@ -104,21 +105,21 @@ module _ (last : Bool) (s₀ : Standing) (text table₀ out₀ : List ℕ) where
   module _ {table out : List ℕ} {stage : Stage} {l used written : ℕ} (g : Going table out stage l used written)
       {table′ part : List ℕ} {stage′ : Stage} {l′ more n : ℕ}
       (given : let lent = take (length text - used) (drop used text) in
-      Turned (turn last (standing stage l table) lent) lent table (take (length out - written) (drop written out)) table′
-      part stage′ l′ more n)
+      Turned engine (turn (machineOf engine) last (standing stage l table) lent) lent table
+      (take (length out - written) (drop written out)) table′ part stage′ l′ more n)
       (kept-room : length part ≡ length (take (length out - written) (drop written out))) where
     same : length part ≡ length (drop written out)
     same = kept-room ∙ ap length (behind-place out written)
 
-    t : Turned (turn last (standing stage l table) (drop used text)) (drop used text) table (drop written out) table′ part
-        stage′ l′ more n
+    t : Turned engine (turn (machineOf engine) last (standing stage l table) (drop used text)) (drop used text) table
+        (drop written out) table′ part stage′ l′ more n
     t = rw (behind-place text used, behind-place out written) at given
 
     abbrev out′ : List ℕ
     out′ = take written out ++ (part ++ drop (length out - written) (drop written out))
 
     abbrev x : Turn
-    x = turn last (standing stage l table) (drop used text)
+    x = turn (machineOf engine) last (standing stage l table) (drop used text)
 
     abbrev so-far : Turn
     so-far = record { written = g .w; left = drop used text; after = standing stage l table }
@@ -169,29 +170,30 @@ module _ (last : Bool) (s₀ : Standing) (text table₀ out₀ : List ℕ) where
     wrote : (n ≡ 0 → ⊥) → (x .written ≡ [] → ⊥)
     wrote h z = h (t .wrote .count ∙ ap length z)
 
-    turns-wrote : (m : ℕ) → (x .written ≡ [] → ⊥) → turns (suc m) last (standing stage l table) (drop used text)
-        ≡ followed x (turns m last (x .after) (x .left))
+    turns-wrote : (m : ℕ) → (x .written ≡ [] → ⊥)
+        → turns (machineOf engine) (suc m) last (standing stage l table) (drop used text)
+        ≡ followed x (turns (machineOf engine) m last (x .after) (x .left))
     unfolding turns
     turns-wrote m some = go (x .written) refl
       where
         go : (v : List ℕ) → x .written ≡ v
-            → elim v as (λ _. Turn) [ [] ↦ x | b ∷ w ↦ followed x (turns m last (x .after) (x .left)) ]
-            ≡ followed x (turns m last (x .after) (x .left))
+            → elim v as (λ _. Turn) [ [] ↦ x | b ∷ w ↦ followed x (turns (machineOf engine) m last (x .after) (x .left)) ]
+            ≡ followed x (turns (machineOf engine) m last (x .after) (x .left))
         go [] z = absurd (some z)
         go (b ∷ v) z = refl
 
     tables-wrote : (m : ℕ) → (x .written ≡ [] → ⊥)
-        → tableAfterTurns (suc m) last (standing stage l table) (drop used text) table
-        ≡ tableAfterTurns m last (x .after) (x .left) (tableThen (x .after) table)
+        → tableAfterTurns engine (suc m) last (standing stage l table) (drop used text) table
+        ≡ tableAfterTurns engine m last (x .after) (x .left) (tableThen (x .after) table)
     unfolding tableAfterTurns
     tables-wrote m some = go (x .written) refl
       where
         go : (v : List ℕ) → x .written ≡ v
             → elim v as (λ _. List ℕ) [
               | [] ↦ table
-              | b ∷ w ↦ tableAfterTurns m last (x .after) (x .left) (tableThen (x .after) table)
+              | b ∷ w ↦ tableAfterTurns engine m last (x .after) (x .left) (tableThen (x .after) table)
             ]
-            ≡ tableAfterTurns m last (x .after) (x .left) (tableThen (x .after) table)
+            ≡ tableAfterTurns engine m last (x .after) (x .left) (tableThen (x .after) table)
         go [] z = absurd (some z)
         go (b ∷ v) z = refl
 
@@ -205,36 +207,39 @@ module _ (last : Bool) (s₀ : Standing) (text table₀ out₀ : List ℕ) where
 
     -- one that wrote nothing leaves the table
     kept : x .written ≡ [] → tableThen (x .after) table ≡ table
-    kept none = ap (λ s. tableThen s table) (turn-stuck last (standing stage l table) (drop used text) none .1)
-        ∙ table-stays stage l table (g .stands)
+    kept none =
+        ap (λ s. tableThen s table)
+        (turn-stuck (machineOf engine) last (standing stage l table) (drop used text) none .1)
+        ∙ table-stays engine stage l table (g .stands)
 
-    turns-still : x .written ≡ [] → turns 1 last (standing stage l table) (drop used text) ≡ x
+    turns-still : x .written ≡ [] → turns (machineOf engine) 1 last (standing stage l table) (drop used text) ≡ x
     unfolding turns
     turns-still none = go (x .written) refl
       where
         go : (v : List ℕ) → x .written ≡ v
-            → elim v as (λ _. Turn) [ [] ↦ x | b ∷ w ↦ followed x (turns 0 last (x .after) (x .left)) ] ≡ x
+            → elim v as (λ _. Turn) [ [] ↦ x | b ∷ w ↦ followed x (turns (machineOf engine) 0 last (x .after) (x .left)) ]
+            ≡ x
         go [] z = refl
         go (b ∷ v) z = absurd (cons≢nil (sym z ∙ none))
 
-    tables-still : x .written ≡ [] → tableAfterTurns 1 last (standing stage l table) (drop used text) table ≡ table
+    tables-still : x .written ≡ [] → tableAfterTurns engine 1 last (standing stage l table) (drop used text) table ≡ table
     unfolding tableAfterTurns
     tables-still none = go (x .written) refl
       where
         go : (v : List ℕ) → x .written ≡ v
             → elim v as (λ _. List ℕ) [
               | [] ↦ table
-              | b ∷ w ↦ tableAfterTurns 0 last (x .after) (x .left) (tableThen (x .after) table)
+              | b ∷ w ↦ tableAfterTurns engine 0 last (x .after) (x .left) (tableThen (x .after) table)
             ]
             ≡ table
         go [] z = refl
         go (b ∷ v) z = absurd (cons≢nil (sym z ∙ none))
 
     -- and so would the next
-    again : x .written ≡ [] → turn last (x .after) (x .left) .written ≡ []
+    again : x .written ≡ [] → turn (machineOf engine) last (x .after) (x .left) .written ≡ []
     again none =
-        let (left, after) = turn-stuck last (standing stage l table) (drop used text) none in
-        ap₂ (λ s b. turn last s b .written) after left ∙ none
+        let (left, after) = turn-stuck (machineOf engine) last (standing stage l table) (drop used text) none in
+        ap₂ (λ s b. turn (machineOf engine) last s b .written) after left ∙ none
 
     pub all-room : written + n ≤ length out₀
     all-room = omega (arith, all-size, all-wrote .count)
@@ -256,28 +261,29 @@ module _ (last : Bool) (s₀ : Standing) (text table₀ out₀ : List ℕ) where
           goes =
               λ m.
               let k : g .taken + 1 + m ≡ g .taken + suc m = omega arith in
-              ap (λ k. turns k last s₀ text) k
+              ap (λ k. turns (machineOf engine) k last s₀ text) k
               ∙ g .goes (suc m)
               ∙ ap (followed so-far) (turns-wrote m (wrote h))
-              ∙ behind (turns m last (x .after) (x .left))
-              ∙ ap₂ (λ b a. followed (record { written = g .w ++ x .written; left = b; after = a }) (turns m last a b))
+              ∙ behind (turns (machineOf engine) m last (x .after) (x .left))
+              ∙ ap₂ (λ b a. followed (record { written = g .w ++ x .written; left = b; after = a })
+              (turns (machineOf engine) m last a b))
               all-left (sym (t .after));
           tables =
               λ m.
               let k : g .taken + 1 + m ≡ g .taken + suc m = omega arith in
-              ap (λ k. tableAfterTurns k last s₀ text table₀) k
+              ap (λ k. tableAfterTurns engine k last s₀ text table₀) k
               ∙ g .tables (suc m)
               ∙ tables-wrote m (wrote h)
-              ∙ ap₂ (λ b a. tableAfterTurns m last a b (tableThen (x .after) table)) all-left (sym (t .after))
-              ∙ ap (tableAfterTurns m last (standing stage′ l′ table′) (drop (used + more) text)) (sym (t .table));
+              ∙ ap₂ (λ b a. tableAfterTurns engine m last a b (tableThen (x .after) table)) all-left (sym (t .after))
+              ∙ ap (tableAfterTurns engine m last (standing stage′ l′ table′) (drop (used + more) text)) (sym (t .table));
         }
 
     -- one more that wrote nothing
-    pub going-ends : n ≡ 0 → Took last s₀ text table₀ out₀ table′ out′ stage′ l′ (used + more) (written + n)
+    pub going-ends : n ≡ 0 → Took engine last s₀ text table₀ out₀ table′ out′ stage′ l′ (used + more) (written + n)
     unfolding followed
     going-ends h =
         let none : x .written ≡ [] = length-nil (x .written) (sym (t .wrote .count) ∙ h) in
-        let all : turns (g .taken + 1) last s₀ text
+        let all : turns (machineOf engine) (g .taken + 1) last s₀ text
         ≡ record { written = g .w ++ x .written; left = x .left; after = x .after } =
         g .goes 1 ∙ ap (followed so-far) (turns-still none) in
         record {
@@ -297,5 +303,5 @@ module _ (last : Bool) (s₀ : Standing) (text table₀ out₀ : List ℕ) where
             stands = t .stands;
             table = t .table ∙ kept none ∙ sym (g .tables 1 ∙ tables-still none);
           };
-          stopped = inl (ap (λ y. turn last (y .after) (y .left) .written) all ∙ again none);
+          stopped = inl (ap (λ y. turn (machineOf engine) last (y .after) (y .left) .written) all ∙ again none);
         }

@@ -7,7 +7,7 @@ use Prim.Native.Nat.{ℕ, _+_, _*_, _≤_}
 use native.Mathlib.Omega.{arith}
 use mathlib.Core.Bool.{Bool, true, false}
 use mathlib.Core.List.{List, [], _∷_, _++_, append-nil}
-use mathlib.Core.Option.{some}
+use mathlib.Core.Option.{Option}
 use mathlib.Core.Path.{_≡_, refl, sym, ap, ap₂, subst, _∙_}
 use lib.ListN.{length, drop, length-drop, drop-of-length-le}
 use lib.Seq.{length-sets, sets-eq}
@@ -16,11 +16,10 @@ use Rattle.cell.specs.declared.Refusal.{Refusal}
 use Rattle.cell.specs.declared.Refusal.the-variants.{BadLine}
 use Rattle.cell.specs.Cell.{arrivalFits}
 use Rattle.laws.specs.Lists.{all?}
-use Rattle.model.specs.Checks.{Outcome}
-use Rattle.model.specs.Crossbar.{Course, slot}
+use Rattle.cell.specs.declared.Cell.{Cell}
+use Rattle.model.specs.Checks.{Outcome, done}
 use Rattle.model.specs.Sound.{sound}
 use Rattle.model.specs.State.{Switch, fresh}
-use Rattle.model.proofs.SoundSlot.{sound-fresh}
 use Rattle.trace.specs.declared.Answer.{Answer}
 use Rattle.trace.specs.declared.Answer.the-variants.{Slot as SlotBlock, End as EndBlock, Bad, More}
 use Rattle.trace.specs.declared.Key.the-variants.{Ports, First, Slot, End}
@@ -42,30 +41,31 @@ use Rattle.trace_reader.proofs.Answers.{headerIn-more, headerIn-known, nextIn-m
 use Rattle.trace_reader.proofs.Pieces.{next-line}
 use Rattle.layout.specs.Entry.{clockIn}
 use Rattle.layout.specs.Host.{filled, startCall, bufferAfter}
-use Rattle.layout.specs.Table.{IsTable, decode, encode, stateOf, tableSize}
+use Rattle.layout.specs.Table.{encode, stateOf, tableSize}
 use Rattle.layout.proofs.Host.{startCall-done}
-use Rattle.layout.proofs.Limits.{Goes, goes}
-use Rattle.layout.proofs.Table.{decode-encode, decode-length, decode-sound, encode-clock, length-encode, sound-clock}
-use Rattle.layout.proofs.Table.{stateOf-encode, encode-decode}
+use Rattle.layout.proofs.Table.{decode-length, encode-clock, length-encode, sound-clock, stateOf-encode, encode-decode}
 use Rattle.player_text.proofs.SameText.{header-first}
+use Rattle.player_turns.specs.declared.Engine.{Engine}
 use Rattle.player_turns.specs.declared.Played.{Played}
 use Rattle.player_turns.specs.declared.Played.the-variants.{Ran, Stopped}
 use Rattle.player_turns.specs.declared.Stage.{Stage}
 use Rattle.player_turns.specs.declared.Stage.the-variants.{Opening as OpeningStage, Playing, Ended, TurnedBack}
 use Rattle.player_text.specs.Player.{lineOf}
 use Rattle.player_text.specs.Turn.{Standing, playing, ended, turnedBack, Turn, ending, slotTurn, nextTurn, headerTurn, turn}
-use Rattle.player_turns.specs.Turns.{standing, lineAt, tableThen, Stands, Wrote}
-use Rattle.player_turns.proofs.Slots.{played-stopped, played-ran}
+use Rattle.player_turns.specs.Turns.{machineOf, TableOf, standing, lineAt, tableThen, Stands, Wrote}
 use Rattle.player_turns.specs.Code.{Turned, Closed, SlotPlayed}
+use Rattle.player_turns.proofs.Engines.{soundOf, sound-of, table-is, table-sound, table-made, fresh-of, fresh-sound}
+use Rattle.player_turns.proofs.Engines.{ticks-of, went}
+use Rattle.player_turns.proofs.Slots.{played-stopped, played-ran}
 
 -- the player's table is that of its switch
-pub table-stays : (stage : Stage) (l : ℕ) (table : List ℕ) → Stands stage l table
+pub table-stays : (engine : Engine) (stage : Stage) (l : ℕ) (table : List ℕ) → Stands engine stage l table
     → tableThen (standing stage l table) table ≡ table
 unfolding tableThen standing
-table-stays OpeningStage l table h = refl
-table-stays Playing l table h = encode-decode table (stateOf table) (h .good refl)
-table-stays Ended l table h = refl
-table-stays TurnedBack l table h = refl
+table-stays engine OpeningStage l table h = refl
+table-stays engine Playing l table h = encode-decode table (stateOf table) (table-is engine table (h .good refl))
+table-stays engine Ended l table h = refl
+table-stays engine TurnedBack l table h = refl
 
 -- a stage at the end, and where the player stands then
 pub data At : Stage → Standing → Type 0 where
@@ -91,8 +91,9 @@ unfolding lineAt
 at-line at-end = refl
 at-line at-refusal = refl
 
-at-stands : {end : Stage} {over : Standing} → At end over → (table : List ℕ) → length table ≡ tableSize → Stands end 0 table
-at-stands at table size =
+at-stands : (engine : Engine) {end : Stage} {over : Standing} → At end over → (table : List ℕ) → length table ≡ tableSize
+    → Stands engine end 0 table
+at-stands engine at table size =
     record {
       size = size;
       number = at-line at ∙ ap lineAt (sym (at-standing at 0 table));
@@ -103,49 +104,50 @@ at-stands at table size =
 ------------------------------------------------------------------------
 -- three kinds of turns, whatever they play
 
-module _ (T : Turn) (text table buffer : List ℕ) where
+module _ (engine : Engine) (T : Turn) (text table buffer : List ℕ) where
   -- it waits for more text
   waits : (stage : Stage) (l : ℕ) → T ≡ record { written = []; left = text; after = standing stage l table }
-      → Stands stage l table
-      → Turned T text table buffer table buffer stage l 0 0
+      → Stands engine stage l table
+      → Turned engine T text table buffer table buffer stage l 0 0
   unfolding filled
   waits stage l e s =
-      subst (λ T. Turned T text table buffer table buffer stage l 0 0) (sym e)
+      subst (λ T. Turned engine T text table buffer table buffer stage l 0 0) (sym e)
       (record {
         wrote = record { bytes = refl; count = refl };
         used = omega arith;
         left = refl;
         after = refl;
         stands = s;
-        table = sym (table-stays stage l table s);
+        table = sym (table-stays engine stage l table s);
       })
 
   -- it is the last one
   ends : {end : Stage} {over : Standing} → At end over → (t buffer′ : List ℕ) (stage : Stage) (l used n m : ℕ)
       → T ≡ ending over t text → length table ≡ tableSize → Wrote t buffer buffer′ n → Closed end n stage l used m
-      → Turned T text table buffer table buffer′ stage l used m
+      → Turned engine T text table buffer table buffer′ stage l used m
   unfolding ending
   ends at t buffer′ stage l used n m e size w c =
-      subst (λ T. Turned T text table buffer table buffer′ stage l used m) (sym e)
+      subst (λ T. Turned engine T text table buffer table buffer′ stage l used m) (sym e)
       (record {
         wrote = record { bytes = w .bytes; count = c .count ∙ w .count };
         used = omega (arith, c .kept);
         left = ap (λ k. drop k text) (sym (c .kept));
         after = ap (λ s. standing s l table) (c .there) ∙ at-standing at l table;
-        stands = rw (c .there, c .none) (at-stands at table size);
+        stands = rw (c .there, c .none) (at-stands engine at table size);
         table = sym (at-table at table);
       })
 
   -- the player goes on with a sound switch
   plays : (t buffer′ table′ : List ℕ) (s : Switch) (l used n : ℕ)
-      → T ≡ record { written = t; left = drop used text; after = playing l s } → used ≤ length text → sound s ≡ true
-      → table′ ≡ encode s → l ≤ 3 + 81 * s .clock → Wrote t buffer buffer′ n
-      → Turned T text table buffer table′ buffer′ Playing l used n
+      → T ≡ record { written = t; left = drop used text; after = playing l s } → used ≤ length text
+      → soundOf engine s ≡ true → table′ ≡ encode s → l ≤ 3 + 81 * s .clock → Wrote t buffer buffer′ n
+      → Turned engine T text table buffer table′ buffer′ Playing l used n
   unfolding standing clockIn tableThen lineAt
-  plays t buffer′ table′ s l used n e within good same few w =
+  plays t buffer′ table′ s l used n e within fine same few w =
+      let good : sound s ≡ true = sound-of engine s fine in
       let state : stateOf table′ ≡ s = ap stateOf same ∙ stateOf-encode s good in
-      let clock : clockIn table′ ≡ s .clock = ap clockIn same ∙ clock-encode in
-      subst (λ T. Turned T text table buffer table′ buffer′ Playing l used n) (sym e)
+      let clock : clockIn table′ ≡ s .clock = ap clockIn same ∙ encode-clock s (sound-clock s good) in
+      subst (λ T. Turned engine T text table buffer table′ buffer′ Playing l used n) (sym e)
       (record {
         wrote = w;
         used = omega (arith, length-drop used text);
@@ -154,30 +156,27 @@ module _ (T : Turn) (text table buffer : List ℕ) where
         stands = record {
           size = ap length same ∙ length-encode s good;
           number = refl;
-          good = λ _. ap decode same ∙ decode-encode s good ∙ ap some (sym state);
+          good = λ _. rw same (table-made engine s fine);
           few = λ _. omega (arith, clock);
         };
         table = same;
       })
-    where
-      clock-encode : clockIn (encode s) ≡ s .clock
-      clock-encode = encode-clock s (sound-clock s good)
 
 -- nothing is left to do
-turn-rests : {end : Stage} {over : Standing} → At end over → (last : Bool) (l : ℕ) (t table : List ℕ)
-    → turn last (standing end l table) t ≡ ending over [] t
+turn-rests : (engine : Engine) {end : Stage} {over : Standing} → At end over → (last : Bool) (l : ℕ) (t table : List ℕ)
+    → turn (machineOf engine) last (standing end l table) t ≡ ending over [] t
 unfolding turn standing
-turn-rests at-end last l t table = refl
-turn-rests at-refusal last l t table = refl
+turn-rests engine at-end last l t table = refl
+turn-rests engine at-refusal last l t table = refl
 
-pub rests : {end : Stage} {over : Standing} → At end over → (last : Bool) (stage : Stage) (l : ℕ)
+pub rests : (engine : Engine) {end : Stage} {over : Standing} → At end over → (last : Bool) (stage : Stage) (l : ℕ)
     (t table buffer : List ℕ)
     → length table ≡ tableSize → stage ≡ end → (stage′ : Stage) (l′ used m : ℕ) → Closed end 0 stage′ l′ used m
-    → Turned (turn last (standing stage l table) t) t table buffer table buffer stage′ l′ used m
+    → Turned engine (turn (machineOf engine) last (standing stage l table) t) t table buffer table buffer stage′ l′ used m
 unfolding filled
-rests at last stage l t table buffer size e stage′ l′ used m c =
-    ends (turn last (standing stage l table) t) t table buffer at [] buffer stage′ l′ used 0 m
-    (ap (λ s. turn last (standing s l table) t) e ∙ turn-rests at last l t table) size
+rests engine at last stage l t table buffer size e stage′ l′ used m c =
+    ends engine (turn (machineOf engine) last (standing stage l table) t) t table buffer at [] buffer stage′ l′ used 0 m
+    (ap (λ s. turn (machineOf engine) last (standing s l table) t) e ∙ turn-rests engine at last l t table) size
     (record { bytes = refl; count = refl }) c
 
 ------------------------------------------------------------------------
@@ -192,10 +191,10 @@ filled-table s table good size =
     drop-of-length-le table {i = length (encode s)} (omega (arith, length-encode s good)) in
     ap (λ l. encode s ++ l) none ∙ append-nil (encode s)
 
-module _ (last : Bool) (t table buffer : List ℕ) (size : length table ≡ tableSize) {o : Opening}
+module _ (engine : Engine) (last : Bool) (t table buffer : List ℕ) (size : length table ≡ tableSize) {o : Opening}
     (e : o ≡ openingOf t (headerIn last t)) where
   abbrev atHeader : Turn
-  atHeader = headerTurn t (headerIn last t)
+  atHeader = headerTurn (machineOf engine) t (headerIn last t)
 
   header-read : (o ≡ Short → ⊥) → headerIn last t ≡ known (header t)
   header-read h = go (decided last t) refl
@@ -204,40 +203,43 @@ module _ (last : Bool) (t table buffer : List ℕ) (size : length table ≡ tabl
       go true d = headerIn-known last t d
       go false d = absurd (h (e ∙ opening-short last t d))
 
-  pub header-short : o ≡ Short → Turned atHeader t table buffer table buffer OpeningStage 1 0 0
+  pub header-short : o ≡ Short → Turned engine atHeader t table buffer table buffer OpeningStage 1 0 0
   unfolding headerTurn standing lineAt
   header-short h =
       let more = headerIn-more last t (opening-short-e last t e h) in
       let never : (P : Type 0) → OpeningStage ≡ Playing → P =
       λ P p. (let z : _≡_ {A = ℕ} 0 1 = cc in absurd (omega arith)) in
-      waits atHeader t table buffer OpeningStage 1 (ap (headerTurn t) more)
+      waits engine atHeader t table buffer OpeningStage 1 (ap (headerTurn (machineOf engine) t) more)
       (record { size = size; number = refl; good = never _; few = never _ })
 
   pub header-refused : {r : Refusal} {l : ℕ} → o ≡ Refused r l → (buffer′ : List ℕ) (stage : Stage) (l′ used n m : ℕ)
       → Wrote (refusalText r l) buffer buffer′ n → Closed TurnedBack n stage l′ used m
-      → Turned atHeader t table buffer table buffer′ stage l′ used m
+      → Turned engine atHeader t table buffer table buffer′ stage l′ used m
   unfolding headerTurn
   header-refused {r} {l} h buffer′ stage l′ used n m w c =
       let read = header-read (λ k. (let z : _≡_ {A = ℕ} 0 1 = cc in omega arith)) in
-      ends atHeader t table buffer at-refusal (refusalText r l) buffer′ stage l′ used n m
-      (ap (headerTurn t) (read ∙ ap known (opening-refused-e last t e h))) size w c
+      ends engine atHeader t table buffer at-refusal (refusalText r l) buffer′ stage l′ used n m
+      (ap (headerTurn (machineOf engine) t) (read ∙ ap known (opening-refused-e last t e h))) size w c
 
   pub header-open : {ports first i : ℕ} → o ≡ Open ports first i → (table′ buffer′ : List ℕ) (n : ℕ)
       → table′ ≡ bufferAfter table (startCall ports first table)
       → Wrote (line Ports ports ++ line First first) buffer buffer′ n
-      → Turned atHeader t table buffer table′ buffer′ Playing 3 i n
+      → Turned engine atHeader t table buffer table′ buffer′ Playing 3 i n
   unfolding headerTurn bufferAfter fresh
   header-open {ports} {first} {i} h table′ buffer′ n start w =
       let read = header-read (λ k. (let z : _≡_ {A = ℕ} 0 1 = cc in omega arith)) in
       let (there, within) = opening-open-e last t e h in
       let (range, _) = rw there at (header-exact t) in
-      let good : sound (fresh ports first) ≡ true = sound-fresh ports first range (header-first t there) in
+      let fine = fresh-sound engine ports first range (header-first t there) in
       let made : table′ ≡ encode (fresh ports first) =
       start
       ∙ ap (bufferAfter table) (startCall-done ports first table range (omega arith))
-      ∙ filled-table (fresh ports first) table good size in
-      plays atHeader t table buffer (line Ports ports ++ line First first) buffer′ table′ (fresh ports first) 3 i n
-      (ap (headerTurn t) (read ∙ ap known there)) within good made (omega arith) w
+      ∙ filled-table (fresh ports first) table (sound-of engine (fresh ports first) fine) size in
+      plays engine atHeader t table buffer (line Ports ports ++ line First first) buffer′ table′ (fresh ports first) 3 i n
+      (ap (headerTurn (machineOf engine) t) (read ∙ ap known there)
+      ∙ ap (λ s. record { written = line Ports ports ++ line First first; left = drop i t; after = playing 3 s })
+      (fresh-of engine ports first))
+      within fine made (omega arith) w
 
 ------------------------------------------------------------------------
 -- a block or the end
@@ -249,13 +251,17 @@ unfolding arrivalsFrom arrivalAt numbersOf
 arrivals-numbers [] zs = refl
 arrivals-numbers (a ∷ rs) zs = ap (λ l. a ∷ l) (arrivals-numbers rs zs)
 
-module _ (last : Bool) (l : ℕ) (t table buffer : List ℕ) (good : IsTable table) (few : l ≤ 3 + 81 * clockIn table)
-    (clock : ℕ) (here : clock ≡ clockIn table) {b : Answer} (e : b ≡ answerOf t (nextIn last clock t)) where
+module _ (engine : Engine) (last : Bool) (l : ℕ) (t table buffer : List ℕ) (good : TableOf engine table)
+    (few : l ≤ 3 + 81 * clockIn table) (clock : ℕ) (here : clock ≡ clockIn table) {b : Answer}
+    (e : b ≡ answerOf t (nextIn last clock t)) where
   abbrev atNext : Turn
-  atNext = nextTurn l (stateOf table) t (nextIn last (clockIn table) t)
+  atNext = nextTurn (machineOf engine) l (stateOf table) t (nextIn last (clockIn table) t)
 
-  at-clock : atNext ≡ nextTurn l (stateOf table) t (nextIn last clock t)
-  at-clock = ap (λ n. nextTurn l (stateOf table) t (nextIn last n t)) (sym here)
+  sized : length table ≡ tableSize
+  sized = decode-length table (stateOf table) (table-is engine table good)
+
+  at-clock : atNext ≡ nextTurn (machineOf engine) l (stateOf table) t (nextIn last clock t)
+  at-clock = ap (λ n. nextTurn (machineOf engine) l (stateOf table) t (nextIn last n t)) (sym here)
 
   next-read : (b ≡ More → ⊥) → nextIn last clock t ≡ known (next clock (from 0 t))
   next-read h = go (decided last t) refl
@@ -264,31 +270,32 @@ module _ (last : Bool) (l : ℕ) (t table buffer : List ℕ) (good : IsTable tab
       go true d = nextIn-known last t clock d
       go false d = absurd (h (e ∙ sym (block-more last clock t d [] .0)))
 
-  pub next-more : b ≡ More → Turned atNext t table buffer table buffer Playing l 0 0
+  pub next-more : b ≡ More → Turned engine atNext t table buffer table buffer Playing l 0 0
   unfolding nextTurn standing lineAt
   next-more h =
       let unread = nextIn-more last t clock (answer-more-e last clock t e h) in
-      waits atNext t table buffer Playing l (at-clock ∙ ap (nextTurn l (stateOf table) t) unread)
-      (record { size = decode-length table (stateOf table) good; number = refl; good = λ _. good; few = λ _. few })
+      waits engine atNext t table buffer Playing l (at-clock ∙ ap (nextTurn (machineOf engine) l (stateOf table) t) unread)
+      (record { size = sized; number = refl; good = λ _. good; few = λ _. few })
 
   module _ (buffer′ : List ℕ) (stage : Stage) (l′ used n m : ℕ) where
     pub next-end : Closed Ended n stage l′ used m → b ≡ EndBlock → Wrote (line End clock) buffer buffer′ n
-        → Turned atNext t table buffer table buffer′ stage l′ used m
+        → Turned engine atNext t table buffer table buffer′ stage l′ used m
     unfolding nextTurn stateOf clockIn
     next-end c h w =
         let read = next-read (λ k. (let z : _≡_ {A = ℕ} 0 1 = cc in omega arith)) in
-        ends atNext t table buffer at-end (line End (clockIn table)) buffer′ stage l′ used n m
-        (at-clock ∙ ap (nextTurn l (stateOf table) t) (read ∙ ap known (answer-end-e last clock t e h)))
-        (decode-length table (stateOf table) good) (rw here at w) c
+        ends engine atNext t table buffer at-end (line End (clockIn table)) buffer′ stage l′ used n m
+        (at-clock ∙ ap (nextTurn (machineOf engine) l (stateOf table) t) (read ∙ ap known (answer-end-e last clock t e h)))
+        sized (rw here at w) c
 
     pub next-bad : Closed TurnedBack n stage l′ used m → {k : ℕ} → b ≡ Bad k
-        → Wrote (refusalText BadLine (l + k)) buffer buffer′ n → Turned atNext t table buffer table buffer′ stage l′ used m
+        → Wrote (refusalText BadLine (l + k)) buffer buffer′ n
+        → Turned engine atNext t table buffer table buffer′ stage l′ used m
     unfolding nextTurn
     next-bad c {k} h w =
         let read = next-read (λ k. (let z : _≡_ {A = ℕ} 0 1 = cc in omega arith)) in
-        ends atNext t table buffer at-refusal (refusalText BadLine (l + k)) buffer′ stage l′ used n m
-        (at-clock ∙ ap (nextTurn l (stateOf table) t) (read ∙ ap known (answer-bad-e last clock t e h)))
-        (decode-length table (stateOf table) good) w c
+        ends engine atNext t table buffer at-refusal (refusalText BadLine (l + k)) buffer′ stage l′ used n m
+        (at-clock ∙ ap (nextTurn (machineOf engine) l (stateOf table) t) (read ∙ ap known (answer-bad-e last clock t e h)))
+        sized w c
 
   module _ {count i lines : ℕ} (h : b ≡ SlotBlock count i lines) where
     ahead : Ahead clock t count i lines
@@ -327,40 +334,42 @@ module _ (last : Bool) (l : ℕ) (t table buffer : List ℕ) (good : IsTable tab
           (held-stored ∙ sets-eq (numbersOf (ahead .rs)) lent 0 (omega arith))
           ∙ arrivals-numbers (ahead .rs) _
 
-      outcome : Outcome Course
-      outcome = slot (stateOf table) (some (arrivalsFrom count numbers))
+      outcome : Outcome (List (Option Cell) × Switch)
+      outcome = machineOf engine .slot (stateOf table) (arrivalsFrom count numbers)
 
       at-slot : atNext ≡ slotTurn (stateOf table .clock) l t (from lines (drop i t)) outcome
       unfolding nextTurn outcome
       at-slot =
           at-clock
-          ∙ ap (nextTurn l (stateOf table) t) there
-          ∙ ap (λ rs. slotTurn (stateOf table .clock) l t (from lines (drop i t)) (slot (stateOf table) (some rs)))
+          ∙ ap (nextTurn (machineOf engine) l (stateOf table) t) there
+          ∙ ap (λ rs. slotTurn (stateOf table .clock) l t (from lines (drop i t))
+          (machineOf engine .slot (stateOf table) rs))
           (sym same-arrivals)
 
       module _ {table′ buffer′ : List ℕ} {r : Played} {n : ℕ}
-          (p : SlotPlayed (slot (stateOf table) (some (arrivalsFrom count numbers))) clock l table buffer table′
+          (p : SlotPlayed (machineOf engine .slot (stateOf table) (arrivalsFrom count numbers)) clock l table buffer table′
           buffer′ r) where
         pub next-stopped : r ≡ Stopped n → (stage : Stage) (l′ used m : ℕ) → Closed TurnedBack n stage l′ used m
-            → Turned atNext t table buffer table′ buffer′ stage l′ used m
+            → Turned engine atNext t table buffer table′ buffer′ stage l′ used m
         unfolding slotTurn outcome
         next-stopped f stage l′ used m shut =
             let (why, place, o, kept, w) = played-stopped clock l outcome p f in
-            subst (λ x. Turned atNext t table buffer x buffer′ stage l′ used m) (sym kept)
-            (ends atNext t table buffer at-refusal (refusalText why (lineOf l place)) buffer′ stage l′ used n m
+            subst (λ x. Turned engine atNext t table buffer x buffer′ stage l′ used m) (sym kept)
+            (ends engine atNext t table buffer at-refusal (refusalText why (lineOf l place)) buffer′ stage l′ used n m
             (at-slot ∙ ap (slotTurn (stateOf table .clock) l t (from lines (drop i t))) o)
-            (decode-length table (stateOf table) good) w shut)
+            sized w shut)
 
-        pub next-ran : r ≡ Ran n → Turned atNext t table buffer table′ buffer′ Playing (l + lines) i n
+        pub next-ran : r ≡ Ran n → Turned engine atNext t table buffer table′ buffer′ Playing (l + lines) i n
         unfolding slotTurn outcome stateOf clockIn
         next-ran f =
-            let (c, o, made, w) = played-ran clock l outcome p f in
-            let g : Goes (stateOf table) c =
-            goes (stateOf table) (ahead .rs) (decode-sound table (stateOf table) good) block-fits c
-            (ap (λ rs. slot (stateOf table) (some rs)) (sym same-arrivals) ∙ o) in
+            let (x, o, made, w) = played-ran clock l outcome p f in
+            let ran : machineOf engine .slot (stateOf table) (ahead .rs) ≡ done x =
+            ap (λ rs. machineOf engine .slot (stateOf table) rs) (sym same-arrivals) ∙ o in
             let less = block-size .1 in
-            plays atNext t table buffer (line Slot (clockIn table) ++ departuresText (c .departures)) buffer′ table′
-            (c .switch) (l + lines) i n
+            plays engine atNext t table buffer (line Slot (clockIn table) ++ departuresText (x .0)) buffer′ table′ (x .1)
+            (l + lines) i n
             (at-slot ∙ ap (slotTurn (clockIn table) l t (from lines (drop i t))) o)
-            (ahead .within) (g .good) made (omega (arith, g .clock))
-            (subst (λ k. Wrote (line Slot k ++ departuresText (c .departures)) buffer buffer′ n) here w)
+            (ahead .within)
+            (went engine (stateOf table) (table-sound engine table good) (ahead .rs) block-fits ran .good) made
+            (omega (arith, ticks-of engine .rises (stateOf table) (ahead .rs) ran))
+            (subst (λ k. Wrote (line Slot k ++ departuresText (x .0)) buffer buffer′ n) here w)

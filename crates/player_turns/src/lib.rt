@@ -1,7 +1,7 @@
-// The player: a trace in, its departures out, one turn after the other. Whoever drives it lends the text that is
-// there so far, the bytes of the table and a buffer, and keeps the stage and the number of the next line between the
-// turns. Its theorems are on the definitions: over the PIFO switch it writes the same text, and turn by turn it
-// writes the same text however the trace arrives.
+// The player: a trace in, its departures out, one turn after the other, on either switch. Whoever drives it lends the
+// text that is there so far, the bytes of the table and a buffer, and keeps the stage and the number of the next line
+// between the turns. Its theorems are on the definitions: both switches write the text that the PIFO switch would, and
+// turn by turn it is the same text however the trace arrives.
 use cell::Arrival;
 use cell::Fault;
 use cell::Refusal;
@@ -11,12 +11,10 @@ use trace::FIELDS;
 use trace::Key;
 use trace::Opening;
 ghost use mathlib.Core.List.{_++_};
-ghost use mathlib.Core.Option.{some};
 ghost use mathlib.Core.Path.{_≡_};
 ghost use Prim.Native.Nat.{_+_, _*_, _≤_};
 ghost use lib.ListN.{length, take};
 ghost use Rattle.cell.specs.Limits.{portLimit, clockEnd};
-ghost use Rattle.model.specs.Crossbar.{slot};
 ghost use Rattle.trace.specs.declared.Key.the-variants.{Ports, First, Slot};
 ghost use Rattle.trace.specs.Flat.{arrivalsFrom};
 ghost use Rattle.trace.specs.Line.{line};
@@ -24,16 +22,25 @@ ghost use Rattle.trace.specs.Piece.{nextIn, headerIn};
 ghost use Rattle.trace.specs.Contents.{blockLimit, blockNumbers, blockLines};
 ghost use Rattle.trace.specs.Lines.{departureText, departuresText};
 ghost use Rattle.trace_line_writer.specs.Writing.{Put};
-ghost use Rattle.layout.specs.Answer.{departureIn, departuresIn, departuresSize, departureSize};
+ghost use Rattle.layout.specs.Answer.{answerSize, departureIn, departuresIn, departuresSize, departureSize};
+ghost use Rattle.layout.specs.Arrivals.{heldLimit};
 ghost use Rattle.layout.specs.Entry.{clockIn};
-ghost use Rattle.layout.specs.Table.{IsTable, stateOf, tableSize};
+ghost use Rattle.layout.specs.Table.{stateOf, tableSize};
 ghost use Rattle.player_text.specs.Player.{lineOf};
 ghost use Rattle.player_text.specs.Turn.{headerTurn, nextTurn, turn};
-ghost use Rattle.player_turns.specs.Turns.{standing, turnRoom, Took, Stands, Wrote, departureRoom};
-ghost use Rattle.player_turns.specs.Code.{Turned, Closed, SlotPlayed};
+ghost use Rattle.player_turns.specs.declared.Engine.{Engine};
+ghost use Rattle.player_turns.specs.Turns.{machineOf, TableOf, standing, turnRoom, Took, Stands, Wrote};
+ghost use Rattle.player_turns.specs.Turns.{departureRoom};
+ghost use Rattle.player_turns.specs.Code.{Turned, Closed, SlotLeft, SlotPlayed};
 
 // What one turn can write at most: the line of a slot, and sixteen departures of five lines.
 const TURN_ROOM: usize = 16 + layout::PORTS * 76;
+
+// Which switch plays the slots.
+pub enum Engine {
+    Crossbar,
+    Oq,
+}
 
 // Where the player stands: before the header; before a block or the end; or behind all that it writes, where the trace
 // was played to its end or was turned back.
@@ -60,6 +67,7 @@ enum Played {
 
 // Plays the header, a block or the end, if the text that is there is enough; `last` says that no more will come.
 pub fn take_turn(
+    engine: Engine,
     stage: Stage,
     line: usize,
     text: &[u8],
@@ -67,15 +75,16 @@ pub fn take_turn(
     table: &mut [u8],
     out: &mut [u8],
 ) -> Turn
-    requires { ⌜ Stands stage line (now table) ⌝ }
+    requires { ⌜ Stands engine stage line (now table) ⌝ }
     requires { ⌜ turnRoom ≤ length (now out) ⌝ }
-    ensures { λ r. ⌜ Turned (turn last (standing stage line (now (table .entry))) (now (text .entry)))
+    ensures { λ r. ⌜ Turned engine
+        (turn (machineOf engine) last (standing stage line (now (table .entry))) (now (text .entry)))
         (now (text .entry)) (now (table .entry)) (now (out .entry)) (now (table .exit)) (now (out .exit))
         (r .stage) (r .line) (r .used) (r .written) ⌝ }
 {
     match stage {
         Stage::Opening => header_turn(text, last, table, out),
-        Stage::Playing => next_turn(line, text, last, table, out),
+        Stage::Playing => next_turn(engine, line, text, last, table, out),
         Stage::Ended => over(Stage::Ended, 0),
         Stage::TurnedBack => over(Stage::TurnedBack, 0),
     }
@@ -83,6 +92,7 @@ pub fn take_turn(
 
 // Takes turns until one writes nothing or the buffer may be too short for another.
 pub fn take_turns(
+    engine: Engine,
     stage: Stage,
     line: usize,
     text: &[u8],
@@ -90,8 +100,8 @@ pub fn take_turns(
     table: &mut [u8],
     out: &mut [u8],
 ) -> Turn
-    requires { ⌜ Stands stage line (now table) ⌝ }
-    ensures { λ r. ⌜ Took last (standing stage line (now (table .entry)))
+    requires { ⌜ Stands engine stage line (now table) ⌝ }
+    ensures { λ r. ⌜ Took engine last (standing stage line (now (table .entry)))
         (now (text .entry)) (now (table .entry)) (now (out .entry)) (now (table .exit)) (now (out .exit))
         (r .stage) (r .line) (r .used) (r .written) ⌝ }
 {
@@ -100,7 +110,15 @@ pub fn take_turns(
     let mut used = 0;
     let mut written = 0;
     while TURN_ROOM <= out.len() - written {
-        let turn = take_turn(stage, line, &text[used..], last, table, &mut out[written..]);
+        let turn = take_turn(
+            engine,
+            stage,
+            line,
+            &text[used..],
+            last,
+            table,
+            &mut out[written..],
+        );
         stage = turn.stage;
         line = turn.line;
         used += turn.used;
@@ -117,13 +135,14 @@ pub fn take_turns(
     }
 }
 
-// The turn at the header.
+// The turn at the header, which is the same on either switch.
 fn header_turn(text: &[u8], last: bool, table: &mut [u8], out: &mut [u8]) -> Turn
     requires { ⌜ length (now table) ≡ tableSize ⌝ }
     requires { ⌜ turnRoom ≤ length (now out) ⌝ }
-    ensures { λ r. ⌜ Turned (headerTurn (now (text .entry)) (headerIn last (now (text .entry))))
+    ensures { λ r. ⌜ ((engine : Engine)
+        → Turned engine (headerTurn (machineOf engine) (now (text .entry)) (headerIn last (now (text .entry))))
         (now (text .entry)) (now (table .entry)) (now (out .entry)) (now (table .exit)) (now (out .exit))
-        (r .stage) (r .line) (r .used) (r .written) ⌝ }
+        (r .stage) (r .line) (r .used) (r .written)) ⌝ }
 {
     match trace_reader::read_header(text, last) {
         Opening::Open(ports, first, used) => {
@@ -150,11 +169,19 @@ fn header_turn(text: &[u8], last: bool, table: &mut [u8], out: &mut [u8]) -> Tur
 }
 
 // The turn at a block or the end.
-fn next_turn(line: usize, text: &[u8], last: bool, table: &mut [u8], out: &mut [u8]) -> Turn
-    requires { ⌜ IsTable (now table) ⌝ }
+fn next_turn(
+    engine: Engine,
+    line: usize,
+    text: &[u8],
+    last: bool,
+    table: &mut [u8],
+    out: &mut [u8],
+) -> Turn
+    requires { ⌜ TableOf engine (now table) ⌝ }
     requires { ⌜ line ≤ 3 + blockLines * clockIn (now table) ⌝ }
     requires { ⌜ turnRoom ≤ length (now out) ⌝ }
-    ensures { λ r. ⌜ Turned (nextTurn line (stateOf (now (table .entry))) (now (text .entry))
+    ensures { λ r. ⌜ Turned engine
+        (nextTurn (machineOf engine) line (stateOf (now (table .entry))) (now (text .entry))
         (nextIn last (clockIn (now (table .entry))) (now (text .entry))))
         (now (text .entry)) (now (table .entry)) (now (out .entry)) (now (table .exit)) (now (out .exit))
         (r .stage) (r .line) (r .used) (r .written) ⌝ }
@@ -163,7 +190,7 @@ fn next_turn(line: usize, text: &[u8], last: bool, table: &mut [u8], out: &mut [
     let mut numbers = [0u32; trace::NUMBERS];
     match trace_reader::read_block(text, clock, last, &mut numbers) {
         Answer::Slot(count, used, lines) => {
-            match play_slot(line, clock, count, &numbers, table, out) {
+            match play_slot(engine, line, clock, count, &numbers, table, out) {
                 Played::Ran(written) => Turn {
                     stage: Stage::Playing,
                     line: line + lines as usize,
@@ -209,6 +236,7 @@ fn over(stage: Stage, written: usize) -> Turn
 
 // Runs the slot of a block, and writes its lines; or writes the refusal. Of the numbers five for each arrival count.
 fn play_slot(
+    engine: Engine,
     line: usize,
     clock: u32,
     count: u32,
@@ -216,21 +244,42 @@ fn play_slot(
     table: &mut [u8],
     out: &mut [u8],
 ) -> Played
-    requires { ⌜ IsTable (now table) ⌝ }
+    requires { ⌜ TableOf engine (now table) ⌝ }
     requires { ⌜ (clock ≡ clockIn (now table)) × (line ≤ 3 + blockLines * clock) ⌝ }
     requires { ⌜ (length (now numbers) ≡ blockNumbers) × (count ≤ blockLimit) ⌝ }
     requires { ⌜ turnRoom ≤ length (now out) ⌝ }
-    ensures { λ r. ⌜ SlotPlayed (slot (stateOf (now (table .entry))) (some (arrivalsFrom count (now (numbers .entry)))))
+    ensures { λ r. ⌜ SlotPlayed
+        (machineOf engine .slot (stateOf (now (table .entry))) (arrivalsFrom count (now (numbers .entry))))
         clock line (now (table .entry)) (now (out .entry)) (now (table .exit)) (now (out .exit)) r ⌝ }
 {
     let many = count as usize;
     let records = records_of(numbers, many);
     let mut answer = [0u8; layout::ANSWER_BYTES];
-    match slot_call::sound_slot(table, records, many, &mut answer) {
+    match slot_on(engine, table, records, many, &mut answer) {
         Fault::At(refusal, place) => {
             Played::Stopped(trace_line_writer::put_refusal(out, 0, refusal, line_of(line, place)))
         }
         Fault::Clear => Played::Ran(put_slot(out, clock, &answer)),
+    }
+}
+
+// Takes a slot of the engine on its table.
+fn slot_on(
+    engine: Engine,
+    table: &mut [u8],
+    records: [Arrival; HELD],
+    many: usize,
+    answer: &mut [u8],
+) -> Fault
+    requires { ⌜ TableOf engine (now table) ⌝ }
+    requires { ⌜ answerSize ≤ length (now answer) ⌝ }
+    requires { ⌜ many ≤ heldLimit ⌝ }
+    ensures { λ r. ⌜ SlotLeft (machineOf engine .slot (stateOf (now (table .entry))) (take many records))
+        (now (table .entry)) r (now (table .exit)) (now (answer .exit)) ⌝ }
+{
+    match engine {
+        Engine::Crossbar => slot_call::sound_slot(table, records, many, answer),
+        Engine::Oq => oq_slot::sound_slot(table, records, many, answer),
     }
 }
 

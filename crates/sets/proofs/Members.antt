@@ -7,7 +7,7 @@
 --     members-none, members-cons            the members of the empty set; of another, the first and those of the rest
 --     members-in, in-members                which numbers are listed
 --     members-rising                        in which order
---     members-setFrom, setFrom-full         the numbers of a run that pass a test, and whether all do
+--     members-setFrom, setFrom-full, -empty the numbers of a run that pass a test, and whether all do, or none
 --     members-with                          with a position behind them all
 --     Visited, visited-..                   a loop over a set: the members passed, rising, and those left
 use mathlib.Core.Path.{_≡_, refl, sym, ap, ap₂, _∙_, subst}
@@ -25,7 +25,7 @@ use lib.Count.{trailingZeros, trailing-le, ones, ones-step}
 use lib.Dec.{eqb, ltb, leb·suc-suc, leb·zero, leb·suc-zero}
 use lib.ListN.{length, length-map}
 use lib.Pow.{pow-mono}
-use Rattle.laws.specs.Lists.{keep, all?, count, pairwise, numbersFrom, upTo}
+use Rattle.laws.specs.Lists.{keep, none?, all?, count, pairwise, numbersFrom, upTo}
 use Rattle.laws.proofs.Tests.{either as passes, same, by-pass, by-fail, and-i, and-false-l, and-false-r, or-r}
 use Rattle.laws.proofs.Lists.{keep-append, keep-pass, keep-fail, keep-all, keep-none, keep-ext, keep-map, keep-mem}
 use Rattle.laws.proofs.Lists.{mem-keep, none?-i, all?-i}
@@ -469,6 +469,20 @@ setFrom-full p k n h =
     all?-i p run
     (λ j m. by-pass (p j) (λ f. omega (arith, eqb-true (length (members set)) n t, length-keep-lt p m f))))
     (λ t. eq-eqb (length (members set)) n (kept ∙ ap length (keep-all p run t) ∙ many))
+
+-- it is empty exactly if none passes
+pub setFrom-empty : (p : ℕ → Bool) (k n : ℕ) → eqb (setFrom p k n) 0 ≡ none? p (numbersFrom k n)
+unfolding setFrom numbersFrom none?
+setFrom-empty p k zero = refl
+setFrom-empty p k (suc n) =
+    step (p k) (setFrom p (k + 1) n) ∙ ap (λ b. not (p k) && b) (setFrom-empty p (k + 1) n)
+  where
+    step : (b : Bool) (set : ℕ) → eqb (pushed set b) 0 ≡ not b && eqb set 0
+    step true set = ne-eqb (2 * set + 1) 0 (omega arith)
+    step false set =
+        same (eqb (2 * set + 0) 0) (eqb set 0)
+        (λ t. eq-eqb set 0 (omega (arith, eqb-true (2 * set + 0) 0 t)))
+        (λ t. eq-eqb (2 * set + 0) 0 (omega (arith, eqb-true set 0 t)))
 
 -- with a position behind them all
 pub members-with : (set f : ℕ) → f < positions → ((j : ℕ) → List·Memᴰ j (members set) → j < f)

@@ -1,5 +1,5 @@
--- The definitions give every starred show of scope 9, for the crossbar and, where it can answer, the PIFO switch.
--- Assumes nothing.
+-- The definitions give every starred show of scope 9, for the crossbar and, where they can answer, the PIFO switch and
+-- the output-queued switch. Assumes nothing.
 use mathlib.Core.Bool.{true}
 use mathlib.Core.List.{flatten}
 use mathlib.Core.Option.{bind}
@@ -31,8 +31,9 @@ use Rattle.trace.specs.Reader.{arrivals as read-arrivals, block, afterEnd, next
 use Rattle.trace.specs.Lines.{departureText, departuresText, refusalText}
 use Rattle.player_text.specs.Player.{lineOf, playFrom, play, crossbar}
 use Rattle.player_text.specs.Player.{pifo, playCrossbar, playPifo}
-use Rattle.model.specs.Calls.{sameDeparture, courseOccupies, crossbarAnswers, pifoAnswers, crossbarRuns, pifoRuns, bothRun}
-use Rattle.model.specs.Calls.{arrival, cell, call}
+use Rattle.model.specs.Oq.{joinBuffer, joinBuffers, runOq, slotOq, oqAfter}
+use Rattle.model.specs.Calls.{sameDeparture, courseOccupies, crossbarAnswers, departuresAnswer, pifoAnswers, oqAnswers}
+use Rattle.model.specs.Calls.{crossbarRuns, pifoRuns, oqRuns, allRun, arrival, cell, call}
 use Rattle.show_starred.specs.Shows.{startAnswers, given, only, atFive, starred}
 
 pub starred-shows : all? given starred ≡ true
@@ -43,5 +44,6 @@ unfolding bind flatten keep some? none? all? count least pairwise update first? 
     enterAfter enter arrive leaving departuresOf without occupancies answerOf run slot switchAfter start freshPifo queued join best rest runPifo slotPifo pifoAfter sameBytes
     ascii keyName keyText digitsWithin decimal line after upToLineFeed isDigit valueAfter noLeadingZero readNumber readLine give _>>=_ number exactly
     begins read-arrival read-arrivals block afterEnd next header departureText departuresText refusalText lineOf playFrom play crossbar pifo playCrossbar
-    playPifo sameDeparture sameList courseOccupies crossbarAnswers pifoAnswers crossbarRuns pifoRuns bothRun arrival cell call startAnswers given only atFive starred
+    playPifo joinBuffer joinBuffers runOq slotOq oqAfter sameDeparture sameList courseOccupies crossbarAnswers departuresAnswer pifoAnswers oqAnswers crossbarRuns pifoRuns oqRuns
+    allRun arrival cell call startAnswers given only atFive starred
 starred-shows = refl

@@ -1,5 +1,5 @@
 -- Scope 9: the starred shows as a table of rows, and the test that the definitions give a row. Rows
--- that the PIFO switch can answer are tested for it too.
+-- that the PIFO switch can answer are tested for it too, and slot calls for the output-queued switch.
 use Prim.Native.Nat.{ℕ}
 use Prim.Native.String.{String}
 use mathlib.Core.Bool.{Bool, _&&_}
@@ -10,7 +10,7 @@ use lib.ListN.{replicate}
 use Rattle.laws.specs.Lists.{upTo}
 use Rattle.cell.specs.declared.Cell.{Cell}
 use Rattle.cell.specs.Refusal.{number}
-use Rattle.model.specs.Calls.{Call, call, sends, refuses, occupies, bothRun, arrival, cell}
+use Rattle.model.specs.Calls.{Call, call, sends, refuses, occupies, allRun, arrival, cell}
 use Rattle.model.specs.Checks.{Outcome, done, refused}
 use Rattle.model.specs.Crossbar.{start}
 use Rattle.model.specs.State.{Switch}
@@ -33,7 +33,7 @@ startAnswers n (refused r place) = eqb (number r) n && eqb place 0
 unfoldable pub given : Show → Bool
 given (plays t u) = sameBytes (playCrossbar (ascii t)) (ascii u) && sameBytes (playPifo (ascii t)) (ascii u)
 given (starts n r) = startAnswers r (start n 0)
-given (answers n first calls clock) = bothRun n first calls clock
+given (answers n first calls clock) = allRun n first calls clock
 
 -- sixteen numbers, and sixteen departures, of which output 5 alone has one
 unfoldable pub only : ℕ → List ℕ

@@ -13,31 +13,27 @@ use native.Mathlib.Numerals.{add-one}
 use native.Mathlib.Omega.{arith}
 use borrow.Author.Tests.{eq-eqb, eqb-true, eqb-false}
 use lib.Dec.{eqb}
-use lib.ListN.{length, take, drop, set, getD, length-append, length-drop, length-replicate, replicate}
+use lib.ListN.{length, take, drop, set, getD, length-append, length-drop}
 use lib.Seq.{take-at, drop-at, length-take-le, split-at, getD-drop, append-snoc}
 use Rattle.laws.specs.Lists.{some?, none?}
 use Rattle.laws.proofs.Tests.{same, and-i, and-l, and-r}
 use Rattle.laws.proofs.Lists.{some?-i, some?-false}
 use Rattle.cell.specs.declared.Cell.{Cell}
 use Rattle.cell.specs.Flow.{sameFlow}
-use Rattle.cell.specs.Limits.{sectionRoom, portLimit}
+use Rattle.cell.specs.Limits.{sectionRoom}
 use Rattle.model.specs.State.{Entry, isListed}
 use Rattle.model.specs.Crossbar.{inListOf, newEntry, enter}
-use Rattle.model.proofs.SoundArrival.{Enters, front, behind, enters, length-enter}
+use Rattle.model.proofs.SoundArrival.{Enters, front, behind, enters}
 use Rattle.layout.specs.Entry.{entryAt, countIn}
-use Rattle.layout.specs.Number.{bytesOf}
 use Rattle.layout.specs.Code.{recordStart, put, portsIn}
-use Rattle.layout.specs.Table.{entrySize, placeOf, entryBytes, entriesBytes, sectionBytes, stateOf, encode, IsTable}
-use Rattle.layout.proofs.Table.{length-entryBytes, length-entriesBytes}
+use Rattle.layout.specs.Table.{entrySize, placeOf, entryBytes, stateOf, encode, IsTable}
 use Rattle.layout_table.specs.CodeEntries.{entryWith, flowWord}
 use Rattle.layout_table.proofs.Places.{placeOf-listed}
 use Rattle.slot_arrival.specs.CodeArrival.{entered, enterPlace, movedUp}
-use Rattle.slot_arrival.specs.CodeFault.{sectionIn}
-use Rattle.slot_arrival.proofs.Faults.{none?-at}
-use Rattle.slot_arrival.proofs.Insert.{Around, encode-around, changedAt}
-use Rattle.slot_arrival.proofs.Insert.{zerosAfter, section-old, section-new, insert-entry}
-use Rattle.slot_arrival.proofs.Stored.{table-encode, ports-below, sections-number, section-sound, section-length}
-use Rattle.slot_arrival.proofs.Stored.{section-entry}
+use Rattle.slot_faults.specs.CodeFault.{sectionIn}
+use Rattle.slot_faults.proofs.Faults.{none?-at}
+use Rattle.slot_arrival.proofs.Insert.{changedAt, inserted-bytes}
+use Rattle.slot_faults.proofs.Stored.{section-length, section-entry}
 
 ------------------------------------------------------------------------
 -- an entry in the list of a flow
@@ -181,67 +177,6 @@ module _ (bs : List ℕ) (t : IsTable bs) (c : Cell) (within : c .input < portsI
   abbrev here : List Entry
   here = sectionIn bs (c .input)
 
-  abbrev place : ℕ
-  place = enterPlace c here
-
-  here-short : length here < sectionRoom
-  here-short = omega (arith, section-length bs t (c .input) within)
-
-  around : Around (stateOf bs) (c .input)
-  around =
-      let input : c .input < portLimit = omega (arith, ports-below bs t) in
-      let inside : c .input < length (stateOf bs .sections) = omega (arith, sections-number bs t) in
-      encode-around (stateOf bs) (c .input) input inside (λ k. section-sound bs t k .short)
-
-  -- the bytes before the new entry's place and those that move up
-  length-front : length (entriesBytes (take place here)) ≡ 16 * place
-  length-front =
-      length-entriesBytes (take place here)
-      ∙ ap (λ k. 16 * k) (length-take-le place here (place-below c here))
-
-  length-back : length (entriesBytes (drop place here)) ≡ 16 * (length here - place)
-  length-back = length-entriesBytes (drop place here) ∙ ap (λ k. 16 * k) (length-drop place here)
-
-  whole-bytes : bs ≡ around .before ++ (bytesOf 1 (length here) ++ (around .between
-      ++ ((entriesBytes (take place here) ++ (entriesBytes (drop place here)
-      ++ (replicate entrySize 0 ++ zerosAfter here place here-short))) ++ around .after)))
-  whole-bytes =
-      sym (table-encode bs t)
-      ∙ around .whole
-      ∙ ap (λ l. around .before ++ (bytesOf 1 (length here) ++ (around .between ++ (l ++ around .after))))
-      (section-old here place here-short)
-
-  changed-bytes : encode (entered c (stateOf bs))
-      ≡ around .before ++ (bytesOf 1 (countIn bs (c .input) + 1) ++ (around .between
-      ++ ((entriesBytes (take place here) ++ (entryBytes (newEntry c) ++ (entriesBytes (drop place here)
-      ++ zerosAfter here place here-short))) ++ around .after)))
-  unfolding entered changedAt
-  changed-bytes =
-      let raised : length (enter c here) ≡ countIn bs (c .input) + 1 =
-      length-enter c here ∙ omega (arith, section-length bs t (c .input) within) in
-      around .changed (enter c)
-      ∙ ap₂ (λ k l. around .before ++ (bytesOf 1 k ++ (around .between ++ (l ++ around .after)))) raised
-      (ap sectionBytes (enter-place c here) ∙ section-new here place here-short (newEntry c))
-
-  encode-enter : (at end : ℕ) → at ≡ sectionRoom * c .input + place → end ≡ sectionRoom * c .input + countIn bs (c .input)
-      → set (put (recordStart at) entrySize (entryBytes (newEntry c)) (movedUp (recordStart at) (recordStart end) entrySize bs))
-      (16 + c .input) (countIn bs (c .input) + 1) ≡ encode (entered c (stateOf bs))
-  encode-enter at end p q =
-      let new : length (entryBytes (newEntry c)) ≡ entrySize = length-entryBytes (newEntry c) in
-      let to-entry : length (around .before) + (1 + (length (around .between) + length (entriesBytes (take place here))))
-      ≡ recordStart at =
-      omega (arith, around .to-count, around .to-section, length-front) in
-      let to-end : recordStart at + length (entriesBytes (drop place here)) ≡ recordStart end =
-      omega (arith, length-back, place-below c here, section-length bs t (c .input) within) in
-      ap (λ k. set (put (recordStart at) k (entryBytes (newEntry c)) (movedUp (recordStart at) (recordStart end) k bs))
-      (16 + c .input) (countIn bs (c .input) + 1)) (sym new)
-      ∙ insert-entry (around .before) (around .between) (entriesBytes (take place here))
-      (entriesBytes (drop place here)) (replicate entrySize 0) (zerosAfter here place here-short) (around .after)
-      (entryBytes (newEntry c)) bs (length here) (countIn bs (c .input) + 1) (c .input) (recordStart at)
-      (recordStart end) whole-bytes (around .to-count) to-entry to-end
-      (length-replicate {A = ℕ} entrySize 0 ∙ sym new) (omega arith)
-      ∙ sym changed-bytes
-
   pub place-within : enterPlace c (sectionIn bs (c .input)) ≤ countIn bs (c .input)
   place-within = omega (arith, place-below c here, section-length bs t (c .input) within)
 
@@ -251,7 +186,7 @@ module _ (bs : List ℕ) (t : IsTable bs) (c : Cell) (within : c .input < portsI
       → moved ≡ movedUp (recordStart at) (recordStart (sectionRoom * c .input + count)) entrySize bs
       → new ≡ put (recordStart at) entrySize (entryBytes (newEntry c)) moved
       → set new (16 + c .input) (count + 1) ≡ encode (entered c (stateOf bs))
-  entered-bytes at count moved new p q m n =
-      ap₂ (λ l k. set l (16 + c .input) (k + 1))
-      (n ∙ ap (put (recordStart at) entrySize (entryBytes (newEntry c))) m) q
-      ∙ encode-enter at (sectionRoom * c .input + count) p (ap (λ k. sectionRoom * c .input + k) q)
+  unfolding entered changedAt
+  entered-bytes =
+      inserted-bytes bs t (c .input) within room (enterPlace c here) place-within (newEntry c) (enter c)
+      (enter-place c here)

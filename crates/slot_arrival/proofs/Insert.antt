@@ -2,25 +2,29 @@
 --     movedUp-none, movedUp-more, put-movedUp       bytes moved up, and others put in where they stood
 --     Around, encode-around                         the bytes of a state around one section and its count
 --     section-old, section-new                      a section with one more entry
---     insert-entry                                  the entry and the raised count in the table's bytes
+--     insert-entry, inserted-bytes                  the entry and the raised count in the table's bytes
 use Prim.Native.Nat.{ℕ, zero, suc, _+_, _*_, _-_, _%_, _≤_, _<_}
 use mathlib.Core.Path.{_≡_, refl, sym, _∙_, ap, ap₂}
 use mathlib.Core.List.{List, [], _∷_, _++_, append-assoc}
 use native.Mathlib.Omega.{arith}
 use lib.ListN.{length, take, drop, set, getD, replicate, length-append, length-drop, take-append-drop}
-use lib.ListN.{replicate-append-replicate}
+use lib.ListN.{length-replicate, replicate-append-replicate}
 use lib.Seq.{take-at, drop-at, take-take, drop-drop, take-add, take-append-le, drop-append-le, length-take-le}
 use lib.Seq.{set-at}
 use Rattle.laws.specs.Lists.{update}
 use Rattle.cell.specs.Limits.{portLimit, sectionRoom}
 use Rattle.model.specs.State.{Entry, Switch}
+use Rattle.layout.specs.Entry.{countIn}
 use Rattle.layout.specs.Number.{bytesOf}
 use Rattle.layout.specs.Table.{entrySize, sectionSize, layoutNumber, entryBytes, entriesBytes, sectionBytes}
-use Rattle.layout.specs.Table.{sectionsBytes, countsBytes, encode}
+use Rattle.layout.specs.Table.{sectionsBytes, countsBytes, stateOf, encode, IsTable}
 use Rattle.layout.proofs.Number.{length-bytesOf}
-use Rattle.layout.proofs.Table.{length-entriesBytes, entriesBytes-append, length-sectionBytes, length-countsBytes}
-use Rattle.layout.specs.Code.{put}
+use Rattle.layout.proofs.Table.{length-entryBytes, length-entriesBytes, entriesBytes-append, length-sectionBytes}
+use Rattle.layout.proofs.Table.{length-countsBytes}
+use Rattle.layout.specs.Code.{recordStart, put, portsIn}
 use Rattle.slot_arrival.specs.CodeArrival.{movedUp}
+use Rattle.slot_faults.specs.CodeFault.{sectionIn}
+use Rattle.slot_faults.proofs.Stored.{table-encode, ports-below, sections-number, section-sound, section-length}
 
 ------------------------------------------------------------------------
 -- movedUp
@@ -169,16 +173,16 @@ unfoldable pub changedAt : ℕ → (List Entry → List Entry) → Switch → Sw
 changedAt i f s = record { ports = s .ports; clock = s .clock; sections = update i f (s .sections) }
 
 -- its bytes differ only in the section and its count
-pub record Around (s : Switch) (i : ℕ) : Type 0 where
-  pub before : List ℕ
-  pub between : List ℕ
-  pub after : List ℕ
-  pub to-count : length before ≡ 16 + i
-  pub to-section : length between + (i + 1) ≡ 16 + sectionSize * i
-  pub whole : encode s
+record Around (s : Switch) (i : ℕ) : Type 0 where
+  before : List ℕ
+  between : List ℕ
+  after : List ℕ
+  to-count : length before ≡ 16 + i
+  to-section : length between + (i + 1) ≡ 16 + sectionSize * i
+  whole : encode s
       ≡ before ++ (bytesOf 1 (length (getD (s .sections) i []))
       ++ (between ++ (sectionBytes (getD (s .sections) i []) ++ after)))
-  pub changed : (f : List Entry → List Entry) → encode (changedAt i f s)
+  changed : (f : List Entry → List Entry) → encode (changedAt i f s)
       ≡ before ++ (bytesOf 1 (length (f (getD (s .sections) i [])))
       ++ (between ++ (sectionBytes (f (getD (s .sections) i [])) ++ after)))
 
@@ -199,7 +203,7 @@ regroup : (h b c a p q r : List ℕ)
     → h ++ ((b ++ (c ++ a)) ++ (p ++ (q ++ r))) ≡ (h ++ b) ++ (c ++ ((a ++ p) ++ (q ++ r)))
 regroup h b c a p q r = simp append-assoc
 
-pub encode-around : (s : Switch) (i : ℕ) → i < portLimit → i < length (s .sections)
+encode-around : (s : Switch) (i : ℕ) → i < portLimit → i < length (s .sections)
     → ((k : ℕ) → length (getD (s .sections) k []) ≤ sectionRoom) → Around s i
 unfolding changedAt header
 encode-around s i h k few =
@@ -231,7 +235,7 @@ zeros-more n a b e = ap (λ k. replicate k 0) e ∙ sym (replicate-append-replic
 
 module _ (es : List Entry) (p : ℕ) (room : length es < sectionRoom) where
   -- the zeros behind the new entry
-  abbrev pub zerosAfter : List ℕ
+  abbrev zerosAfter : List ℕ
   zerosAfter = replicate (sectionSize - entrySize * (length es + 1)) 0
 
   zeros-split : replicate (sectionSize - length (entriesBytes es)) 0 ≡ replicate entrySize 0 ++ zerosAfter
@@ -239,7 +243,7 @@ module _ (es : List Entry) (p : ℕ) (room : length es < sectionRoom) where
       zeros-more (sectionSize - length (entriesBytes es)) entrySize (sectionSize - entrySize * (length es + 1))
       (omega (arith, length-entriesBytes es))
 
-  pub section-old : sectionBytes es
+  section-old : sectionBytes es
       ≡ entriesBytes (take p es) ++ (entriesBytes (drop p es) ++ (replicate entrySize 0 ++ zerosAfter))
   unfolding sectionBytes
   section-old =
@@ -254,7 +258,7 @@ module _ (es : List Entry) (p : ℕ) (room : length es < sectionRoom) where
       length-append (take p es) (e ∷ drop p es) ∙ omega arith in
       length-entriesBytes (take p es ++ e ∷ drop p es) ∙ ap (λ n. 16 * n) all
 
-  pub section-new : (e : Entry) → sectionBytes (take p es ++ e ∷ drop p es)
+  section-new : (e : Entry) → sectionBytes (take p es ++ e ∷ drop p es)
       ≡ entriesBytes (take p es) ++ (entryBytes e ++ (entriesBytes (drop p es) ++ zerosAfter))
   unfolding sectionBytes entriesBytes
   section-new e =
@@ -268,7 +272,7 @@ insert-groups : (b n m w y z r a : List ℕ)
     → b ++ (n ++ (m ++ ((w ++ (y ++ (z ++ r))) ++ a))) ≡ (b ++ (n ++ (m ++ w))) ++ (y ++ (z ++ (r ++ a)))
 insert-groups b n m w y z r a = simp append-assoc
 
-pub insert-entry : (before between w y old z after new bs : List ℕ) (n m i from end : ℕ)
+insert-entry : (before between w y old z after new bs : List ℕ) (n m i from end : ℕ)
     → bs ≡ before ++ (bytesOf 1 n ++ (between ++ ((w ++ (y ++ (old ++ z))) ++ after)))
     → length before ≡ 16 + i → length before + (1 + (length between + length w)) ≡ from → from + length y ≡ end
     → length old ≡ length new → m < 256
@@ -290,3 +294,74 @@ insert-entry before between w y old z after new bs n m i from end whole to-count
     ap (λ l. set l (16 + i) m) (put-in ∙ sym (insert-groups before (bytesOf 1 n) between w new y z after))
     ∙ set-at before (n % 256) (between ++ ((w ++ (new ++ (y ++ z))) ++ after)) m (16 + i) to-count
     ∙ ap (λ b. before ++ b ∷ (between ++ ((w ++ (new ++ (y ++ z))) ++ after))) byte
+
+-- an entry is put at a place of an input's section, by whatever it is that puts it there
+module _ (bs : List ℕ) (t : IsTable bs) (i : ℕ) (within : i < portsIn bs) (room : countIn bs i < sectionRoom) (place : ℕ)
+    (low : place ≤ countIn bs i) (e : Entry) (f : List Entry → List Entry)
+    (puts : f (sectionIn bs i) ≡ take place (sectionIn bs i) ++ e ∷ drop place (sectionIn bs i)) where
+  abbrev here : List Entry
+  here = sectionIn bs i
+
+  size : length here ≡ countIn bs i
+  size = section-length bs t i within
+
+  here-short : length here < sectionRoom
+  here-short = omega (arith, size)
+
+  around : Around (stateOf bs) i
+  around =
+      let input : i < portLimit = omega (arith, ports-below bs t) in
+      let inside : i < length (stateOf bs .sections) = omega (arith, sections-number bs t) in
+      encode-around (stateOf bs) i input inside (λ k. section-sound bs t k .short)
+
+  -- the bytes before the new entry's place and those that move up
+  length-front : length (entriesBytes (take place here)) ≡ 16 * place
+  length-front =
+      length-entriesBytes (take place here) ∙ ap (λ k. 16 * k) (length-take-le place here (omega (arith, size)))
+
+  length-back : length (entriesBytes (drop place here)) ≡ 16 * (length here - place)
+  length-back = length-entriesBytes (drop place here) ∙ ap (λ k. 16 * k) (length-drop place here)
+
+  whole-bytes : bs ≡ around .before ++ (bytesOf 1 (length here) ++ (around .between
+      ++ ((entriesBytes (take place here) ++ (entriesBytes (drop place here)
+      ++ (replicate entrySize 0 ++ zerosAfter here place here-short))) ++ around .after)))
+  whole-bytes =
+      sym (table-encode bs t)
+      ∙ around .whole
+      ∙ ap (λ l. around .before ++ (bytesOf 1 (length here) ++ (around .between ++ (l ++ around .after))))
+      (section-old here place here-short)
+
+  changed-bytes : encode (changedAt i f (stateOf bs))
+      ≡ around .before ++ (bytesOf 1 (countIn bs i + 1) ++ (around .between
+      ++ ((entriesBytes (take place here) ++ (entryBytes e ++ (entriesBytes (drop place here)
+      ++ zerosAfter here place here-short))) ++ around .after)))
+  changed-bytes =
+      let raised : length (f here) ≡ countIn bs i + 1 =
+      ap length puts
+      ∙ length-append (take place here) (e ∷ drop place here)
+      ∙ omega (arith, size, length-take-le place here (omega (arith, size)), length-drop place here) in
+      around .changed f
+      ∙ ap₂ (λ k l. around .before ++ (bytesOf 1 k ++ (around .between ++ (l ++ around .after)))) raised
+      (ap sectionBytes puts ∙ section-new here place here-short e)
+
+  -- where the others have been moved up, and the count is raised
+  pub inserted-bytes : (at count : ℕ) (moved new : List ℕ) → at ≡ sectionRoom * i + place → count ≡ countIn bs i
+      → moved ≡ movedUp (recordStart at) (recordStart (sectionRoom * i + count)) entrySize bs
+      → new ≡ put (recordStart at) entrySize (entryBytes e) moved
+      → set new (16 + i) (count + 1) ≡ encode (changedAt i f (stateOf bs))
+  inserted-bytes at count moved new p q m n =
+      let wide : length (entryBytes e) ≡ entrySize = length-entryBytes e in
+      let end : ℕ = sectionRoom * i + count in
+      let to-entry : length (around .before) + (1 + (length (around .between) + length (entriesBytes (take place here))))
+      ≡ recordStart at =
+      omega (arith, around .to-count, around .to-section, length-front) in
+      let to-end : recordStart at + length (entriesBytes (drop place here)) ≡ recordStart end =
+      omega (arith, length-back, size) in
+      ap₂ (λ l k. set l (16 + i) (k + 1)) (n ∙ ap (put (recordStart at) entrySize (entryBytes e)) m) q
+      ∙ ap (λ k. set (put (recordStart at) k (entryBytes e) (movedUp (recordStart at) (recordStart end) k bs)) (16 + i)
+      (countIn bs i + 1)) (sym wide)
+      ∙ insert-entry (around .before) (around .between) (entriesBytes (take place here))
+      (entriesBytes (drop place here)) (replicate entrySize 0) (zerosAfter here place here-short) (around .after)
+      (entryBytes e) bs (length here) (countIn bs i + 1) i (recordStart at) (recordStart end) whole-bytes
+      (around .to-count) to-entry to-end (length-replicate {A = ℕ} entrySize 0 ∙ sym wide) (omega arith)
+      ∙ sym changed-bytes

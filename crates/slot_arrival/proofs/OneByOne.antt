@@ -1,17 +1,19 @@
 -- The records of a slot come one by one.
 --     faultFrom-take, arrive-append     the first n records, and one after the other
---     after-sound                       the switch when the first n have come is sound
+--     no-fault, after-sound             the first n have no fault, and the switch when they have come is sound
 --     clock-raised                      the table with the clock of the next slot
+--     arriving                          the records may come where no fault is found
 --     Came                              the first n have come
 --     came-none, came-may, came-next, came-all     none have, the next one may, it has, all have
 use Prim.Native.Nat.{ℕ, zero, suc, _+_, _-_, _≤_, _<_}
 use mathlib.Core.Bool.{Bool, true}
 use mathlib.Core.Path.{_≡_, refl, sym, _∙_, ap, ap₂, subst}
+use mathlib.Core.Logic.{_≢_}
 use mathlib.Core.List.{List, [], _∷_, _++_, map, List·Memᴰ, List·Memᴰ·head, Memᴰ·append-left}
 use mathlib.Core.Option.{Option, none, some, Option·some-ne-none}
 use native.Mathlib.Numerals.{add-one}
 use native.Mathlib.Omega.{arith}
-use borrow.Author.Tests.{ltb-true}
+use borrow.Author.Tests.{ltb-true, leb-true, eqb-false}
 use lib.Dec.{ltb}
 use lib.ListN.{length, take, drop, getD, length-map, take-append-drop, List·getD-map}
 use lib.Seq.{take-suc, take-all, split-at}
@@ -23,7 +25,7 @@ use Rattle.cell.specs.declared.Arrival.{Arrival}
 use Rattle.cell.specs.declared.Cell.{Cell}
 use Rattle.cell.specs.declared.Refusal.{Refusal}
 use Rattle.cell.specs.Cell.{accepted, arrivalFits}
-use Rattle.cell.specs.Limits.{sectionRoom, portLimit, flowLimit}
+use Rattle.cell.specs.Limits.{sectionRoom, portLimit, flowLimit, clockEnd, fits32}
 use Rattle.model.specs.State.{Entry, Switch, cells}
 use Rattle.model.specs.Checks.{fault, faultFrom, firstFault}
 use Rattle.model.specs.Crossbar.{enter, arrive}
@@ -37,12 +39,15 @@ use Rattle.layout.specs.Entry.{clockIn, countIn}
 use Rattle.layout.specs.Number.{bytesOf}
 use Rattle.layout.specs.Table.{stateOf, encode, decode, IsTable}
 use Rattle.layout.proofs.Number.{below-fits32}
-use Rattle.layout.proofs.Table.{stateOf-encode, decode-encode, sound-ports}
+use Rattle.layout.proofs.Table.{stateOf-encode, decode-encode, sound-clock, sound-ports}
+use Rattle.cell.specs.declared.Fault.the-variants.{Clear}
 use Rattle.layout.specs.Code.{portsIn}
 use Rattle.slot_arrival.specs.CodeArrival.{raised, entered, arrived, Arriving, MayEnter}
-use Rattle.slot_arrival.specs.CodeFault.{coming}
 use Rattle.slot_view.proofs.Placed.{decode-ports, decode-count}
-use Rattle.slot_arrival.proofs.Stored.{table-sound, table-encode, table-clock, table-ports, sections-number}
+use Rattle.slot_faults.specs.CodeFault.{coming, faultIn}
+use Rattle.slot_faults.proofs.Records.{coming-take}
+use Rattle.slot_faults.proofs.Slots.{fault-clear}
+use Rattle.slot_faults.proofs.Stored.{table-sound, table-encode, table-clock, table-ports, sections-number}
 
 ------------------------------------------------------------------------
 -- the first n
@@ -91,11 +96,6 @@ entered-last s a records =
     map-append [] = refl
     map-append (r ∷ rs) = ap (λ l. accepted (s .clock) r ∷ l) (map-append rs)
 
-take-map : {A B : Type 0} (f : A → B) (n : ℕ) (l : List A) → take n (map f l) ≡ map f (take n l)
-take-map f zero l = refl
-take-map f (suc n) [] = refl
-take-map f (suc n) (x ∷ l) = ap (λ r. f x ∷ r) (take-map f n l)
-
 -- the clock is raised
 clock-of-next : (s : Switch) → take 8 (encode s) ++ (bytesOf 4 (s .clock + 1) ++ drop 12 (encode s)) ≡ encode (raised s)
 unfolding encode bytesOf raised
@@ -111,6 +111,22 @@ clock-raised table t clock new e w =
 
 ------------------------------------------------------------------------
 -- the slot of a table
+
+-- the records may come where no fault is found
+pub arriving : (table : List ℕ) (records : List Arrival) → IsTable table → faultIn (stateOf table) records ≡ Clear
+    → Arriving table records
+unfolding fits32
+arriving table records t clear =
+    let told = fault-clear (stateOf table) records clear in
+    let fits : stateOf table .clock ≤ clockEnd = leb-true _ _ (sound-clock (stateOf table) (table-sound table t)) in
+    let apart : stateOf table .clock ≢ clockEnd = eqb-false _ _ (told .0) in
+    record {
+      sound = t;
+      early = omega (arith, table-clock table t);
+      clear =
+          ap (λ p. firstFault p (cells (stateOf table)) (coming (stateOf table) records)) (sym (table-ports table t))
+          ∙ told .1;
+    }
 
 -- the first n records have come: the table is that of the switch then, with the clock of the next slot
 pub record Came (table : List ℕ) (records : List Arrival) (n : ℕ) (cur : List ℕ) : Type 0 where
@@ -128,13 +144,12 @@ module _ (table : List ℕ) (records : List Arrival) (g : Arriving table records
   after n = arrived s (take n records)
 
   first-cells : (n : ℕ) → take n cs ≡ coming s (take n records)
-  unfolding coming
-  first-cells n = take-map (accepted (s .clock)) n records
+  first-cells n = coming-take s n records
 
   clear : firstFault (s .ports) (cells s) cs ≡ none
   clear = ap (λ p. firstFault p (cells s) cs) (table-ports table (g .sound)) ∙ g .clear
 
-  no-fault : (n : ℕ) → firstFault (s .ports) (cells s) (coming s (take n records)) ≡ none
+  pub no-fault : (n : ℕ) → firstFault (s .ports) (cells s) (coming s (take n records)) ≡ none
   unfolding firstFault
   no-fault n = rw (← first-cells n) (faultFrom-take (s .ports) (cells s) 1 none n cs clear)
 

@@ -43,9 +43,9 @@ use Rattle.slot_view.proofs.Heads.{Earlier, head-unlisted, head-none, head-some
 use Rattle.slot_view.proofs.Own.{own-kind, table-readable}
 use Rattle.slot_view.proofs.Placed.{decode-count, inTable-number}
 use Rattle.slot_arrival.specs.CodeArrival.{entered, enterPlace, MayEnter, openedWith}
-use Rattle.slot_arrival.specs.CodeFault.{sectionIn}
+use Rattle.slot_faults.specs.CodeFault.{sectionIn}
 use Rattle.slot_arrival.proofs.Arriving.{place-front, place-behind, place-below, enter-place}
-use Rattle.slot_arrival.proofs.Stored.{table-ports, ports-below, sections-number, section-length, section-entry}
+use Rattle.slot_faults.proofs.Stored.{table-ports, ports-below, sections-number, section-length, section-entry}
 
 ------------------------------------------------------------------------
 -- where a new cell comes to stand

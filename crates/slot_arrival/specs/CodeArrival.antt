@@ -18,7 +18,7 @@ use Rattle.model.specs.Crossbar.{inListOf, enter, arrive}
 use Rattle.layout.specs.Entry.{clockIn, countIn}
 use Rattle.layout.specs.Table.{stateOf, IsTable}
 use Rattle.layout.specs.Code.{portsIn}
-use Rattle.slot_arrival.specs.CodeFault.{coming}
+use Rattle.slot_faults.specs.CodeFault.{coming}
 
 -- the switch when a cell has entered the list of its input
 unfoldable pub entered : Cell → Switch → Switch

@@ -1,2 +1,1 @@
 pub mod CodeArrival
-pub mod CodeFault

@@ -1,16 +1,11 @@
-// Scope 6, refusals 4 to 8, and scope 3.1, arrival: a record is looked at, and the cell that it becomes enters the list
-// of its input, on the bytes of the table in place.
+// Scope 3.1, arrival: the cell that a record becomes enters the list of its input, on the bytes of the table in place.
 ghost use mathlib.Core.Path.{_≡_};
-ghost use mathlib.Core.Option.{Option};
 ghost use Prim.Native.Nat.{_+_, _-_, _*_, _/_, _^_, _≤_, _<_};
 ghost use mathlib.Core.Bool.{true, false};
 ghost use lib.Dec.{eqb};
 ghost use lib.ListN.{length, getD};
-ghost use Rattle.cell.specs.declared.Cell.{Cell};
 ghost use Rattle.cell.specs.Cell.{accepted};
 ghost use Rattle.cell.specs.Limits.{clockEnd, sectionRoom, portLimit};
-ghost use Rattle.model.specs.State.{cells};
-ghost use Rattle.model.specs.Checks.{noSuchPort, noSuchFlow, outOfTurn, fallingRank, full, fault};
 ghost use Rattle.model.specs.Crossbar.{inListOf};
 ghost use Rattle.layout.specs.Entry.{entryAt, clockIn, countIn};
 ghost use Rattle.layout.specs.Code.{recordStart, recordAt, HasEntry, portsIn};
@@ -18,15 +13,13 @@ ghost use Rattle.layout.specs.Table.{tableSize, entrySize, entryBytes, stateOf,
 ghost use Rattle.layout_table.specs.CodeEntries.{flowWord};
 ghost use Rattle.slot_view.specs.CodeView.{placesIn};
 ghost use Rattle.slot_view.specs.CodeViewed.{SetsOf};
+ghost use Rattle.slot_faults.specs.CodeFault.{sectionIn};
 ghost use Rattle.slot_arrival.specs.CodeArrival.{raised, entered, MayEnter, enterPlace, movedUp, openedWith};
-ghost use Rattle.slot_arrival.specs.CodeFault.{sectionIn, faultAt, turnAfter, outranks};
 use cell::Arrival;
 use cell::Cell;
-use cell::Fault;
-use cell::Refusal;
-use cell::Switch;
 use layout::CELLS;
 use layout::PORTS;
+use slot_faults::cell_of;
 
 // The clock moves on by one, before a cell of the slot enters: so the table is sound whenever one has.
 pub fn raise_clock(table: &mut [u8])
@@ -59,95 +52,6 @@ pub fn arrive(
     let at = enter(table, cell_of(a, clock - 1));
     let input = a.input as usize;
     open_sets(listed, heads, crossed, buffered, input, at - CELLS * input);
-}
-
-// The checks of one record, in their order. `turn` is the lowest input whose turn it is.
-pub fn check_record(table: &[u8], turn: u32, place: u32, c: Cell) -> Fault
-    requires { ⌜ IsTable (now table) ⌝ }
-    ensures { λ r. ⌜ ((before : Option Cell) → turnAfter before ≡ turn → r
-        ≡ faultAt place (fault (portsIn (now (table .entry))) (cells (stateOf (now (table .entry)))) before c)) ⌝ }
-{
-    if no_such_port(table, c) {
-        return Fault::At(Refusal::NoSuchPort, place);
-    }
-    if no_such_flow(c) {
-        return Fault::At(Refusal::NoSuchFlow, place);
-    }
-    if out_of_turn(turn, c) {
-        return Fault::At(Refusal::InputOrder, place);
-    }
-    if falling_rank(table, c) {
-        return Fault::At(Refusal::RankOrder, place);
-    }
-    if input_full(table, c) {
-        return Fault::At(Refusal::Full, place);
-    }
-    Fault::Clear
-}
-
-// 4: an input or output is N or more.
-fn no_such_port(table: &[u8], c: Cell) -> bool
-    requires { ⌜ IsTable (now table) ⌝ }
-    ensures { λ r. ⌜ r ≡ noSuchPort (portsIn (now (table .entry))) c ⌝ }
-{
-    let ports = layout_table::header::ports_of(table);
-    if ports <= c.input as usize {
-        return true;
-    }
-    ports <= c.output as usize
-}
-
-// 5: a flow is above 7.
-fn no_such_flow(c: Cell) -> bool
-    ensures { λ r. ⌜ r ≡ noSuchFlow c ⌝ }
-{
-    !Switch::flow_in_range(c.flow)
-}
-
-// 6: an input is not above that of the record before it.
-fn out_of_turn(turn: u32, c: Cell) -> bool
-    ensures { λ r. ⌜ ((before : Option Cell) → turnAfter before ≡ turn → r ≡ outOfTurn before c) ⌝ }
-{
-    c.input < turn
-}
-
-// 7: a cell of the same flow is in the switch with a higher rank. Its input is the record's. All its cells are looked
-// at: an end that depends on them would be guessed badly.
-fn falling_rank(table: &[u8], c: Cell) -> bool
-    requires { ⌜ IsTable (now table) ⌝ }
-    requires { ⌜ c .input < portsIn (now table) ⌝ }
-    requires { ⌜ (c .output < 256) × (c .flow < 256) ⌝ }
-    ensures { λ r. ⌜ r ≡ fallingRank (cells (stateOf (now (table .entry)))) c ⌝ }
-{
-    let input = c.input as usize;
-    let end = layout_table::header::end_of(table, input);
-    let flow = layout_table::entry::flow_word(c);
-    let mut falling = false;
-    let mut k = CELLS * input;
-    while k < end {
-        falling = falling | outranked(table, k, c, flow);
-        k += 1;
-    }
-    falling
-}
-
-// Whether an entry of the record's input is of the record's flow and has a higher rank.
-fn outranked(table: &[u8], k: usize, c: Cell, flow: u16) -> bool
-    requires { ⌜ HasEntry (now table) k ⌝ }
-    requires { ⌜ (k / sectionRoom ≡ c .input) × (flow ≡ flowWord c) × (c .output < 256) ⌝ }
-    ensures { λ r. ⌜ r ≡ outranks c (entryAt (now (table .entry)) k .cell) ⌝ }
-{
-    (layout_table::entry::flow_word_of(table, k) == flow)
-        & (c.rank < layout_table::entry::rank_of(table, k))
-}
-
-// 8: as many cells from this input are in the switch as may be. They are the entries of its section.
-fn input_full(table: &[u8], c: Cell) -> bool
-    requires { ⌜ IsTable (now table) ⌝ }
-    requires { ⌜ c .input < portsIn (now table) ⌝ }
-    ensures { λ r. ⌜ r ≡ full (cells (stateOf (now (table .entry)))) c ⌝ }
-{
-    Switch::input_full(layout_table::header::count_of(table, c.input as usize) as u32)
 }
 
 // Lets a cell enter the list of its input, which has room for it. Gives the number of its entry.
@@ -233,19 +137,5 @@ fn move_up(table: &mut [u8], at: usize, end: usize)
     while at < k {
         k -= 1;
         layout_table::entry::copy_record(table, k, k + 1);
-    }
-}
-
-// The cell that a record becomes where it is accepted in this slot.
-pub fn cell_of(a: Arrival, clock: u32) -> Cell
-    ensures { λ r. ⌜ r ≡ accepted clock a ⌝ }
-{
-    Cell {
-        input: a.input,
-        output: a.output,
-        flow: a.flow,
-        rank: a.rank,
-        tag: a.tag,
-        slot: clock,
     }
 }

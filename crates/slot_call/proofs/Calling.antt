@@ -19,7 +19,7 @@ use denote.Steps.{owned, nothing}
 use denote.Triple.Clauses.{ensured, lasts}
 use denote.Triple.Spec.{tripleOf}
 use denote.Triple.Statement.{Contract}
-use Rattle.slot_call.proofs.few as few
+use Rattle.layout_arrivals.proofs.few as few
 
 module _ {M : Type 1} (𝓤 : URA M) (H : Heap 𝓤) (A : Atoms 𝓤) (at-mem : Memory → SProp 𝓤) (run : Routine → Fun 𝓤) where
   abbrev pub FewC : Contract 𝓤

@@ -23,8 +23,8 @@ use Rattle.slot_view.proofs.Placed.{length-numbers}
 use Rattle.cell.specs.declared.Fault.{Fault}
 use Rattle.cell.specs.declared.Fault.the-variants.{Clear, At}
 use Rattle.layout_answer.specs.Code.{sentIn}
-use Rattle.slot_arrival.proofs.Faults.{clear-not}
-use Rattle.slot_arrival.proofs.Stored.{table-sound}
+use Rattle.slot_faults.proofs.Faults.{clear-not}
+use Rattle.slot_faults.proofs.Stored.{table-sound}
 use Rattle.slot_course.specs.Code.{courseOf}
 use Rattle.slot_call.specs.declared.running.Ended.{Ended}
 use Rattle.layout_tally.specs.Counted.{countedAs}

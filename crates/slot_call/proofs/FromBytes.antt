@@ -1,95 +1,30 @@
--- Records read from bytes, and a slot on the first of them.
---     arrivalAt-fields         the record at a place, by its fields
---     read-none, read-next     the records read so far
---     lent-torn, lent-called   a slot on bytes: no whole number of records, or the slot on the first of them
-use Prim.Native.Nat.{ℕ, zero, suc, _+_, _*_, _/_, _%_, _≤_, _<_, min}
+-- A slot on bytes.
+--     lent-torn, lent-called   no whole number of records, or the slot on the first of them
+use Prim.Native.Nat.{ℕ, _/_, _%_, min}
 use native.Mathlib.Omega.{arith}
-use native.Mathlib.Numerals.{add-one}
 use mathlib.Core.Bool.{false}
-use mathlib.Core.List.{List, [], _∷_, _++_}
+use mathlib.Core.List.{List}
 use mathlib.Core.Option.{Option, none, some}
 use mathlib.Core.Path.{_≡_, refl, sym, ap, ap₂, _∙_}
-use lib.ListN.{length, take, drop, set, length-take}
-use lib.Seq.{take-suc-set, drop-drop}
+use lib.ListN.{length, take, length-take}
 use Rattle.cell.specs.declared.Arrival.{Arrival}
 use Rattle.cell.specs.declared.Refusal.the-variants.{BrokenTable}
 use Rattle.cell.specs.declared.Tally.{Tally}
 use Rattle.model.specs.State.{Switch}
 use Rattle.model.specs.Checks.{refused, fault, refusalOf}
 use Rattle.model.specs.Tally.{tallyAfter, arrivalCount, afterRefused}
-use Rattle.layout.specs.Arrivals.{arrivalSize, arrivalOf, arrivalsOf, recordsOf}
+use Rattle.layout.specs.Arrivals.{arrivalSize, arrivalsOf, recordsOf}
 use Rattle.layout.specs.Host.{slotOf, tableAfter, answerAfter}
-use Rattle.layout.specs.Number.{word}
 use Rattle.layout.specs.Table.{decode}
 use Rattle.layout.specs.TallyBytes.{tallyOf, tallyBytes}
 use Rattle.layout.proofs.Arrivals.{recordsOf-whole, recordsOf-broken, length-arrivalsOf}
-use Rattle.layout.proofs.Records.{numberAt-part}
 use Rattle.cell.specs.declared.Fault.{Fault}
 use Rattle.cell.specs.declared.Fault.the-variants.{At}
+use Rattle.layout_arrivals.proofs.Reading.{first-records}
 use Rattle.layout_tally.specs.Counted.{countedAs}
-use Rattle.slot_call.specs.CodeLent.{lentSlot, arrivalAt, LentLeaves}
-use Rattle.slot_records.proofs.Looking.{first-seventeen, lent-first, tally-first}
+use Rattle.slot_call.specs.CodeLent.{lentSlot, LentLeaves}
+use Rattle.slot_records.proofs.Looking.{lent-first, tally-first}
 use Rattle.slot_records.specs.Records.{recordsSlot}
-
-------------------------------------------------------------------------
--- the bytes
-
-module _ (bs : List ℕ) (k : ℕ) where
-  arrivalAt-word : (at : ℕ) → at + 4 ≤ arrivalSize
-      → word bs (arrivalSize * k + at) ≡ word (take arrivalSize (drop (arrivalSize * k) bs)) at
-  unfolding word
-  arrivalAt-word at h = sym (numberAt-part 4 at arrivalSize (arrivalSize * k) bs h)
-
-  -- the record whose fields are read
-  pub arrivalAt-fields : (a : Arrival) → a .input ≡ word bs (arrivalSize * k) → a .output ≡ word bs (arrivalSize * k + 4)
-      → a .flow ≡ word bs (arrivalSize * k + 8) → a .rank ≡ word bs (arrivalSize * k + 12) → a .tag ≡ word bs (arrivalSize * k + 16)
-      → a ≡ arrivalAt bs k
-  unfolding arrivalAt arrivalOf
-  arrivalAt-fields a i o f r t =
-      let first : arrivalSize * k ≡ arrivalSize * k + 0 = omega arith in
-      λ x. record {
-        input = (i ∙ ap (word bs) first ∙ arrivalAt-word 0 (omega arith)) x;
-        output = (o ∙ arrivalAt-word 4 (omega arith)) x;
-        flow = (f ∙ arrivalAt-word 8 (omega arith)) x;
-        rank = (r ∙ arrivalAt-word 12 (omega arith)) x;
-        tag = (t ∙ arrivalAt-word 16 (omega arith)) x;
-      }
-
--- one more
-arrivalsOf-more : (n : ℕ) (bs : List ℕ)
-    → arrivalsOf (suc n) bs ≡ arrivalsOf n bs ++ (arrivalOf (take arrivalSize (drop (arrivalSize * n) bs)) ∷ [])
-unfolding arrivalsOf
-arrivalsOf-more zero bs = refl
-arrivalsOf-more (suc n) bs =
-    let next : arrivalSize + arrivalSize * n ≡ arrivalSize * suc n = omega arith in
-    ap (λ l. arrivalOf (take arrivalSize bs) ∷ l)
-    (arrivalsOf-more n (drop arrivalSize bs)
-    ∙ ap (λ l. arrivalsOf n (drop arrivalSize bs) ++ (arrivalOf (take arrivalSize l) ∷ []))
-    (drop-drop (arrivalSize * n) arrivalSize bs ∙ ap (λ k. drop k bs) next))
-
-pub read-none : (bs : List ℕ) → [] ≡ arrivalsOf 0 bs
-unfolding arrivalsOf
-read-none bs = refl
-
-pub read-next : (records : List Arrival) (bs : List ℕ) (n : ℕ) (a : Arrival) → n < length records
-    → take n records ≡ arrivalsOf n bs → a ≡ arrivalAt bs n → take (n + 1) (set records n a) ≡ arrivalsOf (n + 1) bs
-unfolding arrivalAt
-read-next records bs n a inside sofar e =
-    ap (λ k. take k (set records n a)) (add-one n)
-    ∙ take-suc-set records n a inside
-    ∙ ap₂ (λ l r. l ++ (r ∷ [])) sofar e
-    ∙ sym (ap (λ k. arrivalsOf k bs) (add-one n) ∙ arrivalsOf-more n bs)
-
--- the first records of the bytes
-arrivalsOf-take : (k n : ℕ) (bs : List ℕ) → k ≤ n → arrivalsOf k bs ≡ take k (arrivalsOf n bs)
-unfolding arrivalsOf
-arrivalsOf-take zero n bs h = refl
-arrivalsOf-take (suc k) zero bs h = absurd (omega arith)
-arrivalsOf-take (suc k) (suc n) bs h =
-    ap (λ l. arrivalOf (take arrivalSize bs) ∷ l) (arrivalsOf-take k n (drop arrivalSize bs) (omega arith))
-
-------------------------------------------------------------------------
--- a slot on bytes
 
 module _ (table arrivals : List ℕ) (room : ℕ) where
   lent-broken : recordsOf arrivals ≡ none → lentSlot table arrivals room ≡ refused BrokenTable 0
@@ -104,13 +39,6 @@ module _ (table arrivals : List ℕ) (room : ℕ) where
       → lentSlot table arrivals room ≡ recordsSlot table room records
   unfolding lentSlot recordsSlot
   lent-whole records e = rw e
-
--- the first records of the bytes, by their number
-first-records : (n : ℕ) (bs : List ℕ) → arrivalsOf (min n 17) bs ≡ take 17 (arrivalsOf n bs)
-first-records n bs =
-    arrivalsOf-take (min n 17) n bs (omega arith)
-    ∙ ap (λ k. take (min k 17) (arrivalsOf n bs)) (sym (length-arrivalsOf n bs))
-    ∙ first-seventeen (arrivalsOf n bs)
 
 module _ (table arrivals answer tally : List ℕ) where
   -- no whole number of records

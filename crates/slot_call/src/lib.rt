@@ -7,6 +7,7 @@ use cell::Fault;
 use cell::Tally;
 use layout::HELD;
 use layout::PORTS;
+use layout_arrivals::few;
 use layout_tally::count;
 use running::Ended;
 use running::run_taken;
@@ -17,12 +18,12 @@ ghost use mathlib.Core.Path.{_≡_};
 ghost use Prim.Native.Nat.{_≤_, min};
 ghost use lib.ListN.{length, take};
 ghost use Rattle.layout.specs.Answer.{answerSize};
+ghost use Rattle.layout.specs.Arrivals.{heldLimit};
 ghost use Rattle.layout.specs.Table.{IsTable};
 ghost use Rattle.model.specs.Tally.{tallyAfter};
 ghost use Rattle.model.specs.Checks.{refusalOf};
 ghost use Rattle.layout.specs.Host.{tableAfter, answerAfter};
 ghost use Rattle.slot_call.specs.CodeEnded.{endedOf, SoundLeaves};
-ghost use Rattle.slot_records.specs.CodeLooked.{heldLimit};
 ghost use Rattle.slot_records.specs.Records.{recordsSlot};
 
 // Takes a slot on the lent table with the lent records. The table is then the one after the slot, the first bytes of
@@ -68,17 +69,6 @@ fn hold(records: &[Arrival]) -> [Arrival; HELD]
         n += 1;
     }
     held
-}
-
-// How many of so many records are looked at. Inputs rise and are below 16, so that the seventeenth record, if there is
-// one, has a fault or stands behind one.
-pub(crate) fn few(count: usize) -> usize
-    ensures { λ r. ⌜ r ≡ min count heldLimit ⌝ }
-{
-    if count < HELD {
-        return count;
-    }
-    HELD
 }
 
 // The slot with the first of the held records, and what came of it; the tally is not counted in.

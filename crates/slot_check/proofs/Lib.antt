@@ -1,11 +1,6 @@
 pub mod Accepted
-pub mod Collecting
-pub mod Crossed
-pub mod Fields
-pub mod Grouping
 pub mod Handed
-pub mod Marks
+pub mod Heads
 pub mod Parts
 pub mod Sections
 pub mod Slots
-pub mod Walks

@@ -21,10 +21,12 @@ use Rattle.layout.specs.Number.{bytesOf, sameBytes}
 use Rattle.layout.specs.Table.{headerSize, entrySize, sectionSize, tableSize, entryBytes, entriesBytes, sectionBytes, sectionsBytes, countsBytes}
 use Rattle.layout.specs.Entry.{entryAt, countIn}
 use Rattle.layout.specs.Code.{recordStart, recordAt, entriesBetween, firstRecord, sectionAt}
-use Rattle.slot_check.specs.Code.{isEntry, isUnused, roomOf, areSound, isSection}
+use Rattle.slot_section.specs.Code.{isEntry, isUnused}
+use Rattle.slot_check.specs.Code.{roomOf, areSound, isSection}
 use Rattle.layout.proofs.Number.{length-bytesOf, sameBytes-refl, sameBytes-exact}
 use Rattle.layout.proofs.Records.{between-mem, between-nil, length-entriesBetween, all?-entriesBetween}
 use Rattle.layout.proofs.Table.{length-entryBytes, length-entriesBytes, length-sectionBytes, soundSection-size}
+use Rattle.slot_section.proofs.Fields.{length-recordAt}
 
 ------------------------------------------------------------------------
 -- bytes one behind the other
@@ -56,10 +58,6 @@ module _ (bs : List ℕ) where
       let more : suc n ≡ 1 + n = omega arith in
       ap (recordsAt k) more ∙ recordsAt-add k 1 n
 
-  pub length-recordAt : (k : ℕ) → recordStart (k + 1) ≤ length bs → length (recordAt bs k) ≡ entrySize
-  unfolding recordAt
-  length-recordAt k room = length-take-le entrySize (drop (recordStart k) bs) (simp length-drop (omega arith))
-
   length-recordsAt : (k n : ℕ) → recordStart (k + n) ≤ length bs → length (recordsAt k n) ≡ entrySize * n
   length-recordsAt k n room = length-take-le (entrySize * n) (drop (recordStart k) bs) (simp length-drop (omega arith))
 
@@ -90,7 +88,7 @@ module _ (bs : List ℕ) where
   joined-e f k (suc n) size room e =
       let parts =
       append-split (f k) (joined f (numbersFrom (k + 1) n)) (recordAt bs k) (recordsAt (k + 1) n)
-      (size k ∙ sym (length-recordAt k (omega arith))) (e ∙ recordsAt-suc k n) in
+      (size k ∙ sym (length-recordAt bs k (omega arith))) (e ∙ recordsAt-suc k n) in
       and-i (sameBytes (f k) (recordAt bs k)) _
       (ap (λ l. sameBytes (f k) l) (sym (parts .0)) ∙ sameBytes-refl (f k))
       (joined-e f (k + 1) n size (omega arith) (parts .1))

@@ -20,11 +20,12 @@ use Rattle.layout.specs.Table.{tableSize, entryLimit}
 use Rattle.layout.specs.Code.{placeByteAt, entriesBetween, firstRecord}
 use Rattle.layout.proofs.Number.{bytes?}
 use Rattle.layout.proofs.Records.{between-each}
-use Rattle.slot_check.specs.Code.{isEntry, isUnused, roomOf, areSound, isSection, inRange, entriesIn, Sorts, otherOutput, Collected, headsIn}
+use Rattle.slot_section.specs.Code.{isEntry, isUnused, inRange, entriesIn, otherOutput, Collected, headsIn}
+use Rattle.slot_check.specs.Code.{roomOf, areSound, isSection, Sorts}
 use Rattle.slot_check.specs.Handed.{isFirst}
-use Rattle.slot_check.proofs.Fields.{isEntry-e, entries-inRange}
-use Rattle.slot_check.proofs.Grouping.{heads-set}
-use Rattle.slot_check.proofs.Walks.{entriesIn-keep, listed-set, crossed-set, buffered-set}
+use Rattle.slot_section.proofs.Fields.{isEntry-e, entries-inRange}
+use Rattle.slot_check.proofs.Heads.{heads-set}
+use Rattle.slot_section.proofs.Walks.{entriesIn-keep, listed-set, crossed-set, buffered-set}
 
 -- a question that need not be asked where it is known to hold
 pub asked-if : (may b : Bool) → (may ≡ false → b ≡ true) → (not may || b) ≡ b

@@ -27,9 +27,10 @@ use Rattle.model.specs.Sound.{otherSlot}
 use Rattle.layout.specs.Entry.{entryAt}
 use Rattle.layout.specs.Code.{entriesBetween}
 use Rattle.layout.proofs.Records.{entriesBetween-nil, entriesBetween-cons, entriesBetween-split}
-use Rattle.slot_check.specs.Code.{sameSlot, entriesIn}
-use Rattle.slot_check.proofs.Collecting.{slotIs}
-use Rattle.slot_check.proofs.Walks.{entriesAt, entriesAt-more}
+use Rattle.slot_section.specs.Code.{entriesIn}
+use Rattle.slot_check.specs.Code.{sameSlot}
+use Rattle.slot_section.proofs.Collecting.{slotIs}
+use Rattle.slot_section.proofs.Walks.{entriesAt, entriesAt-more}
 
 same-slot : (e f : Entry) → f .cell .slot ≡ e .cell .slot → sameSlot e f ≡ true
 unfolding sameSlot

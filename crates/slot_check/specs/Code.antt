@@ -1,38 +1,18 @@
 -- Whether bytes are a table, and the parts of that question as the code asks them.
-use Prim.Native.Nat.{ℕ, _+_, _-_, _/_, _%_, _<_, _*_}
-use mathlib.Core.Bool.{Bool, true, false, cond, not, _&&_}
+use Prim.Native.Nat.{ℕ, _+_, _*_}
+use mathlib.Core.Bool.{Bool, cond, _&&_}
 use mathlib.Core.Path.{_≡_}
-use mathlib.Core.List.{List, map}
+use mathlib.Core.List.{List}
 use lib.Dec.{ltb, leb, eqb}
-use lib.ListN.{length, getD, replicate}
-use Rattle.laws.specs.Lists.{keep, all?, pairwise, between, none?, upTo}
-use Rattle.sets.specs.Sets.{setFrom, members, has, setOf}
-use Rattle.cell.specs.Limits.{portLimit, sectionRoom, flowInRange}
+use Rattle.laws.specs.Lists.{keep, all?, pairwise, between}
+use Rattle.sets.specs.Sets.{setFrom}
+use Rattle.cell.specs.Limits.{sectionRoom}
 use Rattle.model.specs.State.{Entry, isListed, isCrossed, isBuffered}
-use Rattle.model.specs.Sound.{soundEntry, together, otherSlot, otherCrosspoint}
-use Rattle.layout.specs.Number.{sameBytes}
-use Rattle.layout.specs.Table.{entrySize, entryBytes}
+use Rattle.model.specs.Sound.{together, otherSlot, otherCrosspoint}
 use Rattle.layout.specs.Entry.{entryAt, countIn}
-use Rattle.layout.specs.Code.{recordAt, placeByteAt, entriesBetween, firstRecord}
-use Rattle.cell.specs.Flow.{sameFlow}
+use Rattle.layout.specs.Code.{entriesBetween, firstRecord}
+use Rattle.slot_section.specs.Code.{isEntry, isUnused}
 use Rattle.slot_check.specs.Handed.{isFirst}
-
--- a record is the bytes of its entry, and the entry is sound
-unfoldable pub isEntry : ℕ → ℕ → List ℕ → ℕ → Bool
-isEntry ports clock bs k =
-    sameBytes (entryBytes (entryAt bs k)) (recordAt bs k) && soundEntry ports clock (k / sectionRoom) (entryAt bs k)
-
--- a record is not used
-unfoldable pub isUnused : List ℕ → ℕ → Bool
-isUnused bs k = sameBytes (replicate entrySize 0) (recordAt bs k)
-
--- an entry goes to an output and is of a flow that there can be
-unfoldable pub inRange : Entry → Bool
-inRange e = ltb (e .cell .output) portLimit && flowInRange (e .cell .flow)
-
--- an entry goes to an output of the switch and came before the clock
-unfoldable pub inReach : ℕ → ℕ → Entry → Bool
-inReach ports clock e = ltb (e .cell .output) ports && ltb (e .cell .slot) clock
 
 -- how many entries an input may have: none where the switch does not have it
 unfoldable pub roomOf : ℕ → ℕ → ℕ
@@ -54,47 +34,9 @@ isSection ports clock bs input =
     leb (countIn bs input) (roomOf ports input)
     && (all? (isUnused bs) (between end (first + sectionRoom)) && areSound ports clock bs first end)
 
-------------------------------------------------------------------------
--- one pass over a section
-
--- the two digits of a record's place
-unfoldable pub lowPlace : List ℕ → ℕ → Bool
-lowPlace bs k = eqb (placeByteAt bs k % 2) 1
-
-unfoldable pub highPlace : List ℕ → ℕ → Bool
-highPlace bs k = eqb (placeByteAt bs k / 2 % 2) 1
-
--- what a pass over the records from one up to another finds: whether each is an entry; and if so, the sets of their
--- places' digits, and no two entries of one slot unless `again`
-pub record Collected (ports clock : ℕ) (bs : List ℕ) (from to : ℕ) (good again : Bool) (low high : ℕ) : Type 0 where
-  pub entries : good ≡ all? (isEntry ports clock bs) (between from to)
-  pub lows : good ≡ true → low ≡ setFrom (lowPlace bs) from (to - from)
-  pub highs : good ≡ true → high ≡ setFrom (highPlace bs) from (to - from)
-  pub slots : good ≡ true → again ≡ false → pairwise otherSlot (entriesBetween bs from to) ≡ true
-
--- the marks, one for each byte, are all below this one
-pub record MarksBelow (mark : ℕ) (marks : List ℕ) : Type 0 where
-  pub size : length marks ≡ 256
-  pub each : (n : ℕ) → getD marks n 0 < mark
-
-------------------------------------------------------------------------
--- what is asked of the entries together
-
 -- an entry has the slot of another
 unfoldable pub sameSlot : Entry → Entry → Bool
 sameSlot e f = eqb (f .cell .slot) (e .cell .slot)
-
--- the entries at a set of positions of a section
-unfoldable pub entriesIn : List ℕ → ℕ → ℕ → List Entry
-entriesIn bs first set = map (λ j. entryAt bs (first + j)) (members set)
-
--- two entries go to different outputs
-unfoldable pub otherOutput : Entry → Entry → Bool
-otherOutput e f = not (eqb (e .cell .output) (f .cell .output))
-
--- an entry breaks its flow: the one before it is of its flow and does not go first, or its flow was met before
-unfoldable pub breaksFlow : Bool → Bool → Bool → Bool
-breaksFlow same early met = cond same early met
 
 -- the sets of the first n entries of an input
 pub record Sorts (bs : List ℕ) (input n listed heads crossed buffered : ℕ) : Type 0 where
@@ -102,12 +44,3 @@ pub record Sorts (bs : List ℕ) (input n listed heads crossed buffered : ℕ) :
   pub heads-is : heads ≡ setFrom (isFirst bs input) (sectionRoom * input) n
   pub crossed-is : crossed ≡ setFrom (λ k. isCrossed (entryAt bs k .place)) (sectionRoom * input) n
   pub buffered-is : buffered ≡ setFrom (λ k. isBuffered (entryAt bs k .place)) (sectionRoom * input) n
-
--- of the entries at a set of positions of a section: one that none of its flow stands before
-unfoldable pub isFirstOfFlow : List ℕ → ℕ → ℕ → ℕ → Bool
-isFirstOfFlow bs first set j =
-    has set j
-    && none? (λ a. has set a && sameFlow (entryAt bs (first + a) .cell) (entryAt bs (first + j) .cell)) (upTo j)
-
-unfoldable pub headsIn : List ℕ → ℕ → ℕ → ℕ
-headsIn bs first set = setOf (isFirstOfFlow bs first set)

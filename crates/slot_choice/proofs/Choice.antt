@@ -38,10 +38,10 @@ use Rattle.slot_view.specs.CodeScan.{Readable, Bests, someUrgent}
 use Rattle.slot_view.specs.CodeViewed.{isHead, listedSet, ListsOf, Chosen}
 use Rattle.slot_view.proofs.Window.{waitingAt-at, waitingAt-input, waitingAt-place, inTable-e, inTable-i, inTable-below}
 use Rattle.slot_view.proofs.Window.{inTable-input, ofInput-none}
+use Rattle.slot_leaders.proofs.Best.{numberOf-nil, numberOf-one}
+use Rattle.slot_leaders.proofs.Columns.{set-both}
 use Rattle.slot_choice.specs.CodeWalk.{numbersAt, urgentOf, Scanned, ScannedAll, entered, Entered}
-use Rattle.slot_choice.proofs.Best.{numberOf-nil, numberOf-one}
 use Rattle.slot_choice.proofs.Candidates.{candidates-first, candidates-urgent, candidates-none}
-use Rattle.slot_choice.proofs.Columns.{set-both}
 use Rattle.slot_choice.proofs.Scans.{isReady, headsOf, ofInput-urgent, scheduled-none, scheduled-first}
 use Rattle.slot_choice.proofs.Walked.{heads-ordered}
 

@@ -1,9 +1,6 @@
-pub mod Best
 pub mod Candidates
 pub mod Choice
-pub mod Columns
-pub mod Keys
-pub mod Leaders
+pub mod Known
 pub mod Scans
 pub mod Walk
 pub mod Walked

@@ -37,8 +37,8 @@ use Rattle.slot_view.specs.CodeScan.{Holds}
 use Rattle.slot_view.specs.CodeViewed.{noKey}
 use Rattle.slot_view.proofs.Keys.{keyAt-cell, keyAt-none}
 use Rattle.slot_view.proofs.Window.{waitingAt-at, waitingAt-cell, waitingAt-input, inTable-below, agrees-holds}
+use Rattle.slot_leaders.proofs.Best.{Chief, chief-of}
 use Rattle.slot_choice.specs.CodeWalk.{KeysKnown, BestKnown, CellAt, cellAt, scheduledAt}
-use Rattle.slot_choice.proofs.Best.{Chief, chief-of}
 use Rattle.slot_choice.proofs.Scans.{empty-normal}
 
 -- a number is of no entry, or of one

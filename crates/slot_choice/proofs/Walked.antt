@@ -31,8 +31,8 @@ use Rattle.slot_view.specs.CodeChoices.{numberOf, scheduledOf, ofInput}
 use Rattle.slot_view.specs.CodeScan.{Readable}
 use Rattle.slot_view.specs.CodeViewed.{isHead, headSet}
 use Rattle.slot_view.proofs.Window.{waitingAt-at, waitingAt-input, window-ordered, ofInput-window}
+use Rattle.slot_leaders.proofs.Best.{numberOf-nil, numberOf-one}
 use Rattle.slot_choice.specs.CodeWalk.{CellAt, cellAt, scheduledAt, Scanned, urgentOf}
-use Rattle.slot_choice.proofs.Best.{numberOf-nil, numberOf-one}
 use Rattle.slot_choice.proofs.Scans.{isReady, headsOf, ofInput-urgent, scheduled-none, scheduled-first}
 use Rattle.slot_choice.proofs.Scans.{urgent-known, urgent-early}
 

@@ -1,2 +1,1 @@
-pub mod CodeKeys
 pub mod CodeWalk

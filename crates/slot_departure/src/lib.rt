@@ -13,7 +13,7 @@ ghost use Rattle.model.specs.Phase.{waiting};
 ghost use Rattle.model.specs.Crossbar.{leaving, departuresOf};
 ghost use Rattle.layout.specs.Table.{tableSize, stateOf, encode, IsTable, entryLimit, entrySize};
 ghost use Rattle.layout.specs.Code.{recordStart, put, HasEntry, portsIn};
-ghost use Rattle.layout.specs.Answer.{departureSize, answerSize, departureBytes, departuresBytes};
+ghost use Rattle.layout.specs.Answer.{departureSize, departuresSize, departureBytes, departuresBytes};
 ghost use Rattle.layout.specs.Host.{filled};
 ghost use Rattle.layout.specs.Entry.{entryAt};
 ghost use Rattle.slot_view.specs.CodeView.{placesIn};
@@ -25,7 +25,7 @@ ghost use Rattle.slot_departure.specs.Code.{clearedFrom, Removable, remo
 // cell of each output.
 pub fn depart(table: &mut [u8], best: &[u16; PORTS], answer: &mut [u8])
     requires { ⌜ IsTable (now table) × BestBuffered (now table) (placesIn (now table)) (now best) ⌝ }
-    requires { ⌜ answerSize ≤ length (now answer) ⌝ }
+    requires { ⌜ departuresSize ≤ length (now answer) ⌝ }
     ensures { λ _. ⌜ now (table .exit) ≡ encode (departed (stateOf (now (table .entry)))) ⌝ }
     ensures { λ _. ⌜ now (answer .exit)
         ≡ filled (departuresBytes portLimit (departuresOf (portsIn (now (table .entry)))

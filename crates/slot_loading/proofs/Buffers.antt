@@ -1,7 +1,7 @@
 -- The best buffered cell of each output, cell by cell.
---     key-below, key-held                the keys of cells, and that of none
+--     key-held                           a number with the key of a cell is that of a cell
 --     better-order, better-key           which of two is the better, by their order or by their keys
---     best-none, best-wider              the choices of all outputs: of no cells, and up to a later end
+--     best-none, best-wider, best-all    the choices of all outputs: of no cells, up to a later end, of all cells
 --     best-choose, picked-came           with one cell more, chosen by a test
 --     Choosing                           with those of an input, by a loop over their set
 use Prim.Native.Nat.{ℕ, _+_, _*_, _^_, _≤_, _<_}
@@ -24,7 +24,6 @@ use Rattle.model.specs.Phase.{beats}
 use Rattle.model.proofs.WaitingOrder.{beats-over, beats-total}
 use Rattle.layout.specs.Entry.{entryAt}
 use Rattle.layout.specs.Table.{placeOf, stateOf, IsTable}
-use Rattle.layout.proofs.Number.{fits32-below}
 use Rattle.layout.proofs.Table.{decode-bytes}
 use Rattle.layout.specs.Code.{portsIn}
 use Rattle.layout_table.specs.CodeEntries.{nowhere, betterOf}
@@ -32,14 +31,13 @@ use Rattle.layout_table.proofs.Better.{better-first, better-over, better-under}
 use Rattle.layout_table.proofs.Keys.{slot-below, over-keys}
 use Rattle.slot_view.specs.CodeChoices.{BestAmong, empty}
 use Rattle.slot_view.specs.CodeView.{waitingAt, waitingIn, placesIn, InTable}
-use Rattle.slot_view.specs.CodeViewed.{noKey, keyAt, Buffered, bufferedSet}
+use Rattle.slot_view.specs.CodeViewed.{noKey, keyAt, Buffered, BestBuffered, bufferedSet}
 use Rattle.slot_view.proofs.Choices.{Ordered, best-same, best-more}
 use Rattle.slot_view.proofs.Own.{table-readable, waitingIn-orderly}
-use Rattle.slot_view.proofs.Placed.{decode-entry}
 use Rattle.slot_view.proofs.Window.{inTable-i, inTable-below}
 use Rattle.slot_loading.specs.Code.{BufferedBelow, BestBelow}
 use Rattle.slot_loading.proofs.Walk.{Passing, passing-start, passing-end, passing-this, passing-below, passing-next}
-use Rattle.slot_view.proofs.Keys.{keyAt-cell, keyAt-none}
+use Rattle.slot_view.proofs.Keys.{keyAt-cell, keyAt-none, key-below}
 
 ------------------------------------------------------------------------
 -- which of two is the better
@@ -49,20 +47,15 @@ module _ (table : List ℕ) (good : IsTable table) where
   slot-fits = slot-below table (table-readable table good .size) (decode-bytes table (stateOf table) good)
 
   -- the key of a cell is below that of none
-  pub key-below : (k : ℕ) → InTable table k → key (entryAt table k .cell) < noKey
-  key-below k t =
-      omega (
-        arith,
-        fits32-below _ (decode-entry table (stateOf table) good k t .rank),
-        table-readable table good .early k t,
-      )
+  below-none : (k : ℕ) → InTable table k → key (entryAt table k .cell) < noKey
+  below-none = key-below table (table-readable table good) (decode-bytes table (stateOf table) good)
 
   -- a key that is equal to a cell's is that of a cell
   pub key-held : (k held : ℕ) → InTable table k → key (entryAt table k .cell) ≡ keyAt table held → held < nowhere
   key-held k held t e = go (compare held nowhere)
     where
       none : nowhere ≤ held → ⊥
-      none l = omega (arith, key-below k t, keyAt-none table held l)
+      none l = omega (arith, below-none k t, keyAt-none table held l)
 
       go : Compared held nowhere → held < nowhere
       go (below l) = l
@@ -90,7 +83,7 @@ module _ (table : List ℕ) (good : IsTable table) where
             better-first table held k small l
             ∙ sym
             (ap (λ b. cond b k held)
-            (lt-ltb (key (entryAt table k .cell)) (keyAt table held) (omega (arith, key-below k t, keyAt-none table held l))))
+            (lt-ltb (key (entryAt table k .cell)) (keyAt table held) (omega (arith, below-none k t, keyAt-none table held l))))
 
         go : Compared held nowhere → betterOf table held k ≡ cond (ltb (key (entryAt table k .cell)) (keyAt table held)) k held
         go (below l) =
@@ -140,6 +133,18 @@ best-wider l none c =
       keys-size = c .keys-size;
       each = λ o h. among-wider l (none o) (c .each o h);
       keys = c .keys;
+    }
+
+-- of all cells
+pub best-all : (table best rivals : List ℕ) → BestBelow table (placesIn table) (sectionRoom * portsIn table) best rivals
+    → BestBuffered table (placesIn table) best
+best-all table best rivals w =
+    record {
+      size = w .size;
+      each =
+          λ o h.
+          best-same table (λ k b. b .cell) (getD best o 0)
+          (λ k b. record { early = omega (arith, b .entry .input); cell = b }) (w .each o h);
     }
 
 module _ (table : List ℕ) (good : IsTable table) (k output : ℕ) (b : Buffered table (placesIn table) output k)

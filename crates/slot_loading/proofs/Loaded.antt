@@ -19,15 +19,14 @@ use Rattle.layout.proofs.Table.{decode-sound, sound-length}
 use Rattle.layout.specs.Code.{portsIn}
 use Rattle.slot_view.specs.CodeView.{waitingAt, waitingIn, crosspointAt, placesIn, Agrees}
 use Rattle.slot_view.specs.CodeViewed.{noKey, listedSet, headSet, crossedSet, bufferedSet, SetsOf, NoSets}
-use Rattle.slot_view.specs.CodeViewed.{BestBuffered, Occupied, Blank}
+use Rattle.slot_view.specs.CodeViewed.{Occupied, Blank}
 use Rattle.slot_view.specs.CodeScan.{Readable}
-use Rattle.slot_view.proofs.Choices.{best-same}
 use Rattle.slot_view.proofs.Own.{table-readable}
 use Rattle.slot_view.proofs.Placed.{decode-ports, decode-count}
 use Rattle.slot_view.proofs.Window.{inTable-e, inTable-input, waitingAt-input}
 use Rattle.slot_loading.specs.Code.{Sorted, FilledBelow, SetsBelow, Crossed, LoadedBelow}
 use Rattle.slot_loading.proofs.Crossing.{crossed-none}
-use Rattle.slot_loading.proofs.Buffers.{best-none}
+use Rattle.slot_loading.proofs.Buffers.{best-none, best-all}
 
 ------------------------------------------------------------------------
 -- no input
@@ -156,15 +155,11 @@ module _ (table : List ℕ) (good : IsTable table) where
             ap₂ (crosspointAt cross) (inTable-input table (placesIn table) readable m) (ap (λ v. v .cell .output) (x .0))
             ∙ w .crossed .filled (e .at) (omega (arith, x .1 .input)) crossed
 
-    bests : BestBuffered table (placesIn table) best
-    bests =
-        record {
-          size = w .bests .size;
-          each =
-              λ o h.
-              best-same table (λ k b. b .cell) (getD best o 0)
-              (λ k b. record { early = omega (arith, b .entry .input); cell = b }) (w .bests .each o h);
-        }
-
     pub loaded-end : Occupied table cross keys best
-    loaded-end = record { square = w .crossed .square; agrees = agrees; keyed = w .crossed .keyed; bests = bests }
+    loaded-end =
+        record {
+          square = w .crossed .square;
+          agrees = agrees;
+          keyed = w .crossed .keyed;
+          bests = best-all table best rivals (w .bests);
+        }

@@ -13,8 +13,8 @@ use Rattle.model.specs.State.{isListed, isCrossed, isBuffered}
 use Rattle.layout.specs.Entry.{countIn}
 use Rattle.layout.specs.Code.{placeByteAt, portsIn}
 use Rattle.layout.specs.Table.{stateOf, IsTable}
-use Rattle.slot_check.specs.Code.{lowPlace, highPlace}
-use Rattle.slot_check.proofs.Walks.{listed-set, crossed-set, buffered-set}
+use Rattle.slot_section.specs.Code.{lowPlace, highPlace}
+use Rattle.slot_section.proofs.Walks.{listed-set, crossed-set, buffered-set}
 use Rattle.slot_view.specs.CodeView.{InTable, placesIn}
 use Rattle.slot_view.specs.CodeViewed.{listedSet, crossedSet, bufferedSet}
 use Rattle.slot_view.proofs.Handed.{kinds}

@@ -192,9 +192,9 @@ fn load_buffered(
     }
 }
 
-// One of them: it is the best of its output, unless the one so far is better. Nothing branches on that, as it would be
-// guessed badly.
-fn choose_cell(table: &[u8], k: usize, best: &mut [u16; PORTS], rivals: &mut [u64; PORTS])
+// One buffered cell: it is the best of its output, unless the one so far is better. Nothing branches on that, as it
+// would be guessed badly.
+pub fn choose_cell(table: &[u8], k: usize, best: &mut [u16; PORTS], rivals: &mut [u64; PORTS])
     requires { ⌜ IsTable (now table) ⌝ }
     requires { ⌜ Buffered (now table) (placesIn (now table)) (entryAt (now table) k .cell .output) k ⌝ }
     requires { ⌜ BestBelow (now table) (placesIn (now table)) k (now best) (now rivals) ⌝ }

@@ -40,7 +40,7 @@ use Rattle.slot_view.proofs.Placed.{decode-ports}
 use Rattle.slot_view.proofs.Placing.{Kept, kept-trans, kept-view}
 use Rattle.slot_view.proofs.Together.{contiguous}
 use Rattle.slot_view.proofs.Window.{inTable-i, inTable-below, waitingAt-at, waitingAt-cell, waitingAt-input, waitingAt-place}
-use Rattle.slot_choice.proofs.Best.{best-of}
+use Rattle.slot_leaders.proofs.Best.{best-of}
 use Rattle.slot_moves.specs.CodeMoved.{afterPhase, Settled, OccupanciesOf}
 use Rattle.slot_moves.specs.CodeMoves.{written, sending, entering}
 use Rattle.slot_moves.specs.CodeMoves.{straightTo, markOf, sendOf, takeOf, sentOf, pulledOf, AllBound}

@@ -22,7 +22,7 @@ use Rattle.model.proofs.PhaseMatching.{pulled-all}
 use Rattle.layout_table.specs.CodeEntries.{nowhere}
 use Rattle.slot_view.specs.CodeChoices.{numberOf, ofInput, toOutput, scheduledOf}
 use Rattle.slot_moves.specs.CodeMoves.{straightOf, sentOf, pulledOf}
-use Rattle.slot_choice.proofs.Best.{numberOf-first, numberOf-none}
+use Rattle.slot_leaders.proofs.Best.{numberOf-first, numberOf-none}
 use Rattle.slot_moves.proofs.Written.{hit, Hit, hit-i, hit-e}
 
 ------------------------------------------------------------------------

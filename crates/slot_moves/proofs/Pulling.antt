@@ -14,7 +14,7 @@ use Rattle.layout.specs.Table.{entryLimit}
 use Rattle.slot_view.specs.CodeView.{InTable, Agrees, Square}
 use Rattle.slot_view.specs.CodeScan.{Readable}
 use Rattle.slot_view.specs.CodeChoices.{empty, best}
-use Rattle.slot_choice.proofs.Best.{Crossed, BestUpTo}
+use Rattle.slot_leaders.proofs.Best.{Crossed, BestUpTo}
 use Rattle.slot_moves.specs.CodeMoves.{written, pulling, takeOf}
 use Rattle.slot_moves.proofs.Rules.{take-none, take-best}
 use Rattle.slot_moves.proofs.Agreeing.{outputAt, crossedAt, agrees-real, agrees-pulling, Pullable}

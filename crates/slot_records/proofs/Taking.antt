@@ -1,34 +1,34 @@
 -- The lent records, taken.
 --     Coming                                     how far the records have come, or that none does behind a fault
 --     coming-begun, -inside, -may, -next, -entered    from the first record to the last
---     taken                                      they have been looked at, and have arrived
+--     taken                                      their fault is found, and they have arrived
 use Prim.Native.Nat.{ℕ, _+_, _-_, _≤_, _<_}
 use native.Mathlib.Omega.{arith}
 use mathlib.Core.Bool.{true}
 use mathlib.Core.List.{List}
-use mathlib.Core.Option.{none}
 use mathlib.Core.Path.{_≡_, refl, sym, ap, _∙_}
 use lib.ListN.{length, getD}
 use Rattle.cell.specs.declared.Arrival.{Arrival}
 use Rattle.cell.specs.declared.Refusal.{Refusal}
 use Rattle.cell.specs.Cell.{accepted, arrivalFits}
-use Rattle.model.specs.Checks.{done}
-use Rattle.model.specs.Crossbar.{arrive}
+use Rattle.model.specs.Checks.{done, refused}
+use Rattle.model.specs.Crossbar.{arrive, run}
+use Rattle.layout.specs.Answer.{answerSize}
 use Rattle.layout.specs.Entry.{clockIn}
-use Rattle.layout.specs.Table.{stateOf, encode}
+use Rattle.layout.specs.Table.{stateOf, encode, IsTable}
 use Rattle.cell.specs.declared.Fault.{Fault}
 use Rattle.cell.specs.declared.Fault.the-variants.{Clear, At}
+use Rattle.slot_faults.specs.CodeFault.{coming, faultIn}
+use Rattle.slot_faults.proofs.Slots.{slot-fault}
+use Rattle.slot_faults.proofs.Stored.{table-ports}
 use Rattle.slot_arrival.specs.CodeArrival.{raised, entered, arrived, Arriving, MayEnter}
-use Rattle.slot_arrival.specs.CodeFault.{coming}
-use Rattle.slot_arrival.proofs.Faults.{clear-not}
 use Rattle.slot_arrival.proofs.OneByOne.{Came, came-none, came-may, came-next, came-all, came-state}
 use Rattle.slot_arrival.proofs.Opening.{sets-kept}
-use Rattle.slot_arrival.proofs.Stored.{table-ports}
 use Rattle.slot_course.specs.Code.{courseOf}
 use Rattle.slot_course.proofs.Course.{run-course}
-use Rattle.slot_records.specs.CodeLooked.{FoundAt}
 use Rattle.slot_records.specs.CodeTaken.{Begun, Entered, SetsIf, Taken}
-use Rattle.slot_records.proofs.Looking.{lent-fault}
+use Rattle.slot_records.specs.Records.{recordsSlot}
+use Rattle.slot_records.proofs.Looking.{lent-slot}
 
 ------------------------------------------------------------------------
 -- one by one
@@ -92,20 +92,23 @@ module _ (table : List ℕ) (f : Fault) (many : ℕ) where
 ------------------------------------------------------------------------
 -- all of them
 
-module _ (table : List ℕ) (room : ℕ) (records : List Arrival) where
-  pub found-arriving : (f : Fault) → FoundAt table room records f → f ≡ Clear → Arriving table records
-  found-arriving Clear h e = h .1
-  found-arriving (At r place) h e = absurd (clear-not (sym e))
-
-  pub taken : (f : Fault) (new : List ℕ) → FoundAt table room records f → Entered table records f new
-      → Taken table room records f new
+module _ (table : List ℕ) (t : IsTable table) (records : List Arrival) (f : Fault) (new : List ℕ)
+    (found : f ≡ faultIn (stateOf table) records) (e : Entered table records f new) where
+  pub taken : (room : ℕ) → answerSize ≤ room → Taken table room records f new
   unfolding arrived
-  taken Clear new (space, g) (t, e) = (
-    space,
-    (
-      t,
-      lent-fault table room (record { sound = g .sound; space = space; early = g .early }) records none (g .clear)
-          ∙ ap done (run-course (stateOf table) (coming (stateOf table) records) ∙ ap courseOf (sym e)),
-    ),
-  )
-  taken (At r place) new h e = (e, h)
+  taken room space = go f (sym found) e
+    where
+      outcome : recordsSlot table room records
+          ≡ elim (faultIn (stateOf table) records) [
+            | Clear ↦ done (run (stateOf table) (coming (stateOf table) records))
+            | At r place ↦ refused r place
+          ]
+      outcome = lent-slot table room t space records ∙ slot-fault (stateOf table) records
+
+      go : (g : Fault) → faultIn (stateOf table) records ≡ g → Entered table records g new
+          → Taken table room records g new
+      go Clear q (is, w) = (
+        space,
+        (is, rw q at outcome ∙ ap done (run-course (stateOf table) (coming (stateOf table) records) ∙ ap courseOf (sym w))),
+      )
+      go (At r place) q w = (w, rw q at outcome)

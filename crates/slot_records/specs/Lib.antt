@@ -1,3 +1,2 @@
-pub mod CodeLooked
 pub mod CodeTaken
 pub mod Records

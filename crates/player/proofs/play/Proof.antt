@@ -16,11 +16,11 @@ use Rattle.player.proofs.play.Statement.{statement}
 use Rattle.player.proofs.play.Tie as tie
 
 abbrev Inv-loop : tie.InvT-loop
-Inv-loop table₀ window₀ out₀ stage₀ line₀ filled₀ last₀ rounds₀ table window out stage line filled last rounds =
-    (filled ≤ 65536) × (length window ≡ 65536) × (length out ≡ 65536) × Stands stage line table
+Inv-loop engine table₀ window₀ out₀ stage₀ line₀ filled₀ last₀ rounds₀ table window out stage line filled last rounds =
+    (filled ≤ 65536) × (length window ≡ 65536) × (length out ≡ 65536) × Stands engine stage line table
 
 abbrev μ-loop : tie.MeasureT-loop
-μ-loop table₀ window₀ out₀ stage₀ line₀ filled₀ last₀ rounds₀ table window out stage line filled last rounds = rounds
+μ-loop engine table₀ window₀ out₀ stage₀ line₀ filled₀ last₀ rounds₀ table window out stage line filled last rounds = rounds
 
 large-buffer-requires : tie.Need-large-buffer-requires Inv-loop μ-loop
 large-buffer-requires c κs = search needs
@@ -107,7 +107,7 @@ status-of-requires c κs =
     let read = turn .before .before .before .before in
     let fill = read .before .before in
     let at = fill .before .before .before in
-    finished _ _ _ _ _ _ _ _ _ _ _ _ (turn .take-turns .ensures) (c .if2 .taken) (omega (arith, at .loop .inv .2))
+    finished _ _ _ _ _ _ _ _ _ _ _ _ _ (turn .take-turns .ensures) (c .if2 .taken) (omega (arith, at .loop .inv .2))
     (there fill (read .if1 .left))
 
 returns-2 : tie.Need-returns-2 Inv-loop μ-loop
@@ -119,19 +119,19 @@ filling c = let turn = c .before .before .before .before in let read = turn .bef
 
 taken : (c : tie.Else2 Inv-loop μ-loop)
     → c .before .before .before .before .take-turns .result .used ≤ filling c .fill .result .filled
-taken c = taken-there _ _ _ _ _ _ _ _ _ _ _ (c .before .before .before .before .take-turns .ensures .left)
+taken c = taken-there _ _ _ _ _ _ _ _ _ _ _ _ (c .before .before .before .before .take-turns .ensures .left)
 
 array-share-prefix-out : tie.Need-array-share-prefix-out Inv-loop μ-loop
 array-share-prefix-out c =
     let turn = c .before .before .before .before in
-    written-fits _ _ _ _ _ _ _ _ _ _ (turn .take-turns .ensures .left) (turn .take-turns .kept .1 .1 .1 .1 .1 .0)
+    written-fits _ _ _ _ _ _ _ _ _ _ _ (turn .take-turns .ensures .left) (turn .take-turns .kept .1 .1 .1 .1 .1 .1 .0)
 
 slice-aggregate-write-all : tie.Need-slice-aggregate-write-all Inv-loop μ-loop
 slice-aggregate-write-all c =
     let turn = c .before .before .before .before .before in
     sym
     (length-take-le _ _
-    (written-fits _ _ _ _ _ _ _ _ _ _ (turn .take-turns .ensures .left) (turn .take-turns .kept .1 .1 .1 .1 .1 .0)))
+    (written-fits _ _ _ _ _ _ _ _ _ _ _ (turn .take-turns .ensures .left) (turn .take-turns .kept .1 .1 .1 .1 .1 .1 .0)))
 
 write-all-requires : tie.Need-write-all-requires Inv-loop μ-loop
 write-all-requires c κs = search needs
@@ -165,7 +165,7 @@ loop-again c =
     let fill = filling turned in (
       omega (arith, few fill),
       c .before .before .close-up .kept .0 ∙ whole fill,
-      turn .take-turns .kept .1 .1 .1 .1 .1 .0 ∙ fill .before .before .before .loop .inv .2,
+      turn .take-turns .kept .1 .1 .1 .1 .1 .1 .0 ∙ fill .before .before .before .loop .inv .2,
       turn .take-turns .ensures .left .stands,
     )
 

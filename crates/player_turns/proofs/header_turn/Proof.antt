@@ -41,14 +41,14 @@ same-length-2 : tie.Need-same-length-2
 same-length-2 c = search needs
 
 returns : tie.Need-returns
-returns c =
+returns c engine =
     let put = c .before .before in
     let made = put .before .before .before .before in
     let told = made .before .before .before in
     let read = told .before .before in
     let start = read .before .before .before .before in
-    header-open (start .args .last) (start .args .text .now) (start .args .table .now) (start .args .out .now) (start .pre .0)
-    (read .read-header .ensures) (told .ports .given .1) (made .start .last .1 .1 .0) (put .put-header .last .0)
+    header-open engine (start .args .last) (start .args .text .now) (start .args .table .now) (start .args .out .now)
+    (start .pre .0) (read .read-header .ensures) (told .ports .given .1) (made .start .last .1 .1 .0) (put .put-header .last .0)
     (put .put-header .result) (made .start .ensures .1) (put .put-header .ensures)
 
 same-length-3 : tie.Need-same-length-3
@@ -56,24 +56,24 @@ same-length-3 c = search needs
 
 returns-2 : tie.Need-returns-2
 unfolding refusalText
-returns-2 c =
+returns-2 c engine =
     let put = c .before .before .before in
     let told = put .before .before .before in
     let read = told .before .before in
     let start = read .before .before .before .before in
     let fault = told .refusal .given .0 .1 .0 in
-    header-refused (start .args .last) (start .args .text .now) (start .args .table .now) (start .args .out .now)
+    header-refused engine (start .args .last) (start .args .text .now) (start .args .table .now) (start .args .out .now)
     (start .pre .0) (read .read-header .ensures) (told .refusal .given .1) (put .put-refusal .last .0) (c .over .result .stage)
     (c .over .result .line) (c .over .result .used) (put .put-refusal .result) (c .over .result .written)
     (wrote-refusal (told .refusal .given .0 .0) fault (omega arith) (start .pre .1) (omega arith)
     (put .put-refusal .ensures)) (c .over .ensures)
 
 returns-3 : tie.Need-returns-3
-returns-3 c =
+returns-3 c engine =
     let read = c .before .before in
     let start = read .before .before .before .before in
-    header-short (start .args .last) (start .args .text .now) (start .args .table .now) (start .args .out .now) (start .pre .0)
-    (read .read-header .ensures) (c .enum-told .given .1)
+    header-short engine (start .args .last) (start .args .text .now) (start .args .table .now) (start .args .out .now)
+    (start .pre .0) (read .read-header .ensures) (c .enum-told .given .1)
 
 pub header-turn-spec : {M : Type 1} → statement M
 header-turn-spec =

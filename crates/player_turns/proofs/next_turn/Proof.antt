@@ -9,6 +9,7 @@ use Rattle.trace.specs.declared.Key.the-variants.{End}
 use Rattle.trace.proofs.Tests.{fits32-i}
 use Rattle.trace.specs.Lines.{refusalText}
 use Rattle.layout.proofs.Table.{decode-length}
+use Rattle.player_turns.proofs.Engines.{table-is}
 use Rattle.player_turns.proofs.Lines.{line-le, wrote-put, wrote-refusal}
 use Rattle.player_turns.proofs.Turns.{block-size, numbers-size, next-more, next-end, next-bad, next-stopped, next-ran}
 use Rattle.player_turns.proofs.next_turn.Statement.{statement}
@@ -30,15 +31,15 @@ sizes c =
     let read = block .before .before in
     let start = read .before .before .before .before .before in
     let a = start .args in
-    let size = block-size (a .last) (a .line) (a .text .now) (a .table .now) (a .out .now) (start .pre .0) (start .pre .1 .0)
-    (read .clock-of .result) (read .clock-of .ensures) (block .read-block .ensures .0) (c .count .given .1) in
-    let length = numbers-size (a .last) (a .line) (a .text .now) (a .table .now) (a .out .now) (start .pre .0) (start .pre .1 .0)
-    (read .clock-of .result) (read .clock-of .ensures) (block .read-block .ensures .0) (c .count .given .1)
+    let size = block-size (a .engine) (a .last) (a .line) (a .text .now) (a .table .now) (a .out .now)
+    (start .pre .0) (start .pre .1 .0) (read .clock-of .result) (read .clock-of .ensures) (block .read-block .ensures .0) (c .count .given .1) in
+    let length = numbers-size (a .engine) (a .last) (a .line) (a .text .now) (a .table .now) (a .out .now)
+    (start .pre .0) (start .pre .1 .0) (read .clock-of .result) (read .clock-of .ensures) (block .read-block .ensures .0) (c .count .given .1)
     _ _ (block .read-block .ensures .1) refl in
     (size .0, size .1, length)
 
 clock-of-requires : tie.Need-clock-of-requires
-clock-of-requires c κs = decode-length _ _ (c .before .before .before .before .pre .0)
+clock-of-requires c κs = decode-length _ _ (table-is _ _ (c .before .before .before .before .pre .0))
 
 read-block-requires : tie.Need-read-block-requires
 read-block-requires c κs = search needs
@@ -60,11 +61,11 @@ play-slot-requires c κs =
 enum-known-written : tie.Need-enum-known-written
 enum-known-written c = search needs
 
-cast-t29 : tie.Need-cast-t29
-cast-t29 c = search needs
+cast-t30 : tie.Need-cast-t30
+cast-t30 c = search needs
 
-add-t30 : tie.Need-add-t30
-add-t30 c =
+add-t31 : tie.Need-add-t31
+add-t31 c =
     let answer = playing (c .before .before .before) .before .before .before .before .before in
     omega (arith, line-room (answer .before .before .before .before), sizes answer .1)
 
@@ -114,7 +115,7 @@ returns c =
     let block = answer .before .before in
     let read = block .before .before in
     let start = read .before .before .before .before .before in
-    next-ran _ _ _ _ _ (start .pre .0) (start .pre .1 .0) _ (read .clock-of .ensures) (block .read-block .ensures .0) (answer .count .given .1) _ _
+    next-ran _ _ _ _ _ _ (start .pre .0) (start .pre .1 .0) _ (read .clock-of .ensures) (block .read-block .ensures .0) (answer .count .given .1) _ _
     (block .read-block .ensures .1) refl (played .play-slot .ensures) (c .before .written .given .1)
 
 same-length-3 : tie.Need-same-length-3
@@ -130,7 +131,7 @@ returns-2 c =
     let block = answer .before .before in
     let read = block .before .before in
     let start = read .before .before .before .before .before in
-    next-stopped _ _ _ _ _ (start .pre .0) (start .pre .1 .0) _ (read .clock-of .ensures) (block .read-block .ensures .0) (answer .count .given .1) _ _
+    next-stopped _ _ _ _ _ _ (start .pre .0) (start .pre .1 .0) _ (read .clock-of .ensures) (block .read-block .ensures .0) (answer .count .given .1) _ _
     (block .read-block .ensures .1) refl (played .play-slot .ensures) (c .before .before .written2 .given .1) _ _ _ _ (c .over .ensures)
 
 same-length-5 : tie.Need-same-length-5
@@ -146,7 +147,7 @@ returns-3 c =
     let read = block .before .before in
     let start = read .before .before .before .before .before in
     let size = line-le End (read .clock-of .result) (fits32-i _ (omega (arith, read .clock-of .ok))) in
-    next-end _ _ _ _ _ (start .pre .0) (start .pre .1 .0) _ (read .clock-of .ensures) (block .read-block .ensures .0) _ _ _ _ _ _
+    next-end _ _ _ _ _ _ (start .pre .0) (start .pre .1 .0) _ (read .clock-of .ensures) (block .read-block .ensures .0) _ _ _ _ _ _
     (c .over2 .ensures) (put .before .before .enum-told .given .1)
     (wrote-put (omega (arith, size, start .pre .1 .1)) (omega (arith, start .good)) (put .put-line .ensures))
 
@@ -165,7 +166,7 @@ returns-4 c =
     let read = block .before .before in
     let start = read .before .before .before .before .before in
     let a = start .args in
-    next-bad _ _ _ _ _ (start .pre .0) (start .pre .1 .0) _ (read .clock-of .ensures) (block .read-block .ensures .0) _ _ _ _ _ _
+    next-bad _ _ _ _ _ _ (start .pre .0) (start .pre .1 .0) _ (read .clock-of .ensures) (block .read-block .ensures .0) _ _ _ _ _ _
     (c .over3 .ensures) (told .k .given .1)
     (wrote-refusal BadLine (a .line + told .k .given .0 .0) (omega (arith, line-room read, put .before)) (start .pre .1 .1)
     (omega (arith, start .good)) (put .put-refusal .ensures))
@@ -178,7 +179,7 @@ returns-5 c =
     let block = c .before .before in
     let read = block .before .before in
     let start = read .before .before .before .before .before in
-    next-more _ _ _ _ _ (start .pre .0) (start .pre .1 .0) _ (read .clock-of .ensures) (block .read-block .ensures .0) (c .enum-told2 .given .1)
+    next-more _ _ _ _ _ _ (start .pre .0) (start .pre .1 .0) _ (read .clock-of .ensures) (block .read-block .ensures .0) (c .enum-told2 .given .1)
 
 pub next-turn-spec : {M : Type 1} → statement M
 next-turn-spec =
@@ -190,8 +191,8 @@ next-turn-spec =
     slice-aggregate-play-slot
     play-slot-requires
     enum-known-written
-    cast-t29
-    add-t30
+    cast-t30
+    add-t31
     enum-known-written-2
     over-requires
     enum-told

@@ -1,9 +1,7 @@
 -- The slot on the block's records, and what it comes to as text.
 use native.Mathlib.Omega.{arith}
 use borrow.Author.Needs.{needs}
-use lib.Dec.{lit≤}
 use lib.ListN.{take}
-use Rattle.layout.specs.Answer.{answerSize}
 use Rattle.trace.specs.Flat.{arrivalsFrom}
 use Rattle.trace.specs.Lines.{refusalText}
 use Rattle.trace_writer.proofs.Flat.{fit32-i, arrivalsFrom-fits}
@@ -15,11 +13,11 @@ use Rattle.player_turns.proofs.play_slot.Tie as tie
 records-of-requires : tie.Need-records-of-requires
 records-of-requires c κs = search needs
 
-slice-aggregate-sound-slot : tie.Need-slice-aggregate-sound-slot
-slice-aggregate-sound-slot c = search needs
+slice-aggregate-slot-on : tie.Need-slice-aggregate-slot-on
+slice-aggregate-slot-on c = search needs
 
-sound-slot-requires : tie.Need-sound-slot-requires
-sound-slot-requires c κs = search needs
+slot-on-requires : tie.Need-slot-on-requires
+slot-on-requires c κs = search needs
 
 enum-known-refusal : tie.Need-enum-known-refusal
 enum-known-refusal c = search needs
@@ -57,9 +55,9 @@ returns c =
     let a = start .args in
     let wrote = wrote-refusal (told .refusal .given .0 .0) (line .line-of .result) (omega (arith, line)) (start .pre .1 .1 .1)
     (omega (arith, start .good)) (put .put-refusal .ensures) in
-    slot-stopped (a .table .now) (start .pre .0) answerSize (lit≤ tt) (take (a .count) (made .records-of .result))
+    slot-stopped (a .engine) (a .table .now) (start .pre .0) (take (a .count) (made .records-of .result))
     (arrivalsFrom (a .count) (a .numbers .now)) (made .records-of .ensures) (a .clock) (a .line) (a .out .now)
-    (slot .sound-slot .result) (slot .sound-slot .ensures .0) (slot .sound-slot .last .0) (slot .sound-slot .ensures .1 .0)
+    (slot .slot-on .result) (slot .slot-on .last .1 .0) (slot .slot-on .last .1 .1 .1 .1 .0) (slot .slot-on .ensures)
     (told .refusal .given .1) (put .put-refusal .last .0) (put .put-refusal .result) (line .line-of .result)
     (line .line-of .ensures) wrote
 
@@ -78,19 +76,19 @@ returns-2 c =
     let start = made .before .before .before .before in
     let a = start .args in
     let fits = fit32-i (a .numbers .now) (made .before .before .before .shared-slice-known .given) in
-    slot-ran (a .table .now) (start .pre .0) answerSize (lit≤ tt) (take (a .count) (made .records-of .result))
+    slot-ran (a .engine) (a .table .now) (start .pre .0) (take (a .count) (made .records-of .result))
     (arrivalsFrom (a .count) (a .numbers .now)) (made .records-of .ensures) (a .clock) (a .line) (a .out .now)
-    (slot .sound-slot .result) (slot .sound-slot .ensures .0) (slot .sound-slot .last .0) (slot .sound-slot .ensures .1 .0)
-    (arrivalsFrom-fits (a .count) (a .numbers .now) fits) (told .enum-told .given .1) _ (slot .sound-slot .last .1 .1 .1 .0)
-    (put .put-slot .last .0) (put .put-slot .result) (slot .sound-slot .ensures .1 .1) (put .put-slot .ensures)
+    (slot .slot-on .result) (slot .slot-on .last .1 .0) (slot .slot-on .last .1 .1 .1 .1 .0) (slot .slot-on .ensures)
+    (arrivalsFrom-fits (a .count) (a .numbers .now) fits) (told .enum-told .given .1) (put .put-slot .last .0)
+    (put .put-slot .result) (put .put-slot .ensures)
 
 pub play-slot-spec : {M : Type 1} → statement M
 play-slot-spec =
     tie.close
     (tie.spec
     records-of-requires
-    slice-aggregate-sound-slot
-    sound-slot-requires
+    slice-aggregate-slot-on
+    slot-on-requires
     enum-known-refusal
     line-of-requires
     put-refusal-requires

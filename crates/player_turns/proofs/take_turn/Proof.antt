@@ -4,7 +4,7 @@ use borrow.Author.Needs.{needs}
 use Rattle.layout.specs.Entry.{clockIn}
 use Rattle.layout.specs.Table.{stateOf}
 use Rattle.player_text.specs.Turn.{turn}
-use Rattle.player_turns.specs.Turns.{standing}
+use Rattle.player_turns.specs.Turns.{machineOf, standing}
 use Rattle.player_turns.proofs.Turns.{at-end, at-refusal, rests}
 use Rattle.player_turns.proofs.take_turn.Statement.{statement}
 use Rattle.player_turns.proofs.take_turn.Tie as tie
@@ -51,9 +51,10 @@ returns c =
     let a = told .before .before .before .before .before .args in
     let r = taken .header-turn .result in
     subst
-    (λ s. Turned (turn (a .last) (standing s (a .line) (a .table .now)) (a .text .now)) (a .text .now) (a .table .now) (a .out .now)
+    (λ s. Turned (a .engine) (turn (machineOf (a .engine)) (a .last) (standing s (a .line) (a .table .now)) (a .text .now))
+    (a .text .now) (a .table .now) (a .out .now)
     (taken .header-turn .last .1 .1 .0) (taken .header-turn .last .1 .1 .1 .0) (r .stage) (r .line) (r .used) (r .written))
-    (sym (told .enum-told .given .1)) (taken .header-turn .ensures)
+    (sym (told .enum-told .given .1)) (taken .header-turn .ensures (a .engine))
 
 same-length-3 : tie.Need-same-length-3
 same-length-3 c = search needs
@@ -69,21 +70,22 @@ returns-2 c =
     let a = told .before .before .before .before .before .args in
     let r = taken .next-turn .result in
     subst
-    (λ s. Turned (turn (a .last) (standing s (a .line) (a .table .now)) (a .text .now)) (a .text .now) (a .table .now) (a .out .now)
-    (taken .next-turn .last .1 .1 .1 .0) (taken .next-turn .last .1 .1 .1 .1 .0) (r .stage) (r .line) (r .used) (r .written))
+    (λ s. Turned (a .engine) (turn (machineOf (a .engine)) (a .last) (standing s (a .line) (a .table .now)) (a .text .now))
+    (a .text .now) (a .table .now) (a .out .now)
+    (taken .next-turn .last .1 .1 .1 .1 .0) (taken .next-turn .last .1 .1 .1 .1 .1 .0) (r .stage) (r .line) (r .used) (r .written))
     (sym (told .enum-told2 .given .1)) (taken .next-turn .ensures)
 
 returns-3 : tie.Need-returns-3
 returns-3 c =
     let told = c .before in
     let start = told .before .before .before .before .before in
-    rests at-end _ _ _ _ _ _ (start .pre .0 .size) (told .enum-told3 .given .1) _ _ _ _ (c .over .ensures)
+    rests _ at-end _ _ _ _ _ _ (start .pre .0 .size) (told .enum-told3 .given .1) _ _ _ _ (c .over .ensures)
 
 returns-4 : tie.Need-returns-4
 returns-4 c =
     let told = c .before in
     let start = told .before .before .before .before .before in
-    rests at-refusal _ _ _ _ _ _ (start .pre .0 .size) (told .enum-told4 .given .1) _ _ _ _ (c .over2 .ensures)
+    rests _ at-refusal _ _ _ _ _ _ (start .pre .0 .size) (told .enum-told4 .given .1) _ _ _ _ (c .over2 .ensures)
 
 pub take-turn-spec : {M : Type 1} → statement M
 take-turn-spec =

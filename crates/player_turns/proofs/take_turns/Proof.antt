@@ -10,11 +10,11 @@ use Rattle.player_turns.proofs.Taking.{Going, behind-place, going-none,
 use Rattle.player_turns.proofs.Taking.{going-stops, all-within, all-room, all-length, going-on, going-ends}
 
 abbrev Inv-loop : tie.InvT-loop
-Inv-loop line text last table₀ out₀ stage₀ line₀ used₀ written₀ table out stage line' used written =
-    Going last (standing stage₀ line table₀) text table₀ out₀ table out stage line' used written
+Inv-loop engine line text last table₀ out₀ stage₀ line₀ used₀ written₀ table out stage line' used written =
+    Going engine last (standing stage₀ line table₀) text table₀ out₀ table out stage line' used written
 
 abbrev μ-loop : tie.MeasureT-loop
-μ-loop line text last table₀ out₀ stage₀ line₀ used₀ written₀ table out stage line' used written = length out₀ - written
+μ-loop engine line text last table₀ out₀ stage₀ line₀ used₀ written₀ table out stage line' used written = length out₀ - written
 
 -- the turn that was taken, from where both buffers are back, and the loop's test before it
 abbrev turn : tie.After-slice-known4 Inv-loop μ-loop → tie.After-take-turn Inv-loop μ-loop
@@ -24,10 +24,10 @@ abbrev at-loop : tie.After-take-turn Inv-loop μ-loop → tie.At-loop Inv-loop �
 at-loop c = c .before .before .before .before .before
 
 loop-holds : tie.Need-loop-holds Inv-loop μ-loop
-loop-holds c = going-none _ _ _ _ _ _ _ refl (c .before .before .before .pre)
+loop-holds c = going-none _ _ _ _ _ _ _ _ refl (c .before .before .before .pre)
 
 sub-loop : tie.Need-sub-loop Inv-loop μ-loop
-sub-loop c = going-room _ _ _ _ _ (c .loop .inv)
+sub-loop c = going-room _ _ _ _ _ _ (c .loop .inv)
 
 sub-take-turn : tie.Need-sub-take-turn Inv-loop μ-loop
 sub-take-turn c = c .before .loop .inv .within
@@ -39,10 +39,10 @@ part-take-turn-end : tie.Need-part-take-turn-end Inv-loop μ-loop
 part-take-turn-end c = search needs
 
 sub-take-turn-2 : tie.Need-sub-take-turn-2 Inv-loop μ-loop
-sub-take-turn-2 c = going-room _ _ _ _ _ (c .before .before .before .loop .inv)
+sub-take-turn-2 c = going-room _ _ _ _ _ _ (c .before .before .before .loop .inv)
 
 part-take-turn-start-2 : tie.Need-part-take-turn-start-2 Inv-loop μ-loop
-part-take-turn-start-2 c = going-room _ _ _ _ _ (c .before .before .before .loop .inv)
+part-take-turn-start-2 c = going-room _ _ _ _ _ _ (c .before .before .before .loop .inv)
 
 part-take-turn-end-2 : tie.Need-part-take-turn-end-2 Inv-loop μ-loop
 part-take-turn-end-2 c = search needs
@@ -60,33 +60,33 @@ add-used : tie.Need-add-used Inv-loop μ-loop
 add-used c =
     let took = turn (c .before) in
     let start = at-loop took .before .before .before .before in
-    omega (arith, all-within _ _ _ _ _ (at-loop took .loop .inv) (took .take-turn .ensures) (took .take-turn .kept .1 .1 .1 .1 .1 .0))
+    omega (arith, all-within _ _ _ _ _ _ (at-loop took .loop .inv) (took .take-turn .ensures) (took .take-turn .kept .1 .1 .1 .1 .1 .1 .0))
 
 add-written : tie.Need-add-written Inv-loop μ-loop
 add-written c =
     let took = turn (c .before .before) in
     let start = at-loop took .before .before .before .before in
-    omega (arith, all-room _ _ _ _ _ (at-loop took .loop .inv) (took .take-turn .ensures) (took .take-turn .kept .1 .1 .1 .1 .1 .0))
+    omega (arith, all-room _ _ _ _ _ _ (at-loop took .loop .inv) (took .take-turn .ensures) (took .take-turn .kept .1 .1 .1 .1 .1 .1 .0))
 
 loop-less : tie.Need-loop-less Inv-loop μ-loop
 loop-less c =
     let took = turn (c .before .before .before .before) in
-    omega (arith, all-room _ _ _ _ _ (at-loop took .loop .inv) (took .take-turn .ensures) (took .take-turn .kept .1 .1 .1 .1 .1 .0), c .if1 .left)
+    omega (arith, all-room _ _ _ _ _ _ (at-loop took .loop .inv) (took .take-turn .ensures) (took .take-turn .kept .1 .1 .1 .1 .1 .1 .0), c .if1 .left)
 
 loop-again : tie.Need-loop-again Inv-loop μ-loop
 loop-again c =
     let took = turn (c .before .before .before .before) in
-    going-on _ _ _ _ _ (at-loop took .loop .inv) (took .take-turn .ensures) (took .take-turn .kept .1 .1 .1 .1 .1 .0)
+    going-on _ _ _ _ _ _ (at-loop took .loop .inv) (took .take-turn .ensures) (took .take-turn .kept .1 .1 .1 .1 .1 .1 .0)
     (λ e. omega (arith, e, c .if1 .left))
 
 same-length : tie.Need-same-length Inv-loop μ-loop
 same-length c = c .before .loop .inv .stands .size ∙ sym (c .before .before .before .before .before .pre .size)
 
 same-length-2 : tie.Need-same-length-2 Inv-loop μ-loop
-same-length-2 c = going-length _ _ _ _ _ (c .before .loop .inv)
+same-length-2 c = going-length _ _ _ _ _ _ (c .before .loop .inv)
 
 returns : tie.Need-returns Inv-loop μ-loop
-returns c = going-stops _ _ _ _ _ _ _ _ _ _ _ (c .before .loop .inv) (omega (arith, c .loop-test .left))
+returns c = going-stops _ _ _ _ _ _ _ _ _ _ _ _ (c .before .loop .inv) (omega (arith, c .loop-test .left))
 
 same-length-3 : tie.Need-same-length-3 Inv-loop μ-loop
 same-length-3 c =
@@ -96,12 +96,12 @@ same-length-3 c =
 same-length-4 : tie.Need-same-length-4 Inv-loop μ-loop
 same-length-4 c =
     let took = turn (c .before .before .before .before) in
-    all-length _ _ _ _ _ (at-loop took .loop .inv) (took .take-turn .ensures) (took .take-turn .kept .1 .1 .1 .1 .1 .0)
+    all-length _ _ _ _ _ _ (at-loop took .loop .inv) (took .take-turn .ensures) (took .take-turn .kept .1 .1 .1 .1 .1 .1 .0)
 
 returns-2 : tie.Need-returns-2 Inv-loop μ-loop
 returns-2 c =
     let took = turn (c .before .before .before .before) in
-    going-ends _ _ _ _ _ (at-loop took .loop .inv) (took .take-turn .ensures) (took .take-turn .kept .1 .1 .1 .1 .1 .0)
+    going-ends _ _ _ _ _ _ (at-loop took .loop .inv) (took .take-turn .ensures) (took .take-turn .kept .1 .1 .1 .1 .1 .1 .0)
     (omega (arith, c .if1 .taken))
 
 pub take-turns-spec : {M : Type 1} → statement M

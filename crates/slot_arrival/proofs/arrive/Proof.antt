@@ -6,9 +6,9 @@ use Rattle.cell.specs.Cell.{accepted}
 use Rattle.layout.specs.Entry.{clockIn}
 use Rattle.layout.specs.Table.{encode, stateOf}
 use Rattle.slot_arrival.specs.CodeArrival.{entered as enteredBy, enterPlace}
-use Rattle.slot_arrival.specs.CodeFault.{sectionIn}
+use Rattle.slot_faults.specs.CodeFault.{sectionIn}
 use Rattle.slot_arrival.proofs.Opening.{place-room, input-low, sets-room, sets-arrived}
-use Rattle.slot_arrival.proofs.Stored.{table-length}
+use Rattle.slot_faults.proofs.Stored.{table-length}
 use borrow.Author.Needs.{needs}
 use Rattle.slot_arrival.proofs.arrive.Statement.{statement}
 use Rattle.slot_arrival.proofs.arrive.Tie as tie

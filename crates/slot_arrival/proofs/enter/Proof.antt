@@ -2,7 +2,7 @@
 use mathlib.Core.Path.{_∙_}
 use native.Mathlib.Omega.{arith}
 use borrow.Author.Needs.{needs}
-use Rattle.slot_arrival.proofs.Stored.{table-length, ports-below}
+use Rattle.slot_faults.proofs.Stored.{table-length, ports-below}
 use Rattle.slot_arrival.proofs.Arriving.{new-written, place-within, entered-bytes}
 use Rattle.slot_arrival.proofs.enter.Statement.{statement}
 use Rattle.slot_arrival.proofs.enter.Tie as tie

@@ -9,7 +9,7 @@ use Rattle.layout.specs.Code.{recordStart, placeByteAt}
 use Rattle.layout.proofs.Records.{entryAt-output, entryAt-flow, entryAt-place}
 use Rattle.layout_table.specs.CodeEntries.{flowWord}
 use Rattle.layout_table.proofs.Entries.{head-word}
-use Rattle.slot_arrival.proofs.Faults.{own-flow}
+use Rattle.slot_faults.proofs.Faults.{own-flow}
 use Rattle.slot_arrival.proofs.Arriving.{in-list-word}
 use Rattle.slot_arrival.proofs.in_list.Statement.{statement}
 use Rattle.slot_arrival.proofs.in_list.Tie as tie

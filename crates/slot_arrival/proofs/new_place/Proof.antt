@@ -7,7 +7,7 @@ use Rattle.model.specs.Crossbar.{inListOf}
 use Rattle.layout.specs.Entry.{entryAt, countIn}
 use Rattle.slot_view.proofs.Placed.{decode-record, inTable-number}
 use Rattle.slot_arrival.proofs.Arriving.{place-none, place-found, above-more}
-use Rattle.slot_arrival.proofs.Stored.{table-length, ports-below, count-below}
+use Rattle.slot_faults.proofs.Stored.{table-length, ports-below, count-below}
 use Rattle.slot_arrival.proofs.new_place.Statement.{statement}
 use Rattle.slot_arrival.proofs.new_place.Tie as tie
 

@@ -1,7 +1,7 @@
 -- The clock that is read is written again, one higher.
 use native.Mathlib.Omega.{arith}
 use borrow.Author.Needs.{needs}
-use Rattle.slot_arrival.proofs.Stored.{table-length}
+use Rattle.slot_faults.proofs.Stored.{table-length}
 use Rattle.slot_arrival.proofs.OneByOne.{clock-raised}
 use Rattle.slot_arrival.proofs.raise_clock.Statement.{statement}
 use Rattle.slot_arrival.proofs.raise_clock.Tie as tie

@@ -67,10 +67,10 @@ use Rattle.slot_call.proofs.Calling.{FewC, to-few, goes-few, few-said}
 use Rattle.slot_call.proofs.Held.{Records, arrayTy, recordsVal, records-typed, records-owned, records-row, records-full}
 use Rattle.slot_call.proofs.Walking.{word, full, bare, of-local, inits, freed, rising, pairs}
 use Rattle.slot_records.proofs.Looking.{no-record, first-seventeen}
-use Rattle.slot_call.proofs.few as few
-use Rattle.slot_call.proofs.few.Symbol as few-def
-use Rattle.slot_call.proofs.few.Symbol.{name as #slot_call·few}
-use Rattle.slot_call.proofs.few.Met as few-thm
+use Rattle.layout_arrivals.proofs.few as few
+use Rattle.layout_arrivals.proofs.few.Symbol as few-def
+use Rattle.layout_arrivals.proofs.few.Symbol.{name as #layout_arrivals·few}
+use Rattle.layout_arrivals.proofs.few.Met as few-thm
 use Rattle.slot_call.proofs.hold.Key.{name as #slot_call·hold}
 use Rattle.slot_call.proofs.hold as f
 use Rattle.slot_call.proofs.hold.Statement as stated
@@ -301,7 +301,7 @@ module _ {M : Type 1} (𝓤 : URA M) (H : Heap 𝓤) (A : Atoms 𝓤) (W : Given
         (full recordsTy l₁ vy (bare arrayTy l₀ (‵ (flft κ q) ∷ Lent ∷ []))))))))))))))
 
     -- the array of no records, and how many are copied
-    counts : Triple 𝓤 (C #slot_call·few) (FewC 𝓤 H A at-mem run) → Sq W Entered (runs C Λ En mir.t-1 (atRet En Post))
+    counts : Triple 𝓤 (C #layout_arrivals·few) (FewC 𝓤 H A at-mem run) → Sq W Entered (runs C Λ En mir.t-1 (atRet En Post))
     counts known-few =
         inits ! (agg ! (and-then ! (lit ! tt) (and-then ! (lit ! tt) (and-then ! (lit ! tt) (and-then ! (lit ! tt) (and-then ! (lit ! tt) (no-more !)))))))
         22 refl (LL.lawful R.the-type R′.the-laws 𝓤 H A W .typed no-record _ none-is .0) $
@@ -320,7 +320,7 @@ module _ {M : Type 1} (𝓤 : URA M) (H : Heap 𝓤) (A : Atoms 𝓤) (W : Given
         -- [the array; _13; …]
         keep ! (rising 1 20 ++ 0 ∷ rising 21 9) $ loops-at (record { n = 0; held = nones; within = zero-le; long = refl; same = refl })))))
 
-  module _ (𝓣 : Tables 𝓤 H) (known-few : Triple 𝓤 (𝓣 .C #slot_call·few) (FewC 𝓤 H A at-mem run)) where
+  module _ (𝓣 : Tables 𝓤 H) (known-few : Triple 𝓤 (𝓣 .C #layout_arrivals·few) (FewC 𝓤 H A at-mem run)) where
     walk : ent 𝓤 (onEntry 𝓤 H A f.signature (κ, tt) (q, tt) (y, tt) (vy ∷ [], tt)) (WpFn 𝓤 H (𝓣 .C) (𝓣 .Λ) code.function (vy ∷ []) Post)
     walk =
         qed W ((‵ (flft κ q) ⊛ ‵ ftrue) ∷ ‵ (owns (ShrSlice (named 0) κ R.the-row ∷ []) (y, tt) (vy ∷ [], tt)) ∷ []) ∵
@@ -336,7 +336,7 @@ module _ {M : Type 1} (𝓤 : URA M) (H : Heap 𝓤) (A : Atoms 𝓤) (W : Given
   goes : AllGo 𝓤 H A W 1 (f.signature .params) (f.ended .kept) stayed
   goes = (goes-dropped 𝓤 H A W 1 (shrSliceOf (0 ∷ []) tt (plain (λ _. R.the-row))) yes (λ κs x f. refl), tt)
 
-  hold-meets : (𝓣 : Tables 𝓤 H) → Triple 𝓤 (𝓣 .C #slot_call·few) (FewC 𝓤 H A at-mem run)
+  hold-meets : (𝓣 : Tables 𝓤 H) → Triple 𝓤 (𝓣 .C #layout_arrivals·few) (FewC 𝓤 H A at-mem run)
       → Meets 𝓤 H A f.signature (WpFn 𝓤 H (𝓣 .C) (𝓣 .Λ) code.function) (f.spec 𝓤 H A at-mem run)
   hold-meets 𝓣 known-few =
       walk-meets 𝓤 H A f.ended stayed W goes (f.clauses 𝓤 H A at-mem run) (WpFn 𝓤 H (𝓣 .C) (𝓣 .Λ) code.function)
@@ -352,4 +352,4 @@ hold-spec 𝓤 H 𝓜 𝓖 𝓡 =
     entered 𝓤 H (tripleOf 𝓤 H (𝓖 .A) f.signature (f.spec 𝓤 H (𝓖 .A) (𝓜 .mem) (𝓡 .run)))
     (tables 𝓤 H 𝓜 𝓡 code.env .C) (tables 𝓤 H 𝓜 𝓡 code.env .Λ) #slot_call·hold code.function (code.unfolded 𝓤 H 𝓜 𝓡)
     (hold-meets 𝓤 H (𝓖 .A) (givenOf 𝓤 H 𝓜 𝓖) (𝓜 .mem) (𝓡 .run) (tablesOf 𝓤 H 𝓜 (tables 𝓤 H 𝓜 𝓡 code.env))
-    (cited 𝓤 H (FewC 𝓤 H (𝓖 .A) (𝓜 .mem) (𝓡 .run)) 𝓜 𝓡 code.env #slot_call·few few-def.routine code.calls-slot-call·few (few-thm.met 𝓤 H 𝓜 𝓖 𝓡)))
+    (cited 𝓤 H (FewC 𝓤 H (𝓖 .A) (𝓜 .mem) (𝓡 .run)) 𝓜 𝓡 code.env #layout_arrivals·few few-def.routine code.calls-layout-arrivals·few (few-thm.met 𝓤 H 𝓜 𝓖 𝓡)))

@@ -75,10 +75,10 @@ use Rattle.slot_call.proofs.hold as holding
 use Rattle.slot_call.proofs.hold.Symbol as holding-def
 use Rattle.slot_call.proofs.hold.Symbol.{name as #slot_call·hold}
 use Rattle.slot_call.proofs.hold.Met as holding-thm
-use Rattle.slot_call.proofs.few as few
-use Rattle.slot_call.proofs.few.Symbol as few-def
-use Rattle.slot_call.proofs.few.Symbol.{name as #slot_call·few}
-use Rattle.slot_call.proofs.few.Met as few-thm
+use Rattle.layout_arrivals.proofs.few as few
+use Rattle.layout_arrivals.proofs.few.Symbol as few-def
+use Rattle.layout_arrivals.proofs.few.Symbol.{name as #layout_arrivals·few}
+use Rattle.layout_arrivals.proofs.few.Met as few-thm
 use Rattle.slot_call.proofs.run_held as course
 use Rattle.slot_call.proofs.run_held.Symbol as course-def
 use Rattle.slot_call.proofs.run_held.Symbol.{name as #slot_call·run-held}
@@ -122,7 +122,7 @@ module _ {M : Type 1} (𝓤 : URA M) (H : Heap 𝓤) (A : Atoms 𝓤) (at-mem : 
   -- and that the functions meet them
   record Known (C : Calls 𝓤 H) : Type 1 where
     hold-meets : Triple 𝓤 (C #slot_call·hold) HoldC
-    few-meets : Triple 𝓤 (C #slot_call·few) (FewC 𝓤 H A at-mem run)
+    few-meets : Triple 𝓤 (C #layout_arrivals·few) (FewC 𝓤 H A at-mem run)
     course-meets : Triple 𝓤 (C #slot_call·run-held) CourseC
     count-meets : Triple 𝓤 (C #layout_tally·count) CountC
 
@@ -420,7 +420,7 @@ slot-spec 𝓤 H 𝓜 𝓖 𝓡 =
     (record {
       hold-meets = cited 𝓤 H (HoldC 𝓤 H (𝓖 .A) (𝓜 .mem) (𝓡 .run)) 𝓜 𝓡 code.env #slot_call·hold holding-def.routine code.calls-slot-call·hold
           (holding-thm.met 𝓤 H 𝓜 𝓖 𝓡);
-      few-meets = cited 𝓤 H (FewC 𝓤 H (𝓖 .A) (𝓜 .mem) (𝓡 .run)) 𝓜 𝓡 code.env #slot_call·few few-def.routine code.calls-slot-call·few (few-thm.met 𝓤 H 𝓜 𝓖 𝓡);
+      few-meets = cited 𝓤 H (FewC 𝓤 H (𝓖 .A) (𝓜 .mem) (𝓡 .run)) 𝓜 𝓡 code.env #layout_arrivals·few few-def.routine code.calls-layout-arrivals·few (few-thm.met 𝓤 H 𝓜 𝓖 𝓡);
       course-meets = cited 𝓤 H (CourseC 𝓤 H (𝓖 .A) (𝓜 .mem) (𝓡 .run)) 𝓜 𝓡 code.env #slot_call·run-held course-def.routine code.calls-slot-call·run-held
           (course-thm.met 𝓤 H 𝓜 𝓖 𝓡);
       count-meets = cited 𝓤 H (CountC 𝓤 H (𝓖 .A) (𝓜 .mem) (𝓡 .run)) 𝓜 𝓡 code.env #layout_tally·count count-def.routine code.calls-layout-tally·count

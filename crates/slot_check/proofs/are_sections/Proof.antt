@@ -6,10 +6,11 @@ use borrow.Author.Tests.{not-true, not-false}
 use borrow.Author.Needs.{needs}
 use Rattle.laws.specs.Lists.{all?, between}
 use Rattle.laws.proofs.Tests.{clash}
-use Rattle.slot_check.specs.Code.{isSection, MarksBelow}
+use Rattle.slot_section.specs.Code.{MarksBelow}
+use Rattle.slot_check.specs.Code.{isSection}
 use Rattle.slot_check.proofs.Handed.{Handing, handing-start, handing-next, handing-end}
-use Rattle.slot_check.proofs.Marks.{marks-clear, below-more}
-use Rattle.slot_check.proofs.Walks.{each-stop, each-next, each-end}
+use Rattle.slot_section.proofs.Marks.{marks-clear, below-more}
+use Rattle.slot_section.proofs.Walks.{each-stop, each-next, each-end}
 use Rattle.slot_check.proofs.are_sections.Statement.{statement}
 use Rattle.slot_check.proofs.are_sections.Tie as tie
 

@@ -9,8 +9,8 @@ use Rattle.laws.proofs.Tests.{clash}
 use Rattle.model.specs.Sound.{together, otherSlot, otherCrosspoint}
 use Rattle.layout.specs.Code.{entriesBetween}
 use Rattle.layout_table.proofs.Places.{known-bytes}
-use Rattle.slot_check.specs.Code.{isEntry, entriesIn, otherOutput}
-use Rattle.slot_check.proofs.Marks.{below-more}
+use Rattle.slot_section.specs.Code.{isEntry, entriesIn, otherOutput}
+use Rattle.slot_section.proofs.Marks.{below-more}
 use Rattle.slot_check.proofs.Sections.{Found, found, asked-if, unsound-entry, unsound-slots, unsound-crosspoints, sound-flows}
 use Rattle.slot_check.proofs.are_sound.Statement.{statement}
 use Rattle.slot_check.proofs.are_sound.Tie as tie

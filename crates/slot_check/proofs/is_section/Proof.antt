@@ -5,7 +5,7 @@ use native.Mathlib.Omega.{arith}
 use borrow.Author.Tests.{not-true, not-false}
 use borrow.Author.Needs.{needs}
 use Rattle.laws.proofs.Tests.{clash}
-use Rattle.slot_check.proofs.Marks.{below-more}
+use Rattle.slot_section.proofs.Marks.{below-more}
 use Rattle.slot_check.proofs.Parts.{roomOf-le}
 use Rattle.slot_check.proofs.Sections.{section-full, section-used, section-sound}
 use Rattle.slot_check.proofs.is_section.Statement.{statement}

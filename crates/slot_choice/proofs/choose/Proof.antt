@@ -2,7 +2,8 @@
 use mathlib.Core.Path.{refl}
 use borrow.Author.Needs.{needs}
 use Rattle.layout_table.proofs.Places.{known-bytes}
-use Rattle.slot_choice.proofs.Keys.{leading-bests, leading-known}
+use Rattle.slot_leaders.proofs.Keys.{leading-bests}
+use Rattle.slot_choice.proofs.Known.{leading-known}
 use Rattle.slot_choice.proofs.Choice.{chosen-none, chosen-some}
 use Rattle.slot_choice.proofs.choose.Statement.{statement}
 use Rattle.slot_choice.proofs.choose.Tie as tie

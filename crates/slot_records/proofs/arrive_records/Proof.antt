@@ -14,10 +14,10 @@ use Rattle.cell.specs.declared.Fault.{Fault}
 use Rattle.cell.specs.declared.Fault.the-variants.{Clear}
 use Rattle.slot_arrival.specs.CodeArrival.{entered, Arriving, MayEnter}
 use Rattle.slot_records.specs.CodeTaken.{Begun, SetsIf}
-use Rattle.slot_records.proofs.Looking.{no-record, held-length}
+use Rattle.slot_faults.proofs.Records.{no-record, held-length}
 use Rattle.slot_records.proofs.Taking.{Coming, coming-begun, coming-inside, coming-may, coming-next, coming-entered}
 use Rattle.slot_records.proofs.Taking.{sets-begun}
-use Rattle.slot_records.proofs.Typed.{held-fits}
+use Rattle.slot_arrival.proofs.Typed.{held-fits}
 use Rattle.slot_records.proofs.arrive_records.Statement.{statement}
 use Rattle.slot_records.proofs.arrive_records.Tie as tie
 

@@ -9,7 +9,7 @@ use Rattle.laws.specs.Lists.{all?, between}
 use Rattle.model.specs.Cues.{cueLimit}
 use Rattle.layout.specs.Cues.{isStore}
 use Rattle.layout_table.proofs.Places.{known-bytes}
-use Rattle.slot_check.proofs.Walks.{each-stop, each-next, each-end}
+use Rattle.slot_section.proofs.Walks.{each-stop, each-next, each-end}
 use Rattle.cue_store.specs.Code.{isPlace}
 use Rattle.cue_store.proofs.Accepted.{other-size, other-header, places-left}
 use Rattle.cue_store.proofs.check.is_store.Statement.{statement}

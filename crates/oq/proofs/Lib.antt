@@ -1,0 +1,5 @@
+pub mod Calls
+pub mod Checked
+pub mod HostCalls
+pub mod Parts
+pub mod Slots

@@ -1,0 +1,4 @@
+pub mod Best
+pub mod Columns
+pub mod Keys
+pub mod Leaders

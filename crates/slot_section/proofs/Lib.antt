@@ -1,0 +1,6 @@
+pub mod Collecting
+pub mod Crossed
+pub mod Fields
+pub mod Grouping
+pub mod Marks
+pub mod Walks
