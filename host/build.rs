@@ -1,7 +1,9 @@
-// Links target/staticlib/libcrossbar.a, which `rt staticlib crossbar` writes.
+// Links target/staticlib/libcrossbar.a and liboq.a, which `rt staticlib crossbar` and `rt staticlib oq` write.
 fn main() {
     let here = std::env::var("CARGO_MANIFEST_DIR").unwrap();
     println!("cargo:rustc-link-search=native={here}/../target/staticlib");
-    println!("cargo:rustc-link-lib=static=crossbar");
-    println!("cargo:rerun-if-changed={here}/../target/staticlib/libcrossbar.a");
+    for library in ["crossbar", "oq"] {
+        println!("cargo:rustc-link-lib=static={library}");
+        println!("cargo:rerun-if-changed={here}/../target/staticlib/lib{library}.a");
+    }
 }

@@ -20,7 +20,7 @@ extern "C" {
 
 /* The version of this header and of the library that it describes, and the number of the layout, with which every table
    and every cue store begins. */
-#define CROSSBAR_VERSION "2.2.0"
+#define CROSSBAR_VERSION "2.3.0"
 #define CROSSBAR_LAYOUT 1u
 
 /* Limits. */

@@ -1,5 +1,6 @@
-//! Safe calls of the crossbar: a switch, what a slot answers, the tally, cues to come back to, and refusals. The promises of
-//! the calls are in include/crossbar.h, the layouts in docs/LAYOUT.md. It links target/staticlib/libcrossbar.a.
+//! Safe calls of the crossbar: a switch, what a slot answers, the tally, cues to come back to, and refusals; and of the
+//! output-queued switch beside it. The promises of the calls are in include/crossbar.h and include/oq.h, the layouts in
+//! docs/LAYOUT.md. It links target/staticlib/libcrossbar.a and liboq.a.
 
 pub const PORTS: usize = 16;
 pub const TABLE_BYTES: usize = 16416;
@@ -10,6 +11,8 @@ pub const TALLY_BYTES: usize = 32;
 pub const CUES: usize = 4;
 pub const NAME_BYTES: usize = 8;
 pub const STORE_BYTES: usize = 65712;
+pub const OQ_TABLE_BYTES: usize = 16420;
+pub const OQ_ANSWER_BYTES: usize = 448;
 
 mod raw {
     extern "C" {
@@ -44,6 +47,18 @@ mod raw {
             name: *const u8,
             name_bytes: usize,
         ) -> u32;
+        pub fn oq_start(ports: u32, first: u32, table: *mut u8, table_bytes: usize) -> u32;
+        pub fn oq_check(table: *const u8, table_bytes: usize) -> u32;
+        pub fn oq_slot(
+            table: *mut u8,
+            table_bytes: usize,
+            arrivals: *const u8,
+            arrivals_bytes: usize,
+            answer: *mut u8,
+            answer_bytes: usize,
+            tally: *mut u8,
+            tally_bytes: usize,
+        ) -> u64;
     }
 }
 
@@ -92,6 +107,29 @@ pub fn cue_drop_bytes(store: &mut [u8], name: &[u8]) -> u32 {
 pub fn cue_return_bytes(table: &mut [u8], store: &[u8], name: &[u8]) -> u32 {
     unsafe {
         raw::cue_return(table.as_mut_ptr(), table.len(), store.as_ptr(), store.len(), name.as_ptr(), name.len())
+    }
+}
+
+pub fn oq_start_bytes(ports: u32, first: u32, table: &mut [u8]) -> u32 {
+    unsafe { raw::oq_start(ports, first, table.as_mut_ptr(), table.len()) }
+}
+
+pub fn oq_check_bytes(table: &[u8]) -> u32 {
+    unsafe { raw::oq_check(table.as_ptr(), table.len()) }
+}
+
+pub fn oq_slot_bytes(table: &mut [u8], arrivals: &[u8], answer: &mut [u8], tally: &mut [u8]) -> u64 {
+    unsafe {
+        raw::oq_slot(
+            table.as_mut_ptr(),
+            table.len(),
+            arrivals.as_ptr(),
+            arrivals.len(),
+            answer.as_mut_ptr(),
+            answer.len(),
+            tally.as_mut_ptr(),
+            tally.len(),
+        )
     }
 }
 
@@ -155,6 +193,16 @@ pub struct Refused {
     pub place: u32,
 }
 
+impl Refused {
+    /// What a slot says: 0 is done.
+    fn of(result: u64) -> Result<(), Refused> {
+        match result {
+            0 => Ok(()),
+            r => Err(Refused { refusal: Refusal::from_number((r % 256) as u32), place: (r / 256) as u32 }),
+        }
+    }
+}
+
 #[derive(Clone, Copy, Debug, PartialEq, Eq)]
 pub struct Arrival {
     pub input: u32,
@@ -201,6 +249,13 @@ pub struct Tally {
     pub cells_out: u64,
 }
 
+impl Tally {
+    fn read(bytes: &[u8; TALLY_BYTES]) -> Tally {
+        let count = |at: usize| u64::from_le_bytes(bytes[at..at + 8].try_into().unwrap());
+        Tally { slots_run: count(0), slots_refused: count(8), cells_in: count(16), cells_out: count(24) }
+    }
+}
+
 /// A switch: its table, and the tally of its calls.
 pub struct Switch {
     table: Vec<u8>,
@@ -234,18 +289,14 @@ impl Switch {
     }
 
     pub fn tally(&self) -> Tally {
-        let count = |at: usize| u64::from_le_bytes(self.tally[at..at + 8].try_into().unwrap());
-        Tally { slots_run: count(0), slots_refused: count(8), cells_in: count(16), cells_out: count(24) }
+        Tally::read(&self.tally)
     }
 
     /// Runs one slot. A refused one changes only the tally.
     pub fn slot(&mut self, arrivals: &[Arrival]) -> Result<Answer, Refused> {
-        let lent: Vec<u8> = arrivals.iter().flat_map(|a| a.bytes()).collect();
         let mut answer = [0; ANSWER_BYTES];
-        match slot_bytes(&mut self.table, &lent, &mut answer, &mut self.tally) {
-            0 => Ok(read_answer(&answer, self.ports())),
-            r => Err(Refused { refusal: Refusal::from_number((r % 256) as u32), place: (r / 256) as u32 }),
-        }
+        Refused::of(slot_bytes(&mut self.table, &lent(arrivals), &mut answer, &mut self.tally))?;
+        Ok(read_answer(&answer, self.ports()))
     }
 }
 
@@ -295,19 +346,73 @@ impl Cues {
     }
 }
 
+/// An output-queued switch, a model of the crossbar's outputs: its table, and the tally of its calls.
+pub struct Oq {
+    table: Vec<u8>,
+    tally: [u8; TALLY_BYTES],
+}
+
+impl Oq {
+    /// A fresh switch of 1 to 16 ports.
+    pub fn start(ports: u32, first: u32) -> Result<Oq, Refusal> {
+        let mut table = vec![0; OQ_TABLE_BYTES];
+        Refusal::of(oq_start_bytes(ports, first, &mut table))?;
+        Ok(Oq { table, tally: [0; TALLY_BYTES] })
+    }
+
+    /// The switch of a table that was kept, if it is sound. The crossbar's tables are not.
+    pub fn from_table(table: Vec<u8>) -> Result<Oq, Refusal> {
+        Refusal::of(oq_check_bytes(&table))?;
+        Ok(Oq { table, tally: [0; TALLY_BYTES] })
+    }
+
+    pub fn table(&self) -> &[u8] {
+        &self.table
+    }
+
+    pub fn ports(&self) -> usize {
+        word(&self.table, 8) as usize
+    }
+
+    pub fn clock(&self) -> u32 {
+        word(&self.table, 12)
+    }
+
+    pub fn tally(&self) -> Tally {
+        Tally::read(&self.tally)
+    }
+
+    /// Runs one slot: for each output the cell that it sends. A refused one changes only the tally.
+    pub fn slot(&mut self, arrivals: &[Arrival]) -> Result<Vec<Option<Cell>>, Refused> {
+        let mut answer = [0; OQ_ANSWER_BYTES];
+        Refused::of(oq_slot_bytes(&mut self.table, &lent(arrivals), &mut answer, &mut self.tally))?;
+        Ok(read_departures(&answer, self.ports()))
+    }
+}
+
+/// The bytes of arrivals.
+fn lent(arrivals: &[Arrival]) -> Vec<u8> {
+    arrivals.iter().flat_map(|a| a.bytes()).collect()
+}
+
 fn word(bytes: &[u8], at: usize) -> u32 {
     u32::from_le_bytes(bytes[at..at + 4].try_into().unwrap())
 }
 
-/// The answer of a switch of so many ports, from its bytes.
-pub fn read_answer(bytes: &[u8], ports: usize) -> Answer {
+/// For each of so many outputs the cell that it sends, from the first bytes of an answer.
+pub fn read_departures(bytes: &[u8], ports: usize) -> Vec<Option<Cell>> {
     let departure = |output: usize| {
         let at = |field: usize| word(bytes, DEPARTURE_BYTES * output + 4 * field);
         (at(0) != 0).then(|| Cell { input: at(1), output: at(2), flow: at(3), rank: at(4), tag: at(5), slot: at(6) })
     };
+    (0..ports).map(departure).collect()
+}
+
+/// The answer of a switch of so many ports, from its bytes.
+pub fn read_answer(bytes: &[u8], ports: usize) -> Answer {
     let occupancies = |first: usize| (0..ports).map(|output| word(bytes, first + 4 * output)).collect();
     Answer {
-        departures: (0..ports).map(departure).collect(),
+        departures: read_departures(bytes, ports),
         proposals: [word(bytes, 448), word(bytes, 452)],
         occupancies: [occupancies(456), occupancies(520)],
     }

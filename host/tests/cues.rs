@@ -9,9 +9,9 @@ mod reference;
 mod store;
 mod traffic;
 
-use crossbar_host::{cue_check_bytes, cue_drop_bytes, cue_return_bytes, cue_set_bytes, slot_bytes};
+use crossbar_host::{cue_check_bytes, cue_drop_bytes, cue_return_bytes, cue_set_bytes, oq_start_bytes, slot_bytes};
 use crossbar_host::{Arrival, Cues, Refusal, Switch, Tally};
-use crossbar_host::{ANSWER_BYTES, NAME_BYTES, STORE_BYTES, TABLE_BYTES, TALLY_BYTES};
+use crossbar_host::{ANSWER_BYTES, NAME_BYTES, OQ_TABLE_BYTES, STORE_BYTES, TABLE_BYTES, TALLY_BYTES};
 use random::{setting, Random};
 use reference::cues::{is_name, Call, Rehearsal};
 use reference::{raised, record_bytes, Crossbar, Pifo, Record, CLOCK_END};
@@ -263,13 +263,22 @@ fn names_of_every_byte_and_length() {
     }
 }
 
-/// Each call with every kind of switch, store and name: 2 for either of the first two, then 11, then 12 or 13.
+/// Each call with every kind of switch, store and name: 2 for either of the first two, then 11, then 12 or 13. A table of the
+/// output-queued switch is none.
 #[test]
 fn order_of_refusals() {
     let sound = fresh_table(4, 40);
-    let mut broken = sound.clone();
+    let (mut broken, mut oq) = (sound.clone(), vec![0; OQ_TABLE_BYTES]);
     broken[12] = 1;
-    let tables = [(&sound[..], true), (&broken[..], false), (&sound[..TABLE_BYTES - 1], false), (&[][..], false)];
+    assert_eq!(oq_start_bytes(4, 40, &mut oq), 0);
+    let tables = [
+        (&sound[..], true),
+        (&broken[..], false),
+        (&sound[..TABLE_BYTES - 1], false),
+        (&[][..], false),
+        (&oq[..], false),
+        (&oq[..TABLE_BYTES], false),
+    ];
     let four = store_of(&["one", "two", "three", "four"]);
     let mut damaged = four.clone();
     damaged[place(2)] = b'1';

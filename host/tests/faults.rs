@@ -1,5 +1,5 @@
 //! A rule that is wrong in one point is noticed: on random slots from a fresh switch, and among them calls of cues, the wrong
-//! switch parts from the right one.
+//! switch parts from the right one. So does a wrong PIFO switch, or a wrong table of it, from the right output-queued switch.
 //!
 //! SLOTS=n and SEED=n in the environment run the right rules longer, or other lists.
 
@@ -9,6 +9,7 @@ mod traffic;
 
 use random::{setting, Random};
 use reference::cues::{Call, Rehearsal};
+use reference::oq::OutputQueued;
 use reference::{Cell, Crossbar, Fault, Pifo, Place, Record};
 use traffic::Traffic;
 
@@ -17,7 +18,7 @@ use traffic::Traffic;
 const MOST: u64 = 2_000_000;
 
 /// What demand 3 finds out: departures or refusals other than the PIFO switch's, or a limit passed.
-const AGAINST_DEMAND_3: [Fault; 14] = [
+const AGAINST_DEMAND_3: [Fault; 17] = [
     Fault::ArrivalsAtTheEnd,
     Fault::OneUrgentCellPerPairOfPorts,
     Fault::UrgentWithoutTheOutputsCrosspoints,
@@ -32,6 +33,9 @@ const AGAINST_DEMAND_3: [Fault; 14] = [
     Fault::RoundBackwards,
     Fault::RoundFromSlotWithoutMod,
     Fault::RoundOfTheClock,
+    Fault::PifoSendsTheOldest,
+    Fault::PifoKeepsADepartedCell,
+    Fault::PifoSendsBeforeTheArrivalsJoin,
 ];
 
 /// What demand 3 does not see. No other departure comes of them (of another order of proposals, none was ever found), so they
@@ -41,6 +45,17 @@ const AGAINST_THE_ANSWER: [Fault; 4] = [
     Fault::OccupancyBeforeCellsAreSent,
     Fault::OccupancyAfterCellsAreTaken,
     Fault::NoOccupancyWhereACellCameStraight,
+];
+
+/// What answers or table of the output-queued switch find out, the first five of the PIFO switch that it is held to.
+const AGAINST_THE_OUTPUT_QUEUED: [Fault; 7] = [
+    Fault::PifoSendsTheOldest,
+    Fault::PifoKeepsADepartedCell,
+    Fault::PifoSendsBeforeTheArrivalsJoin,
+    Fault::PifoBySlotBeforeRank,
+    Fault::PifoTieToSmallerInput,
+    Fault::NewCellStandsFirst,
+    Fault::LastCellFillsTheGap,
 ];
 
 /// Wrong rules of cues that demand 3 finds out.
@@ -156,6 +171,31 @@ fn wrong_counts_are_noticed() {
             let mut wrong = right.clone().with_fault(fault);
             move |records: &[Record]| right.slot(records) == wrong.slot(records)
         });
+        println!("{fault:?}: {calls:?}");
+        assert!(calls.is_some(), "{fault:?} goes unnoticed");
+    }
+}
+
+/// How many calls it takes until the output-queued switch and the PIFO switch part, in an answer or in the table.
+fn against_the_output_queued(fault: Option<Fault>, most: u64) -> Option<u64> {
+    noticed(most, |ports, first| {
+        let (mut oq, mut pifo) = (OutputQueued::fresh(ports, first), Pifo::fresh(ports, first));
+        if let Some(f) = fault {
+            (oq, pifo) = (oq.with_fault(f), pifo.with_fault(f));
+        }
+        move |records: &[Record]| oq.slot(records) == pifo.slot(records) && oq.table() == pifo.table()
+    })
+}
+
+#[test]
+fn the_right_output_queued_switch_passes() {
+    assert_eq!(against_the_output_queued(None, setting("SLOTS", 100_000)), None);
+}
+
+#[test]
+fn wrong_output_queued_switches_are_noticed() {
+    for fault in AGAINST_THE_OUTPUT_QUEUED {
+        let calls = against_the_output_queued(Some(fault), MOST);
         println!("{fault:?}: {calls:?}");
         assert!(calls.is_some(), "{fault:?} goes unnoticed");
     }

@@ -1,29 +1,34 @@
-//! Traces, whole and damaged, through the program `crossbar-player`: all that it writes is compared with the reference
-//! player's, and its exit status with how that ends.
+//! Traces, whole and damaged, through the programs `crossbar-player` and `oq-player`: all that each of them writes is
+//! compared with the reference player's, and its exit status with how that ends.
 //!
-//! PLAYER in the environment is the program's full path; TEXTS=n and SEED=n play more texts or others.
+//! PLAYER and OQ_PLAYER in the environment are the programs' full paths; TEXTS=n and SEED=n play more texts or others.
 
 mod random;
 mod reference;
 
 use random::{setting, Random};
 use reference::player::play;
-use reference::{Crossbar, Pifo, Record, CLOCK_END};
+use reference::{Crossbar, Pifo, Record, Waiting, CLOCK_END};
+use std::fs::File;
 use std::io::{Read, Write};
 use std::os::fd::OwnedFd;
 use std::os::unix::net::UnixStream;
-use std::path::Path;
-use std::process::Command;
+use std::path::{Path, PathBuf};
+use std::process::{Child, Command};
 use std::thread::sleep;
 use std::time::Duration;
 
-/// No text here takes the program more than milliseconds.
+/// No text here takes a program more than milliseconds, the long one a second.
 const TIME_LIMIT: Duration = Duration::from_secs(20);
 
-fn program() -> String {
-    let path = std::env::var("PLAYER").expect("PLAYER must be set to the full path of the program `crossbar-player`");
-    assert!(Path::new(&path).is_file(), "PLAYER is {path}, and there is no such file");
-    path
+/// The paths of both programs.
+fn programs() -> [String; 2] {
+    [("PLAYER", "crossbar-player"), ("OQ_PLAYER", "oq-player")].map(|(variable, program)| {
+        let path = std::env::var(variable)
+            .unwrap_or_else(|_| panic!("{variable} must be set to the full path of the program `{program}`"));
+        assert!(Path::new(&path).is_file(), "{variable} is {path}, and there is no such file");
+        path
+    })
 }
 
 /// 0 where the trace is played to its end, and 1 where it is refused.
@@ -36,42 +41,49 @@ fn status_after(want: &[u8]) -> i32 {
     }
 }
 
-/// Feeds a text to the program, so many bytes at a time. A fault is that it does not write just what is wanted and end with
-/// its status.
-fn fault(program: &str, text: &[u8], piece: usize, want: &[u8]) -> Option<String> {
-    // Sockets, since a read from a pipe has no time limit. One holds any text of this test, so feeding does not wait.
-    let (feeding, stdin) = UnixStream::pair().unwrap();
-    let (reading, stdout) = UnixStream::pair().unwrap();
-    let mut child = Command::new(program)
-        .env_clear() // cargo's library paths would slow down every start
-        .stdin(OwnedFd::from(stdin))
-        .stdout(OwnedFd::from(stdout))
-        .spawn()
-        .expect("the program starts");
-    feed(feeding, text, piece);
-    let got = read(reading, want.len() + 1);
-    if got.as_deref().ok() != Some(want) {
-        child.kill().unwrap();
+/// A program that plays a text.
+struct Playing {
+    child: Child,
+    stdout: UnixStream,
+}
+
+impl Playing {
+    /// Its output is a socket, since a read from a pipe has no time limit.
+    fn start(program: &str, stdin: impl Into<OwnedFd>) -> Playing {
+        let (reading, stdout) = UnixStream::pair().unwrap();
+        let child = Command::new(program)
+            .env_clear() // cargo's library paths would slow down every start
+            .stdin(stdin.into())
+            .stdout(OwnedFd::from(stdout))
+            .spawn()
+            .expect("the program starts");
+        Playing { child, stdout: reading }
     }
-    let status = child.wait().unwrap();
-    match got {
-        Err(_) => Some(format!("does not end in {TIME_LIMIT:?}")),
-        Ok(got) if got != want => Some(difference(&got, want)),
-        Ok(_) if status.code() != Some(status_after(want)) => Some(format!("ends with {status}")),
-        Ok(_) => None,
+
+    /// A fault is that it does not write just what is wanted and end with its status.
+    fn fault(mut self, want: &[u8]) -> Option<String> {
+        let got = read(self.stdout, want.len() + 1);
+        if got.as_deref().ok() != Some(want) {
+            self.child.kill().unwrap();
+        }
+        let status = self.child.wait().unwrap();
+        match got {
+            Err(_) => Some(format!("does not end in {TIME_LIMIT:?}")),
+            Ok(got) if got != want => Some(difference(&got, want)),
+            Ok(_) if status.code() != Some(status_after(want)) => Some(format!("ends with {status}")),
+            Ok(_) => None,
+        }
     }
 }
 
-/// A write fails where the program ends before it has read all. The pauses let it read piece by piece.
-fn feed(mut stdin: UnixStream, text: &[u8], piece: usize) {
-    stdin.set_write_timeout(Some(TIME_LIMIT)).unwrap();
+/// Feeds a text to programs, so many bytes at a time. A write fails where a program ends before it has read all. The pauses
+/// let it read piece by piece.
+fn feed(mut stdins: Vec<UnixStream>, text: &[u8], piece: usize) {
     for (k, part) in text.chunks(piece).enumerate() {
         if k > 0 {
             sleep(Duration::from_micros(300));
         }
-        if stdin.write_all(part).is_err() {
-            return;
-        }
+        stdins.retain_mut(|stdin| stdin.write_all(part).is_ok());
     }
 }
 
@@ -89,15 +101,44 @@ fn difference(got: &[u8], want: &[u8]) -> String {
     format!("writes, around byte {same},\n{}\ninstead of\n{}", part(got), part(want))
 }
 
-/// Plays a text on the program and on the reference switches, which all must write the same, and gives that.
-fn compare(program: &str, text: &[u8], piece: usize) -> Vec<u8> {
+/// What both reference switches write for a text.
+fn wanted(text: &[u8]) -> Vec<u8> {
     let want = play::<Crossbar>(text);
     assert!(play::<Pifo>(text) == want, "the PIFO switch parts for {}", text.escape_ascii());
-    if let Some(fault) = fault(program, text, piece, &want) {
-        let saved = Path::new(env!("CARGO_TARGET_TMPDIR")).join("failed.trace");
-        std::fs::write(&saved, text).unwrap();
-        panic!("the program {fault}\nThe text is in {}", saved.display());
+    want
+}
+
+/// Where a text is kept: for a program to read, or after a failure.
+fn kept(name: &str, text: &[u8]) -> PathBuf {
+    let path = Path::new(env!("CARGO_TARGET_TMPDIR")).join(name);
+    std::fs::write(&path, text).unwrap();
+    path
+}
+
+/// Ends the test unless each program, already at it, writes what is wanted.
+fn finish(programs: &[String; 2], playing: [Playing; 2], text: &[u8], want: &[u8]) {
+    let faults = playing.map(|p| p.fault(want));
+    for (program, fault) in programs.iter().zip(faults) {
+        if let Some(fault) = fault {
+            panic!("{program} {fault}\nThe text is in {}", kept("failed.trace", text).display());
+        }
     }
+}
+
+/// Plays a text on both programs, beside each other, and on the reference switches, which all must write the same, and
+/// gives that.
+fn compare(programs: &[String; 2], text: &[u8], piece: usize) -> Vec<u8> {
+    let mut stdins = Vec::new();
+    let playing = programs.each_ref().map(|program| {
+        // A socket holds any text of this test but the long one, so that feeding does not wait.
+        let (feeding, stdin) = UnixStream::pair().unwrap();
+        feeding.set_write_timeout(Some(TIME_LIMIT)).unwrap();
+        stdins.push(feeding);
+        Playing::start(program, stdin)
+    });
+    let want = wanted(text);
+    feed(stdins, text, piece);
+    finish(programs, playing, text, &want);
     want
 }
 
@@ -158,9 +199,9 @@ fn text_of(joined: &str) -> Vec<u8> {
     joined.replace(' ', "\n").into_bytes()
 }
 
-/// What the program writes for a text, by hand.
+/// What the programs write for a text, by hand.
 fn show(text: &str, want: &str) {
-    let got = compare(&program(), &text_of(text), usize::MAX);
+    let got = compare(&programs(), &text_of(text), usize::MAX);
     assert_eq!(got.escape_ascii().to_string(), text_of(want).escape_ascii().to_string(), "for {text}");
 }
 
@@ -190,14 +231,14 @@ fn a_sixty_fifth_cell_is_refused() {
 
 #[test]
 fn the_show_with_any_one_fault() {
-    let program = program();
+    let programs = programs();
     let show = text_of(SHOW);
     for at in 0..show.len() {
-        compare(&program, &show[..at], usize::MAX);
+        compare(&programs, &show[..at], usize::MAX);
         for byte in *b"\n0i= " {
             let mut text = show.clone();
             text[at] = byte;
-            compare(&program, &text, usize::MAX);
+            compare(&programs, &text, usize::MAX);
         }
     }
 }
@@ -275,23 +316,30 @@ fn trace(r: &mut Random) -> Vec<u8> {
 }
 
 fn text_of_slots(r: &mut Random, mut traffic: Traffic, slots: u64) -> Vec<u8> {
-    let mut text = String::new();
-    let mut put = |key: &str, number: u64| text.extend([key, "=", &number.to_string(), "\n"]);
+    let mut text = Vec::new();
     let ports = if r.one_in(100) { r.pick(&[0, 17, CLOCK_END as u64]) } else { traffic.ports };
     let near_end = CLOCK_END as u64 - r.below(slots + 2);
     let first = r.pick(&[0, 0, 1, 98, 4_000_000_000, near_end]);
-    put("ports", ports);
-    put("first", first);
+    put(&mut text, "ports", ports);
+    put(&mut text, "first", first);
     for slot in first..first + slots {
-        put("slot", slot);
-        for record in traffic.records(r) {
-            for (key, field) in ["in", "out", "flow", "rank", "tag"].iter().zip(record) {
-                put(key, field as u64);
-            }
+        put_block(&mut text, slot, &traffic.records(r));
+    }
+    put(&mut text, "end", first + slots);
+    text
+}
+
+fn put(text: &mut Vec<u8>, key: &str, number: u64) {
+    text.extend(format!("{key}={number}\n").bytes());
+}
+
+fn put_block(text: &mut Vec<u8>, slot: u64, records: &[Record]) {
+    put(text, "slot", slot);
+    for record in records {
+        for (key, &field) in ["in", "out", "flow", "rank", "tag"].iter().zip(record) {
+            put(text, key, field as u64);
         }
     }
-    put("end", first + slots);
-    text.into_bytes()
 }
 
 /// A place below n, which is not 0: often near the start or the end.
@@ -377,7 +425,7 @@ fn ending(out: &[u8]) -> usize {
 }
 
 /// Plays random texts, whole and damaged, and counts their bytes and how they end.
-fn play_random(program: &str, texts: u64, mut r: Random) -> (usize, [u64; 10]) {
+fn play_random(programs: &[String; 2], texts: u64, mut r: Random) -> (usize, [u64; 10]) {
     let (mut bytes, mut endings) = (0, [0; 10]);
     for _ in 0..texts {
         let mut text = trace(&mut r);
@@ -385,24 +433,57 @@ fn play_random(program: &str, texts: u64, mut r: Random) -> (usize, [u64; 10]) {
             damage(&mut r, &mut text);
         }
         let pieces = if r.one_in(100) { 1 + r.below(10) as usize } else { 1 };
-        endings[ending(&compare(program, &text, text.len() / pieces + 1))] += 1;
+        endings[ending(&compare(programs, &text, text.len() / pieces + 1))] += 1;
         bytes += text.len();
     }
     (bytes, endings)
 }
 
-/// Two lists beside each other, since most of the time goes into starting the program.
+/// Two lists beside each other, since most of the time goes into starting the programs.
 #[test]
 fn random_and_damaged_texts() {
-    let program = program();
+    let programs = programs();
     let texts = setting("TEXTS", 100_000);
     let random = |list| Random((setting("SEED", 1) * 2 + list) * 2 + 6364136223846793005);
     let (one, other) = std::thread::scope(|scope| {
-        let other = scope.spawn(|| play_random(&program, texts / 2, random(1)));
-        (play_random(&program, texts - texts / 2, random(0)), other.join().unwrap())
+        let other = scope.spawn(|| play_random(&programs, texts / 2, random(1)));
+        (play_random(&programs, texts - texts / 2, random(0)), other.join().unwrap())
     });
     let bytes = one.0 + other.0;
     let endings: [u64; 10] = std::array::from_fn(|n| one.1[n] + other.1[n]);
     println!("{texts} texts of {bytes} bytes: {} played to the end, refused {:?}", endings[0], &endings[1..]);
     assert!([0, 1, 3, 4, 5, 6, 7, 8, 9].iter().all(|&n| endings[n] > 0), "some ending never came: {endings:?}");
+}
+
+/// A trace of sixteen ports that no player refuses: in every slot a cell for each input that has not 62 of them yet, for two
+/// outputs in some slots and for all in others. Ranks rise with the clock.
+fn dense_trace(r: &mut Random, slots: u64) -> Vec<u8> {
+    let highest = [[[0; 8]; 16]; 16];
+    let mut traffic = Traffic { ports: 16, outputs: 16, flows: 8, ranks: 0, load: 100, faults: 1, highest };
+    let (mut text, mut pifo, mut waiting) = (Vec::new(), Pifo::fresh(16, 0), 0);
+    put(&mut text, "ports", 16);
+    put(&mut text, "first", 0);
+    for slot in 0..slots {
+        traffic.outputs = if slot / 32 % 2 == 0 { 2 } else { 16 };
+        traffic.ranks = 100 + slot / 2;
+        let cells = pifo.cells();
+        let has_room = |input: &u64| cells.iter().filter(|c| c.input as u64 == *input).count() < 62;
+        let records: Vec<Record> = (0..16).filter(has_room).map(|input| traffic.record(r, input)).collect();
+        put_block(&mut text, slot, &records);
+        pifo.slot(&records).expect("the slot runs");
+        waiting += cells.len() as u64;
+    }
+    put(&mut text, "end", slots);
+    assert!(waiting > 16 * 40 * slots, "{} cells wait", waiting / slots);
+    text
+}
+
+#[test]
+fn a_long_dense_trace() {
+    let text = dense_trace(&mut Random(setting("SEED", 1) * 2 + 2685821657736338717), 4000);
+    let (programs, path) = (programs(), kept("dense.trace", &text));
+    let playing = programs.each_ref().map(|program| Playing::start(program, File::open(&path).unwrap()));
+    let want = wanted(&text);
+    finish(&programs, playing, &text, &want);
+    assert_eq!(status_after(&want), 0);
 }

@@ -3,8 +3,13 @@ import re
 
 from checks.files import fault_at, line_at, read
 
-# The player checks no table, lends no buffer and has no cues, so what speaks of it leaves these out.
-NOT_OF_THE_PLAYER = {2, 10, 11, 12, 13}
+EVERY = set(range(1, 14))
+# The players check no table, lend no buffer and have no cues.
+OF_THE_PLAYERS = EVERY - {2, 10, 11, 12, 13}
+# The host of the output-queued switch reads no text and has no cues.
+OF_THE_OQ = EVERY - {9, 11, 12, 13}
+# What the names of C begin with.
+PREFIXES = ("CROSSBAR", "OQ")
 
 
 class Told:
@@ -29,9 +34,9 @@ def by_place(path, pattern):
         yield Told(line_at(text, found.start()), number, **found.groupdict())
 
 
-def snake(name):
-    """`BadSize` as C writes it: `CROSSBAR_BAD_SIZE`."""
-    return "CROSSBAR" + re.sub(r"([A-Z])", r"_\1", name).upper()
+def snakes(name):
+    """`BadSize` as C writes it: `CROSSBAR_BAD_SIZE` and `OQ_BAD_SIZE`."""
+    return [prefix + re.sub(r"([A-Z])", r"_\1", name).upper() for prefix in PREFIXES]
 
 
 def spelled(when):
@@ -59,12 +64,14 @@ def compare(path, tellings, scope, names, numbers):
             yield f"{path}:{t.line}: no refusal {t.number} belongs here"
             continue
         want = scope[t.number]
+        # where there are no cues, no cue store is lent
+        when = want.when if 13 in numbers else want.when.replace(" or cue store", "")
         if t.word not in (None, want.word):
             yield f'{path}:{t.line}: refusal {t.number} is "{t.word}", in docs/SCOPE.md "{want.word}"'
-        if t.name not in (None, names[t.number], snake(names[t.number])):
+        if t.name not in (None, names[t.number], *snakes(names[t.number])):
             yield f"{path}:{t.line}: refusal {t.number} is {t.name}, in crates/cell/src/lib.rt {names[t.number]}"
-        if t.when and spelled(t.when) != want.when:
-            yield f'{path}:{t.line}: refusal {t.number} comes when "{t.when}", in docs/SCOPE.md "{want.when}"'
+        if t.when and spelled(t.when) != when:
+            yield f'{path}:{t.line}: refusal {t.number} comes when "{t.when}", in docs/SCOPE.md "{when}"'
     for number in sorted(numbers - met):
         yield f"{path}:1: refusal {number}, {scope[number].word}, is missing"
 
@@ -72,7 +79,7 @@ def compare(path, tellings, scope, names, numbers):
 def mentions(path, scope, names):
     """A text tells some refusals, as `7, falling rank` or `[CROSSBAR_FULL] = "full"`: each word with its number or name."""
     text, numbers = read(path), {t.word: n for n, t in scope.items()}
-    words = {snake(names[n]): t.word for n, t in scope.items()}
+    words = {name: t.word for n, t in scope.items() for name in snakes(names[n])}
     for found in re.finditer(r"(\d+), ((?:" + "|".join(numbers) + r")\b)", text):
         if numbers[found[2]] != int(found[1]):
             yield fault_at(path, text, found.start(), f'"{found[2]}" is refusal {numbers[found[2]]}')
@@ -90,27 +97,28 @@ def host_order(names):
 
 
 def tellings():
-    """Each file that tells refusals, what it tells, and whether it tells those of the player alone."""
+    """Each file that tells refusals, what it tells, and the numbers that it has to tell."""
     case = r"^    {} (?P<word>[a-z ]+): {}\n    (?P<name>[A-Z]\w+),$"
     macro = r"^#define (?P<name>\w+) +(?P<number>\d+)u +/\* (?P<word>[a-z ]+): (?P<when>.*) \*/$"
     row = r'^    (?P<number>\d+): \("(?P<word>.*)", "(?P<when>.*)"\),$'
     item = r"^\.TP\n(?P<number>\d+)\n(?P<word>[a-z ]+):"
     # The manual page says in its own words, of a trace's lines, when a refusal comes.
-    yield "crates/cell/src/lib.rt", by_place("crates/cell/src/lib.rt", case.format("//", "(?P<when>.*)")), False
-    yield "host/src/lib.rs", by_place("host/src/lib.rs", case.format("///", "(?P<when>.*)")), False
-    yield "include/crossbar.h", told("include/crossbar.h", macro), False
-    yield "viewer/show.py", told("viewer/show.py", row), True
-    yield "docs/crossbar-player.1", told("docs/crossbar-player.1", item), True
+    yield "crates/cell/src/lib.rt", by_place("crates/cell/src/lib.rt", case.format("//", "(?P<when>.*)")), EVERY
+    yield "host/src/lib.rs", by_place("host/src/lib.rs", case.format("///", "(?P<when>.*)")), EVERY
+    yield "include/crossbar.h", told("include/crossbar.h", macro), EVERY
+    yield "include/oq.h", told("include/oq.h", macro), OF_THE_OQ
+    yield "viewer/show.py", told("viewer/show.py", row), OF_THE_PLAYERS
+    yield "docs/crossbar-player.1", told("docs/crossbar-player.1", item), OF_THE_PLAYERS
 
 
 def refusal_faults():
-    scope, names, every = scope_refusals(), code_names(), set(range(1, 14))
+    scope, names = scope_refusals(), code_names()
     for path, numbers in (("docs/SCOPE.md", scope), ("crates/cell/src/lib.rt", names)):
-        if set(numbers) != every:
+        if set(numbers) != EVERY:
             yield f"{path}:1: the refusals are not numbered from 1 to 13"
             return
-    for path, here, of_player in tellings():
-        yield from compare(path, here, scope, names, every - NOT_OF_THE_PLAYER if of_player else every)
+    for path, here, numbers in tellings():
+        yield from compare(path, here, scope, names, numbers)
     yield from host_order(names)
-    for path in ("examples/README.md", "examples/host.c", "examples/rehearsal.c"):
+    for path in ("examples/README.md", "examples/host.c", "examples/outputs.c", "examples/rehearsal.c"):
         yield from mentions(path, scope, names)

@@ -30,6 +30,16 @@ pub enum Fault {
     RoundFromSlotWithoutMod,
     /// 2.3: the crossbar's round is that of the clock, not that of the slot in which the cells were accepted.
     RoundOfTheClock,
+    /// 4.3: the PIFO switch sends, of each queue, the cell that came first.
+    PifoSendsTheOldest,
+    /// 4.3: a cell that the PIFO switch has sent stays in its queue.
+    PifoKeepsADepartedCell,
+    /// 4.3: the PIFO switch sends before the cells of the slot have joined their queues.
+    PifoSendsBeforeTheArrivalsJoin,
+    /// docs/LAYOUT.md: in the table of the output-queued switch a new cell stands first in its section.
+    NewCellStandsFirst,
+    /// docs/LAYOUT.md: the last cell of a section takes the place of one that departed.
+    LastCellFillsTheGap,
     /// 10.1: an input proposes the cell of the smallest cushion first.
     SmallestCushionProposedFirst,
     /// 3.8: crosspoints are counted as the phase starts, without the cells that it sends.

@@ -1,10 +1,12 @@
 //! A crossbar and a PIFO switch written from docs/SCOPE.md alone, clear rather than clever. They share the cell, its order
 //! and the checks of a record, as the scope says, and nothing with the proved code. `player` plays a trace on either, and
-//! either keeps cues. Either can be given one wrong rule, so that a test can show that it is noticed.
+//! either keeps cues. `oq` is the PIFO switch on the sections of a table. Each can be given one wrong rule, so that a test
+//! can show that it is noticed.
 #![allow(dead_code)] // each test uses a part of it
 
 pub mod cues;
 mod fault;
+pub mod oq;
 pub mod player;
 
 pub use fault::Fault;
@@ -79,6 +81,57 @@ fn accepted(record: &Record, slot: u32) -> Cell {
     Cell { input, output, flow, rank, tag, slot }
 }
 
+/// What arrivals are drawn by: the size of a switch, its clock, and the cells that wait in it.
+pub trait Waiting {
+    fn ports(&self) -> u32;
+    fn clock(&self) -> u32;
+    fn cells(&self) -> Vec<Cell>;
+}
+
+/// What departs in a slot, or the number of the refusal and the record's place.
+pub type Sent = Result<Vec<Option<Cell>>, (u32, u32)>;
+
+/// The bytes of departures, by docs/LAYOUT.md.
+pub fn departure_bytes(departures: &[Option<Cell>]) -> Vec<u8> {
+    let mut out = vec![0; 448];
+    for (o, d) in departures.iter().enumerate() {
+        if let Some(c) = d {
+            for (k, n) in [1, c.input, c.output, c.flow, c.rank, c.tag, c.slot].iter().enumerate() {
+                out[28 * o + 4 * k..][..4].copy_from_slice(&n.to_le_bytes());
+            }
+        }
+    }
+    out
+}
+
+/// A table's bytes, by docs/LAYOUT.md.
+fn table_bytes(ports: u32, clock: u32, sections: &[Vec<Entry>]) -> Vec<u8> {
+    let mut t = vec![0; 16416];
+    t[0] = 1;
+    t[4..8].copy_from_slice(&ports.to_le_bytes());
+    t[8..12].copy_from_slice(&clock.to_le_bytes());
+    for (input, section) in sections.iter().enumerate() {
+        t[16 + input] = section.len() as u8;
+        for (at, e) in section.iter().enumerate() {
+            let r = &mut t[32 + 1024 * input + 16 * at..][..16];
+            r[0] = e.cell.output as u8;
+            r[1] = e.cell.flow as u8;
+            r[2] = e.place as u8;
+            r[4..8].copy_from_slice(&e.cell.rank.to_le_bytes());
+            r[8..12].copy_from_slice(&e.cell.tag.to_le_bytes());
+            r[12..16].copy_from_slice(&e.cell.slot.to_le_bytes());
+        }
+    }
+    t
+}
+
+/// The bytes of an output-queued switch's table, by docs/LAYOUT.md: a number of its own, and every cell in a buffer.
+fn oq_table_bytes(ports: u32, clock: u32, sections: &[Vec<Cell>]) -> Vec<u8> {
+    let buffered = |cells: &Vec<Cell>| cells.iter().map(|&cell| Entry { cell, place: Place::Buffer }).collect();
+    let entries: Vec<Vec<Entry>> = sections.iter().map(buffered).collect();
+    [101u32.to_le_bytes().to_vec(), table_bytes(ports, clock, &entries)].concat()
+}
+
 /// Proposals and occupancies are those of the first phase and of the second.
 #[derive(Clone, Debug, PartialEq, Eq)]
 pub struct Answer {
@@ -90,14 +143,8 @@ pub struct Answer {
 impl Answer {
     /// The answer's bytes, by docs/LAYOUT.md.
     pub fn bytes(&self) -> Vec<u8> {
-        let mut out = vec![0; 584];
-        for (o, d) in self.departures.iter().enumerate() {
-            if let Some(c) = d {
-                for (k, n) in [1, c.input, c.output, c.flow, c.rank, c.tag, c.slot].iter().enumerate() {
-                    out[28 * o + 4 * k..][..4].copy_from_slice(&n.to_le_bytes());
-                }
-            }
-        }
+        let mut out = departure_bytes(&self.departures);
+        out.resize(584, 0);
         out[448..452].copy_from_slice(&self.proposals[0].to_le_bytes());
         out[452..456].copy_from_slice(&self.proposals[1].to_le_bytes());
         for (first, occupancies) in [456, 520].into_iter().zip(&self.occupancies) {
@@ -382,23 +429,21 @@ impl Crossbar {
 
     /// The table's bytes, by docs/LAYOUT.md.
     pub fn table(&self) -> Vec<u8> {
-        let mut t = vec![0; 16416];
-        t[0] = 1;
-        t[4..8].copy_from_slice(&self.ports.to_le_bytes());
-        t[8..12].copy_from_slice(&self.clock.to_le_bytes());
-        for (input, section) in self.sections.iter().enumerate() {
-            t[16 + input] = section.len() as u8;
-            for (at, e) in section.iter().enumerate() {
-                let r = &mut t[32 + 1024 * input + 16 * at..][..16];
-                r[0] = e.cell.output as u8;
-                r[1] = e.cell.flow as u8;
-                r[2] = e.place as u8;
-                r[4..8].copy_from_slice(&e.cell.rank.to_le_bytes());
-                r[8..12].copy_from_slice(&e.cell.tag.to_le_bytes());
-                r[12..16].copy_from_slice(&e.cell.slot.to_le_bytes());
-            }
-        }
-        t
+        table_bytes(self.ports, self.clock, &self.sections)
+    }
+}
+
+impl Waiting for Crossbar {
+    fn ports(&self) -> u32 {
+        self.ports
+    }
+
+    fn clock(&self) -> u32 {
+        self.clock
+    }
+
+    fn cells(&self) -> Vec<Cell> {
+        Crossbar::cells(self)
     }
 }
 
@@ -429,24 +474,62 @@ impl Pifo {
         }
     }
 
-    pub fn slot(&mut self, records: &[Record]) -> Result<Vec<Option<Cell>>, (u32, u32)> {
+    fn has(&self, fault: Fault) -> bool {
+        self.fault == Some(fault)
+    }
+
+    pub fn slot(&mut self, records: &[Record]) -> Sent {
         if self.clock == CLOCK_END {
             return Err((3, 0));
         }
-        let waiting: Vec<Cell> = self.queues.iter().flatten().copied().collect();
-        if let Some(f) = fault(self.ports, &waiting, records) {
+        if let Some(f) = fault(self.ports, &self.cells(), records) {
             return Err(f);
         }
+        let early = self.has(Fault::PifoSendsBeforeTheArrivalsJoin).then(|| self.depart());
         for r in records {
             self.queues[r[1] as usize].push(accepted(r, self.clock));
         }
         self.clock += 1;
-        Ok((0..self.queues.len()).map(|output| self.depart(output)).collect())
+        Ok(early.unwrap_or_else(|| self.depart()))
     }
 
-    fn depart(&mut self, output: usize) -> Option<Cell> {
+    /// What each output sends.
+    fn depart(&mut self) -> Vec<Option<Cell>> {
+        (0..self.queues.len()).map(|output| self.send(output)).collect()
+    }
+
+    fn send(&mut self, output: usize) -> Option<Cell> {
         let queue = &self.queues[output];
         let best = (0..queue.len()).min_by_key(|&at| self.priority(&queue[at]))?;
-        Some(self.queues[output].remove(best))
+        let sent = if self.has(Fault::PifoSendsTheOldest) { 0 } else { best };
+        if self.has(Fault::PifoKeepsADepartedCell) {
+            return Some(queue[sent]);
+        }
+        Some(self.queues[output].remove(sent))
+    }
+
+    /// The table of an output-queued switch that has played the same slots from a fresh one on: there the cells of an input
+    /// stand in the order in which they were accepted.
+    pub fn table(&self) -> Vec<u8> {
+        let mut sections = vec![Vec::new(); self.ports as usize];
+        for cell in self.cells() {
+            sections[cell.input as usize].push(cell);
+        }
+        sections.iter_mut().for_each(|cells| cells.sort_by_key(|c| c.slot));
+        oq_table_bytes(self.ports, self.clock, &sections)
+    }
+}
+
+impl Waiting for Pifo {
+    fn ports(&self) -> u32 {
+        self.ports
+    }
+
+    fn clock(&self) -> u32 {
+        self.clock
+    }
+
+    fn cells(&self) -> Vec<Cell> {
+        self.queues.concat()
     }
 }

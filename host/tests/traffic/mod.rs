@@ -1,10 +1,11 @@
 //! Random arrivals for the tests of slots, mostly such that the slot runs, some spoiled; random calls of a rehearsal, and
-//! random states.
+//! random states of either switch.
 #![allow(dead_code)] // each test uses a part of it
 
 use super::random::Random;
 use super::reference::cues::Call;
-use super::reference::{Cell, Crossbar, Entry, Place, Record, CLOCK_END};
+use super::reference::oq::OutputQueued;
+use super::reference::{Cell, Crossbar, Entry, Place, Record, Waiting, CLOCK_END};
 
 /// Names of cues: more than a store has places, some alike but for their ends.
 const NAMES: [&str; 7] = ["a", "z", "intro", "intros", "prologue", "prologus", "finale"];
@@ -39,20 +40,20 @@ impl Traffic {
         Traffic { ranks: 1, falling: false, ..Traffic::new(r, ports) }
     }
 
-    pub fn records(&mut self, r: &mut Random, s: &Crossbar) -> Vec<Record> {
-        let cells = s.cells();
+    pub fn records(&mut self, r: &mut Random, s: &impl Waiting) -> Vec<Record> {
+        let (ports, cells) = (s.ports(), s.cells());
         if r.one_in(12) {
             self.load = r.pick(&[0, 5, 30, 60, 95, 100]);
         }
         let mut out = Vec::new();
-        for input in 0..s.ports as u64 {
+        for input in 0..ports as u64 {
             if r.below(100) >= self.load {
                 continue;
             }
-            let (output, mut flow) = (r.below(self.outputs.min(s.ports as u64)), r.below(self.flows));
+            let (output, mut flow) = (r.below(self.outputs.min(ports as u64)), r.below(self.flows));
             let mut rank = r.below(self.ranks);
             if self.falling && output != 0 {
-                rank = (1u64 << 20).saturating_sub(10 * (s.clock as u64 & 0xffff)) + r.below(10);
+                rank = (1u64 << 20).saturating_sub(10 * (s.clock() as u64 & 0xffff)) + r.below(10);
             }
             let highest = |flow: u64| {
                 let same = |c: &&Cell| (c.input as u64, c.output as u64, c.flow as u64) == (input, output, flow);
@@ -67,7 +68,7 @@ impl Traffic {
             out.push([input as u32, output as u32, flow as u32, rank.min(u32::MAX as u64) as u32, r.next() as u32]);
         }
         if r.one_in(self.faults) {
-            self.spoil(r, &mut out, s.ports);
+            self.spoil(r, &mut out, ports);
         }
         out
     }
@@ -156,6 +157,28 @@ pub fn any_state(r: &mut Random, ports: u32, most: u64) -> Crossbar {
                 let to = r.below(section.len() as u64 + 1) as usize;
                 section.insert(to, e);
             }
+        }
+    }
+    s
+}
+
+/// A sound state of the output-queued switch with so many cells an input at most. The cells of a section stand in any order,
+/// and those of one flow have any ranks.
+pub fn any_queues(r: &mut Random, ports: u32, most: u64) -> OutputQueued {
+    let clock = r.pick(&[5000, 5001, 1 << 20, 1 << 31, CLOCK_END - 5, CLOCK_END]);
+    let mut s = OutputQueued::fresh(ports, clock);
+    let outputs = r.pick(&[1, 2, ports as u64]).min(ports as u64);
+    let ranks = r.pick(&[1, 2, 10, 1 << 32]);
+    // With no gap between the slots of an input, many cells of one slot wait at an output, and their turns decide.
+    let gap = r.pick(&[1, 3, 40]);
+    for input in 0..ports {
+        let mut slot = r.below(gap) as u32;
+        for _ in 0..r.below(most + 1) {
+            slot += 1 + r.below(gap) as u32;
+            let (output, flow) = (r.below(outputs) as u32, r.below(8) as u32);
+            let cell = Cell { input, output, flow, rank: r.below(ranks) as u32, tag: r.next() as u32, slot };
+            let section = &mut s.sections[input as usize];
+            section.insert(r.below(section.len() as u64 + 1) as usize, cell);
         }
     }
     s

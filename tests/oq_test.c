@@ -1,0 +1,137 @@
+/* Tests oq_start and oq_check through the static library, against a check of a table that is written here; and all
+   three calls with null for no bytes. Prints one line and ends with 0 if all agree. */
+#include "tables.h"
+
+#include "oq.h"
+
+/* The independent check: the number, a sound table behind it, and every cell in a buffer. */
+static int sound_oq(const uint8_t *t, size_t n) {
+    if (n != OQ_TABLE_BYTES || get32(t) != 101 || !sound(t + 4, n - 4)) return 0;
+    for (int input = 0; input < 16; input++)
+        for (int at = 0; at < t[20 + input]; at++)
+            if (t[36 + 1024 * input + 16 * at + 2] != 3) return 0;
+    return 1;
+}
+
+/* A sound table with so many cells an input at most. */
+static void fill_oq(uint8_t *t, uint32_t ports, uint32_t most) {
+    put32(t, 101);
+    fill(t + 4, ports, most);
+    for (uint32_t input = 0; input < ports; input++)
+        for (int at = 0; at < t[20 + input]; at++) record_at(t + 4, (int)input, at)[2] = 3;
+}
+
+static void test_start(void) {
+    static const uint32_t firsts[] = {0, 1, 255, 256, 65535, 16777216, 4294967294u, 4294967295u};
+    static const size_t sizes[] = {0, 7, CROSSBAR_TABLE_BYTES, OQ_TABLE_BYTES - 1, OQ_TABLE_BYTES, OQ_TABLE_BYTES + 64};
+    static uint8_t buffer[OQ_TABLE_BYTES + 64], old[OQ_TABLE_BYTES + 64];
+    for (uint32_t ports = 0; ports <= 17; ports++)
+        for (size_t f = 0; f < sizeof firsts / sizeof *firsts; f++)
+            for (size_t s = 0; s < sizeof sizes / sizeof *sizes; s++) {
+                size_t bytes = sizes[s];
+                for (size_t i = 0; i < sizeof buffer; i++) buffer[i] = old[i] = (uint8_t)pick(256);
+                uint32_t r = oq_start(ports, firsts[f], buffer, bytes);
+                uint32_t want = ports < 1 || ports > 16 ? 1 : bytes < OQ_TABLE_BYTES ? 10 : 0;
+                expect(r == want, "the result of oq_start", (long)ports);
+                if (r == 0) {
+                    memset(old, 0, OQ_TABLE_BYTES);
+                    put32(old, 101);
+                    put32(old + 4, 1);
+                    put32(old + 8, ports);
+                    put32(old + 12, firsts[f]);
+                }
+                expect(memcmp(buffer, old, sizeof buffer) == 0, "the buffer of oq_start", (long)ports);
+            }
+}
+
+static void same(const uint8_t *t, size_t n, const char *what, long where) {
+    expect(oq_check(t, n) == (sound_oq(t, n) ? 0u : 2u), what, where);
+}
+
+/* Two entries of an input made alike in one field or exchanged. */
+static void change_entries(uint8_t *t, uint32_t ports) {
+    static const int fields[][2] = {{0, 1}, {1, 1}, {2, 1}, {4, 4}, {12, 4}, {0, 16}, {0, 2}};
+    uint32_t input = pick(ports), count = t[20 + input];
+    if (count == 0) return;
+    uint8_t *a = record_at(t + 4, (int)input, (int)pick(count)), *b = record_at(t + 4, (int)input, (int)pick(count));
+    const int *f = fields[pick(7)];
+    uint8_t held[16];
+    memcpy(held, a, 16);
+    memcpy(a + f[0], b + f[0], (size_t)f[1]);
+    if (pick(2)) memcpy(b + f[0], held + f[0], (size_t)f[1]);
+}
+
+static void test_check(void) {
+    static uint8_t table[OQ_TABLE_BYTES + 1], copy[OQ_TABLE_BYTES];
+    static const uint32_t sizes[][2] = {{1, 64}, {2, 5}, {5, 17}, {16, 64}};
+    for (size_t s = 0; s < sizeof sizes / sizeof *sizes; s++) {
+        fill_oq(table, sizes[s][0], sizes[s][1]);
+        expect(sound_oq(table, OQ_TABLE_BYTES), "a table made here is not sound", (long)s);
+        for (size_t n = 0; n <= sizeof table; n += n < 40 || n > sizeof table - 1100 ? 1 : 1009)
+            same(table, n, "length", (long)n);
+        /* Every byte changed to several values, one at a time. */
+        for (size_t i = 0; i < OQ_TABLE_BYTES; i++) {
+            uint8_t kept = table[i];
+            uint8_t values[] = {0, 1, 2, 16, 64, 255, (uint8_t)(kept + 1), (uint8_t)(kept - 1)};
+            for (size_t v = 0; v < sizeof values; v++) {
+                table[i] = values[v];
+                same(table, OQ_TABLE_BYTES, "one byte changed", (long)i);
+            }
+            table[i] = kept;
+        }
+        for (int k = 0; k < 20000; k++) {
+            memcpy(copy, table, sizeof copy);
+            change_entries(copy, sizes[s][0]);
+            same(copy, OQ_TABLE_BYTES, "two entries", k);
+        }
+        /* The crossbar's tables, without the number and with it. */
+        for (int k = 0; k < 200; k++) {
+            put32(copy, pick(2) ? 101 : 1);
+            fill(copy + 4, sizes[s][0], pick(1 + sizes[s][1]));
+            same(copy, OQ_TABLE_BYTES, "a table of the crossbar with a number before it", k);
+            expect(oq_check(copy + 4, CROSSBAR_TABLE_BYTES) == OQ_BROKEN_TABLE, "a table of the crossbar", k);
+        }
+    }
+}
+
+/* A pointer to no bytes may be null: the call answers as it does for any other pointer to no bytes. */
+static void test_null(void) {
+    static uint8_t table[OQ_TABLE_BYTES], other[OQ_TABLE_BYTES], arrival[OQ_ARRIVAL_BYTES], none[1];
+    static uint8_t answer[OQ_ANSWER_BYTES], same_answer[OQ_ANSWER_BYTES];
+    static uint8_t tally[OQ_TALLY_BYTES], same_tally[OQ_TALLY_BYTES];
+    uint64_t ran;
+    expect(oq_start(2, 0, NULL, 0) == OQ_SHORT_BUFFER, "start in null", 0);
+    expect(oq_start(0, 0, NULL, 0) == OQ_BAD_SIZE, "start of no ports in null", 0);
+    expect(oq_check(NULL, 0) == OQ_BROKEN_TABLE, "check of null", 0);
+    expect(oq_start(2, 7, table, sizeof table) == 0, "start", 0);
+    put32(arrival + 12, 5);
+    ran = oq_slot(table, sizeof table, arrival, sizeof arrival, answer, sizeof answer, tally, sizeof tally);
+    expect(ran == 0, "slot", 0);
+    for (int i = 0; i < 3; i++) {
+        memcpy(other, table, sizeof table);
+        memcpy(same_answer, answer, sizeof answer);
+        memcpy(same_tally, tally, sizeof tally);
+        ran = oq_slot(table, sizeof table, NULL, 0, answer, sizeof answer, tally, sizeof tally);
+        expect(ran == 0, "an empty slot", i);
+        ran = oq_slot(other, sizeof other, none, 0, same_answer, sizeof answer, same_tally, sizeof tally);
+        expect(ran == 0, "its like", i);
+        expect(memcmp(table, other, sizeof table) == 0, "the table of an empty slot", i);
+        expect(memcmp(answer, same_answer, sizeof answer) == 0, "the answer of an empty slot", i);
+        expect(memcmp(tally, same_tally, sizeof tally) == 0, "the tally of an empty slot", i);
+    }
+    memcpy(other, table, sizeof table);
+    expect(oq_slot(NULL, 0, NULL, 0, answer, sizeof answer, tally, sizeof tally) == OQ_BROKEN_TABLE, "no table", 0);
+    expect(oq_slot(table, sizeof table, NULL, 0, NULL, 0, tally, sizeof tally) == OQ_SHORT_BUFFER, "no answer", 0);
+    expect(oq_slot(table, sizeof table, NULL, 0, answer, sizeof answer, NULL, 0) == OQ_BROKEN_TABLE, "no tally", 0);
+    expect(oq_slot(NULL, 0, NULL, 0, NULL, 0, NULL, 0) == OQ_BROKEN_TABLE, "nothing", 0);
+    expect(get32(tally) == 4 && get32(tally + 8) == 2, "slots run and refused", 0);
+    expect(memcmp(table, other, sizeof table) == 0, "the table of refused slots", 0);
+}
+
+int main(void) {
+    test_start();
+    test_check();
+    test_null();
+    printf("oq_start, oq_check and null: %lu cases agree\n", cases);
+    return 0;
+}
