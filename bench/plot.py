@@ -1,21 +1,30 @@
 #!/usr/bin/env python3
-"""Draws the time of a slot over the cells that wait, proved beside plain, from the lines that bench/run prints.
+"""Draws the time of a slot over the cells that wait, proved beside plain, of the crossbar and of the output-queued switch, from
+the lines that bench/run prints.
 
     bench/plot.py < target/bench/figures.tsv > docs/speed.svg
 """
 import sys
 
 WIDTH, HEIGHT = 680, 420
-LEFT, RIGHT, TOP, BOTTOM = 80, 110, 50, 60
+LEFT, RIGHT, TOP, BOTTOM = 80, 160, 50, 60
 MOST_CELLS = 64
-# the column of a line's times in a figure, its name, its colour and its dashes
-SIDES = [(2, "proved", "#1f5fa8", "none"), (3, "plain Rust", "#b4531a", "6 4")]
+# the name of a line's figures, the column of its times there, its own name, its colour and its dashes
+SIDES = [
+    ("slot", 2, "crossbar, proved", "#1f5fa8", "none"),
+    ("slot", 3, "crossbar, plain Rust", "#b4531a", "6 4"),
+    ("oq slot", 2, "output-queued, proved", "#5f9fd8", "none"),
+    ("oq slot", 3, "output-queued, plain Rust", "#d9935f", "6 4"),
+]
 
 
 def read_slots(lines):
-    """The figures of slots by load: fields as numbers."""
+    """The lines to draw, each with the cells and the times of its points."""
     figures = [line.rstrip("\n").split("\t") for line in lines]
-    return [[float(f) for f in [0] + fields[1:5]] for fields in figures if fields[0] == "slot" and fields[1] != "each"]
+    for name, column, *look in SIDES:
+        points = [(float(f[1]), float(f[column])) for f in figures if f[0] == name and f[1] != "each"]
+        if points:
+            yield points, *look
 
 
 def step_for(most):
@@ -28,13 +37,15 @@ def text(x, y, words, anchor="middle", more=""):
 
 
 def apart(ys):
-    """The heights of the two names, at least a line from each other."""
-    middle, half = sum(ys) / 2, max(8, abs(ys[0] - ys[1]) / 2)
-    return [middle - half, middle + half] if ys[0] <= ys[1] else [middle + half, middle - half]
+    """The heights of the names, from above each at least a line below the one before."""
+    heights, lowest = {}, 0
+    for k in sorted(range(len(ys)), key=lambda k: ys[k]):
+        heights[k] = lowest = max(ys[k], lowest + 16)
+    return [heights[k] for k in range(len(ys))]
 
 
-def draw(slots):
-    most = max(max(s[2], s[3]) for s in slots)
+def draw(lines):
+    most = max(ns for points, *_ in lines for _, ns in points)
     step = step_for(most)
     top = step * -(-most // step)
     x = lambda cells: LEFT + (WIDTH - LEFT - RIGHT) * cells / MOST_CELLS
@@ -51,22 +62,22 @@ def draw(slots):
     yield f'<path d="M{x(0):.1f} {y(top):.1f}V{y(0):.1f}H{x(MOST_CELLS):.1f}" fill="none" stroke="#222"/>'
     yield text(x(MOST_CELLS / 2), HEIGHT - 16, "cells waiting an input")
     yield text(0, 0, "nanoseconds a slot", more=f' transform="translate(20 {y(top / 2):.1f}) rotate(-90)"')
-    last = slots[-1]
-    heights = apart([y(last[column]) for column, *_ in SIDES])
-    for (column, name, colour, dashes), height in zip(SIDES, heights):
-        points = " ".join(f"{x(s[1]):.1f},{y(s[column]):.1f}" for s in slots)
-        yield f'<polyline points="{points}" fill="none" stroke="{colour}" stroke-width="2" stroke-dasharray="{dashes}"/>'
-        for s in slots:
-            yield f'<circle cx="{x(s[1]):.1f}" cy="{y(s[column]):.1f}" r="3.5" fill="{colour}"/>'
-        yield text(x(last[1]) + 12, height + 4, name, "start", f' fill="{colour}"')
+    heights = apart([y(points[-1][1]) for points, *_ in lines])
+    for (points, name, colour, dashes), height in zip(lines, heights):
+        places = [(x(cells), y(ns)) for cells, ns in points]
+        path = " ".join(f"{across:.1f},{down:.1f}" for across, down in places)
+        yield f'<polyline points="{path}" fill="none" stroke="{colour}" stroke-width="2" stroke-dasharray="{dashes}"/>'
+        for across, down in places:
+            yield f'<circle cx="{across:.1f}" cy="{down:.1f}" r="3.5" fill="{colour}"/>'
+        yield text(places[-1][0] + 12, height + 4, name, "start", f' fill="{colour}"')
     yield "</svg>"
 
 
 def main():
-    slots = read_slots(sys.stdin)
-    if not slots:
+    lines = list(read_slots(sys.stdin))
+    if not lines:
         sys.exit("no figures of slots: bench/run prints them")
-    print("\n".join(draw(slots)))
+    print("\n".join(draw(lines)))
 
 
 main()

@@ -1,182 +1,34 @@
-//! A player of traces in plain Rust on the plain switch, written for speed from docs/SCOPE.md: the proved player is timed
-//! beside it. It reads standard input through a window and needs no more memory for a longer trace.
+//! The plain player on the plain crossbar, whose table it keeps and trusts.
 
-use plain_switch::{start, trusted_slot, ANSWER_BYTES, ARRIVAL_BYTES, DEPARTURE_BYTES, TABLE_BYTES, TALLY_BYTES};
-use std::io::{stdin, stdout, Read, Write};
+mod play;
 
-const WINDOW_BYTES: usize = 1 << 16;
+use plain_switch::{start, trusted_slot, ANSWER_BYTES, DEPARTURE_BYTES, PORTS, TABLE_BYTES, TALLY_BYTES};
 
-/// No block and the key after it are longer.
-const BLOCK_BYTES: usize = 2048;
-
-/// Why the rest of the trace is not played: the refusal's number, and the line that it names.
-struct Refused {
-    number: u64,
-    line: u64,
+struct Crossbar {
+    table: [u8; TABLE_BYTES],
+    answer: [u8; ANSWER_BYTES],
+    tally: [u8; TALLY_BYTES],
 }
 
-/// A window on standard input: the bytes in `from..to` are not read yet, and `line` is the number of their first line.
-struct Reader {
-    window: [u8; WINDOW_BYTES],
-    from: usize,
-    to: usize,
-    ended: bool,
-    line: u64,
-}
-
-impl Reader {
-    fn new() -> Reader {
-        Reader { window: [0; WINDOW_BYTES], from: 0, to: 0, ended: false, line: 1 }
+impl play::Switch for Crossbar {
+    fn fresh(ports: u32, first: u32) -> Option<Crossbar> {
+        let mut table = [0; TABLE_BYTES];
+        let done = start(ports, first, &mut table) == 0;
+        done.then_some(Crossbar { table, answer: [0; ANSWER_BYTES], tally: [0; TALLY_BYTES] })
     }
 
-    /// Makes sure that a whole block is in the window, or the last of the text.
-    fn fill(&mut self) {
-        if self.to - self.from < BLOCK_BYTES {
-            self.window.copy_within(self.from..self.to, 0);
-            self.to -= self.from;
-            self.from = 0;
-        }
-        while self.to < BLOCK_BYTES && !self.ended {
-            let bytes = stdin().read(&mut self.window[self.to..]).expect("standard input is read");
-            self.ended = bytes == 0;
-            self.to += bytes;
-        }
+    fn slot(&mut self, arrivals: &[u8]) -> u64 {
+        trusted_slot(&mut self.table, arrivals, &mut self.answer, &mut self.tally)
     }
 
-    fn rest(&self) -> &[u8] {
-        &self.window[self.from..self.to]
+    fn departures(&self) -> impl Iterator<Item = [u32; 5]> {
+        self.answer[..PORTS * DEPARTURE_BYTES].chunks_exact(DEPARTURE_BYTES).filter_map(|departure| {
+            let field = |at: usize| u32::from_le_bytes(departure[at..at + 4].try_into().unwrap());
+            (field(0) != 0).then(|| [field(8), field(4), field(12), field(16), field(20)])
+        })
     }
-
-    fn bad_line(&self) -> Refused {
-        Refused { number: 9, line: self.line }
-    }
-
-    /// Passes a line of this key and gives its number. The key has its `=`.
-    fn number(&mut self, key: &[u8]) -> Result<u32, Refused> {
-        let (number, length) = line(self.rest(), key).ok_or(self.bad_line())?;
-        self.from += length;
-        self.line += 1;
-        Ok(number)
-    }
-
-    /// Passes a line of this key and number.
-    fn expected(&mut self, key: &[u8], number: u32) -> Result<(), Refused> {
-        let bad = self.bad_line();
-        if self.number(key)? == number { Ok(()) } else { Err(bad) }
-    }
-
-    /// Reads the block of a slot into the arrivals and gives their number of bytes.
-    fn block(&mut self, slot: u32, arrivals: &mut [u8; 16 * ARRIVAL_BYTES]) -> Result<usize, Refused> {
-        self.expected(b"slot=", slot)?;
-        let mut bytes = 0;
-        while bytes < arrivals.len() && self.rest().starts_with(b"in=") {
-            for key in [&b"in="[..], b"out=", b"flow=", b"rank=", b"tag="] {
-                let number = self.number(key)?;
-                arrivals[bytes..bytes + 4].copy_from_slice(&number.to_le_bytes());
-                bytes += 4;
-            }
-        }
-        Ok(bytes)
-    }
-}
-
-/// The number of the first line and the line's length, if it has this key.
-fn line(text: &[u8], key: &[u8]) -> Option<(u32, usize)> {
-    let digits = text.strip_prefix(key)?;
-    let mut number = 0u64;
-    for (k, &byte) in digits.iter().enumerate() {
-        match byte {
-            b'\n' if k > 0 => return Some((number as u32, key.len() + k + 1)),
-            b'0'..=b'9' if k == 0 || number > 0 => number = 10 * number + (byte - b'0') as u64,
-            _ => return None,
-        }
-        if number > u32::MAX as u64 {
-            return None;
-        }
-    }
-    None
-}
-
-fn put(out: &mut Vec<u8>, key: &[u8], mut number: u64) {
-    let mut digits = [0; 20];
-    let mut at = digits.len();
-    loop {
-        at -= 1;
-        digits[at] = b'0' + (number % 10) as u8;
-        number /= 10;
-        if number == 0 {
-            break;
-        }
-    }
-    out.extend_from_slice(key);
-    out.extend_from_slice(&digits[at..]);
-    out.push(b'\n');
-}
-
-fn put_slot(out: &mut Vec<u8>, clock: u32, answer: &[u8; ANSWER_BYTES]) {
-    put(out, b"slot=", clock as u64);
-    for departure in answer[..16 * DEPARTURE_BYTES].chunks_exact(DEPARTURE_BYTES) {
-        let field = |at: usize| u32::from_le_bytes(departure[at..at + 4].try_into().unwrap()) as u64;
-        if field(0) != 0 {
-            put(out, b"out=", field(8));
-            put(out, b"in=", field(4));
-            put(out, b"flow=", field(12));
-            put(out, b"rank=", field(16));
-            put(out, b"tag=", field(20));
-        }
-    }
-}
-
-fn write(out: &mut Vec<u8>) {
-    stdout().write_all(out).expect("standard output is written");
-    out.clear();
-}
-
-fn play(reader: &mut Reader, out: &mut Vec<u8>) -> Result<(), Refused> {
-    let mut table = [0; TABLE_BYTES];
-    let mut arrivals = [0; 16 * ARRIVAL_BYTES];
-    let mut answer = [0; ANSWER_BYTES];
-    let mut tally = [0; TALLY_BYTES];
-    reader.fill();
-    let ports = reader.number(b"ports=")?;
-    if start(ports, 0, &mut table) != 0 {
-        return Err(Refused { number: 1, line: 1 });
-    }
-    let first = reader.number(b"first=")?;
-    start(ports, first, &mut table);
-    put(out, b"ports=", ports as u64);
-    put(out, b"first=", first as u64);
-    let mut clock = first;
-    reader.fill();
-    while !reader.rest().starts_with(b"end=") {
-        let slot_line = reader.line;
-        let bytes = reader.block(clock, &mut arrivals)?;
-        let result = trusted_slot(&mut table, &arrivals[..bytes], &mut answer, &mut tally);
-        if result != 0 {
-            let (number, place) = (result % 256, result / 256);
-            let line = if place == 0 { slot_line } else { slot_line + 5 * place - 4 };
-            return Err(Refused { number, line });
-        }
-        put_slot(out, clock, &answer);
-        if out.len() >= WINDOW_BYTES {
-            write(out);
-        }
-        clock += 1;
-        reader.fill();
-    }
-    reader.expected(b"end=", clock)?;
-    if !reader.rest().is_empty() {
-        return Err(reader.bad_line());
-    }
-    put(out, b"end=", clock as u64);
-    Ok(())
 }
 
 fn main() {
-    let mut out = Vec::with_capacity(2 * WINDOW_BYTES);
-    if let Err(refused) = play(&mut Reader::new(), &mut out) {
-        put(&mut out, b"refused=", refused.number);
-        put(&mut out, b"line=", refused.line);
-    }
-    write(&mut out);
+    play::play_all::<Crossbar>();
 }

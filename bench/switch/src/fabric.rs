@@ -1,36 +1,11 @@
 //! One slot on the bytes of a sound table, once its arrivals are accepted: arrival, two phases, departure. A phase
 //! writes places and nothing else; cells move in the table only when one comes or goes.
 
+use crate::cells::{self, entry_of, input_of, offer, position_of, Best, Cell, Turn, NONE};
 use crate::table::{
-    clock, count, flow, offset, output, ports, priority, record, slot, Members, Row, Table, BUFFERED, CELLS, CROSSED,
-    ENTRIES, LISTED, PORTS, RECORD_BYTES,
+    count, flow, offset, output, ports, record, Members, Row, Table, BUFFERED, CELLS, CROSSED, LISTED, PORTS, RECORD_BYTES,
 };
 use crate::{Arrival, Departure};
-
-/// A cell as one number: rank and slot in the upper half, the turn of its input on top of the lower half, and last the
-/// number of its entry. The cell with the smaller number goes first.
-type Cell = u128;
-
-const NONE: Cell = u128::MAX;
-
-fn entry_of(cell: Cell) -> usize {
-    cell as usize % ENTRIES
-}
-
-fn input_of(cell: Cell) -> usize {
-    entry_of(cell) / CELLS
-}
-
-fn position_of(cell: Cell) -> usize {
-    entry_of(cell) % CELLS
-}
-
-/// For each output the best of the cells that were offered.
-type Best = [Cell; PORTS];
-
-fn offer(best: &mut Best, output: usize, cell: Cell) {
-    best[output] = best[output].min(cell);
-}
 
 /// The cells in the crosspoints of each output: the best of them, and how many they are.
 struct Crossed {
@@ -69,37 +44,26 @@ pub struct Fabric<'a> {
     table: &'a mut Table,
     rows: [Row; PORTS],
     ports: usize,
-    /// What a turn counts: an Nth of 2^64, rounded down to a multiple of ENTRIES. As numbers wrap at 2^64, (input - slot)
-    /// times this is the turn of the input times this, without a division. Rounding adds less than 2^43 to it.
-    turn: u64,
+    turn: Turn,
 }
 
 impl<'a> Fabric<'a> {
     pub fn new(table: &'a mut Table, rows: [Row; PORTS]) -> Fabric<'a> {
         let ports = ports(table);
-        let nth = u64::MAX / ports as u64;
-        Fabric { table, rows, ports, turn: nth - nth % ENTRIES as u64 }
+        Fabric { table, rows, ports, turn: Turn::new(ports) }
     }
 
     fn cell_at(&self, input: usize, at: usize) -> Cell {
-        let entry = CELLS * input + at;
-        let r = record(self.table, entry);
-        let turns = self.turn.wrapping_mul((input as u64).wrapping_sub(slot(r) as u64));
-        (priority(r) as u128) << 64 | (turns | entry as u64) as u128
+        self.turn.cell(input, at, record(self.table, CELLS * input + at))
     }
 
     /// A new cell joins its input's section, at the front or right after the last cell of its flow in the list.
     pub fn arrive(&mut self, r: &Arrival, at: usize) {
         let input = r[0] as usize % PORTS;
-        let slot = clock(self.table).to_le_bytes();
         let from = offset(CELLS * input + at);
         let end = offset(CELLS * input) + RECORD_BYTES * count(self.table, input);
         self.table.copy_within(from..end, from + RECORD_BYTES);
-        let e = &mut self.table[from..from + RECORD_BYTES];
-        e[..4].copy_from_slice(&[r[4], r[8], LISTED, 0]);
-        e[4..12].copy_from_slice(&r[12..20]);
-        e[12..].copy_from_slice(&slot);
-        self.table[16 + input] += 1;
+        cells::write_cell(self.table, CELLS * input + at, r, LISTED);
         self.rows[input].open(at);
     }
 
@@ -261,32 +225,7 @@ impl<'a> Fabric<'a> {
 
     /// Every output sends the best cell of its buffer, and the clock rises: the number of cells sent.
     pub fn depart(&mut self, buffers: &Best, departures: &mut [Departure]) -> u64 {
-        let mut sent = [0; PORTS];
-        for (&cell, departure) in buffers.iter().zip(departures) {
-            if cell != NONE {
-                write_departure(departure, input_of(cell), record(self.table, entry_of(cell)));
-                sent[input_of(cell)] |= 1 << position_of(cell);
-            }
-        }
-        for (input, sent) in sent.iter().enumerate() {
-            self.remove(input, *sent);
-        }
-        let next = clock(self.table) + 1;
-        self.table[8..12].copy_from_slice(&next.to_le_bytes());
-        sent.iter().map(|s| s.count_ones() as u64).sum()
-    }
-
-    /// Takes cells out of a section, the last first.
-    fn remove(&mut self, input: usize, mut cells: u64) {
-        while cells != 0 {
-            let at = cells.ilog2() as usize;
-            let to = offset(CELLS * input + at);
-            let end = offset(CELLS * input) + RECORD_BYTES * count(self.table, input);
-            self.table.copy_within(to + RECORD_BYTES..end, to);
-            self.table[end - RECORD_BYTES..end].fill(0);
-            self.table[16 + input] -= 1;
-            cells &= !(1 << at);
-        }
+        cells::depart(self.table, buffers, departures)
     }
 }
 
@@ -301,12 +240,4 @@ impl Row {
             *position += (*position as usize >= at) as u8;
         }
     }
-}
-
-fn write_departure(departure: &mut Departure, input: usize, r: &[u8; RECORD_BYTES]) {
-    departure[0] = 1;
-    departure[4] = input as u8;
-    departure[8] = r[0];
-    departure[12] = r[1];
-    departure[16..].copy_from_slice(&r[4..]);
 }

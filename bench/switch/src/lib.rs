@@ -1,13 +1,18 @@
-//! A crossbar in plain Rust, written for speed from docs/SCOPE.md and docs/LAYOUT.md. It has the bytes, the checks and
-//! the results of the proved one and shares nothing with it, so that the two can be timed side by side.
+//! A crossbar and an output-queued switch in plain Rust, written for speed from docs/SCOPE.md and docs/LAYOUT.md. They have
+//! the bytes, the checks and the results of the proved ones and share nothing with them, so that they can be timed side by
+//! side. `queues` is an output-queued switch without a table, for a player.
 
+mod cells;
 mod fabric;
 pub mod load;
+mod oq;
+pub mod queues;
 mod table;
 
 use fabric::Fabric;
-use table::{count, entries, rows, word, Row, CELLS};
+use table::{count, entries, rows, word, CELLS};
 
+pub use oq::{oq_check, oq_slot, oq_start, OQ_ANSWER_BYTES, OQ_TABLE_BYTES};
 pub use table::{Table, PORTS, TABLE_BYTES};
 pub const ARRIVAL_BYTES: usize = 20;
 pub const DEPARTURE_BYTES: usize = 28;
@@ -66,10 +71,15 @@ pub fn trusted_slot(table: &mut [u8], arrivals: &[u8], answer: &mut [u8], tally:
 }
 
 fn any_slot<const TRUSTED: bool>(table: &mut [u8], arrivals: &[u8], answer: &mut [u8], tally: &mut [u8]) -> u64 {
+    counted(tally, || run::<TRUSTED>(table, arrivals, answer))
+}
+
+/// Runs a slot and counts it in the tally.
+fn counted(tally: &mut [u8], run: impl FnOnce() -> Result<(u64, u64), Refused>) -> u64 {
     let Ok(tally) = tally.try_into() else {
         return BROKEN_TABLE as u64;
     };
-    match run::<TRUSTED>(table, arrivals, answer) {
+    match run() {
         Ok((arrived, departed)) => {
             raise(tally, [1, 0, arrived, departed]);
             0
@@ -102,7 +112,7 @@ fn run<const TRUSTED: bool>(
     if table::clock(table) == u32::MAX {
         return Err((CLOCK_END, 0));
     }
-    let positions = accept(table, &rows, records)?;
+    let positions = accept(table, records, |input, r| position(table, input, rows[input].listed, r))?;
     let mut fabric = Fabric::new(table, rows);
     for (r, at) in records.iter().zip(positions) {
         fabric.arrive(r, at);
@@ -123,9 +133,13 @@ fn write_words(bytes: &mut [u8], words: &[u32]) {
     }
 }
 
-/// The position in its input's section that each record's cell takes; or the first refusal. Inputs rise, so at most
-/// sixteen records are accepted.
-fn accept(table: &Table, rows: &[Row; PORTS], records: &[Arrival]) -> Result<[usize; PORTS], Refused> {
+/// The position in its input's section that each record's cell takes; or the first refusal. `position` has none for a cell
+/// whose rank falls. Inputs rise, so at most sixteen records are accepted.
+fn accept(
+    table: &Table,
+    records: &[Arrival],
+    position: impl Fn(usize, &Arrival) -> Option<usize>,
+) -> Result<[usize; PORTS], Refused> {
     let ports = table::ports(table) as u32;
     let mut positions = [0; PORTS];
     let mut lowest = 0;
@@ -143,7 +157,7 @@ fn accept(table: &Table, rows: &[Row; PORTS], records: &[Arrival]) -> Result<[us
         }
         lowest = input + 1;
         let input = input as usize;
-        positions[k] = position(table, input, rows[input].listed, r).ok_or(refused(RANK_ORDER))?;
+        positions[k] = position(input, r).ok_or(refused(RANK_ORDER))?;
         if count(table, input) == CELLS {
             return Err(refused(FULL));
         }
@@ -170,13 +184,20 @@ fn position(table: &Table, input: usize, listed: u64, r: &Arrival) -> Option<usi
 }
 
 #[cfg(test)]
+mod queue_lists;
+#[cfg(test)]
 mod soundness;
 
-// The host's lists of slot calls, beside the reference switch, run here on this switch under the names that they call.
+// The hosts' lists of slot calls, beside the reference switches, run here on these switches under the names that they call.
 #[cfg(test)]
 extern crate self as crossbar_host;
 #[cfg(test)]
 use {check as check_bytes, slot as slot_bytes, start as start_bytes};
 #[cfg(test)]
+use {oq_check as oq_check_bytes, oq_slot as oq_slot_bytes, oq_start as oq_start_bytes};
+#[cfg(test)]
 #[path = "../../../host/tests/slots.rs"]
 mod slots;
+#[cfg(test)]
+#[path = "../../../host/tests/oq.rs"]
+mod oq_slots;

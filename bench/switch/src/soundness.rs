@@ -1,8 +1,9 @@
-//! `check` beside the sound table of docs/SCOPE.md and docs/LAYOUT.md written out plainly, on sound and broken tables.
+//! `check` and `oq_check` beside the sound table of docs/SCOPE.md and docs/LAYOUT.md written out plainly, on sound and broken
+//! tables.
 
 use crate::load::{Load, Random};
 use crate::table::{word, Table, RECORD_BYTES, TABLE_BYTES};
-use crate::{check, slot, start, ANSWER_BYTES, TALLY_BYTES};
+use crate::{check, oq_check, slot, start, ANSWER_BYTES, TALLY_BYTES};
 
 struct Entry {
     output: u8,
@@ -58,11 +59,24 @@ fn together(list: &[&Entry]) -> bool {
     })
 }
 
-/// Whether the table is sound, by both.
+/// Where the records of a table's entries begin.
+fn records(t: &Table) -> impl Iterator<Item = usize> {
+    let counts: [u8; 16] = t[16..32].try_into().unwrap();
+    (0..16).flat_map(move |input| (0..counts[input].min(64) as usize).map(move |at| 32 + 1024 * input + RECORD_BYTES * at))
+}
+
+/// Whether the table is sound, by both. With a number before it, it is one of the output-queued switch if all cells are in
+/// buffers; so is it once they all are.
 fn agreed(t: &Table) -> bool {
-    let sound = sound(t);
-    assert_eq!(check(t), if sound { 0 } else { 2 });
-    sound
+    let sound = |t: &Table| if sound(t) { 0 } else { 2 };
+    let numbered = |number: u8, t: &Table| oq_check(&[&[number, 0, 0, 0], &t[..]].concat());
+    assert_eq!(check(t), sound(t));
+    assert_eq!(numbered(101, t), if records(t).all(|at| t[at + 2] == 3) { sound(t) } else { 2 });
+    let mut buffered = *t;
+    records(t).for_each(|at| buffered[at + 2] = 3);
+    assert_eq!(numbered(101, &buffered), sound(&buffered));
+    assert_eq!(numbered(1, &buffered), 2);
+    check(t) == 0
 }
 
 /// A few entries with few values, so that every rule is kept often and broken often.
@@ -142,5 +156,7 @@ fn other_lengths() {
     start(16, 0, &mut t);
     for bytes in [0, 1, 32, TABLE_BYTES - 1, TABLE_BYTES, TABLE_BYTES + 1] {
         assert_eq!(check(&t[..bytes]), if bytes == TABLE_BYTES { 0 } else { 2 });
+        let numbered = [&[101, 0, 0, 0], &t[..bytes]].concat();
+        assert_eq!(oq_check(&numbered), if bytes == TABLE_BYTES { 0 } else { 2 });
     }
 }

@@ -19,7 +19,7 @@ pub const BUFFERED: u8 = 3;
 
 /// The bits that are zero in the first word of every sound record: those of an output above 15, a flow above 7, a place
 /// above 3, and the fourth byte.
-const UNUSED_BITS: u32 = 0xfffc_f8f0;
+pub const UNUSED_BITS: u32 = 0xfffc_f8f0;
 
 pub fn word(bytes: &[u8], at: usize) -> u32 {
     u32::from_le_bytes(bytes[at..at + 4].try_into().unwrap())
@@ -46,7 +46,7 @@ pub fn record(table: &Table, entry: usize) -> &Record {
     table[offset(entry)..].first_chunk().unwrap()
 }
 
-fn section(table: &Table, input: usize) -> &[Record] {
+pub fn section(table: &Table, input: usize) -> &[Record] {
     table[offset(CELLS * input)..][..CELLS * RECORD_BYTES].as_chunks().0
 }
 
@@ -123,7 +123,7 @@ pub fn rows<const TRUSTED: bool>(table: &Table) -> Option<[Row; PORTS]> {
     Some(rows)
 }
 
-fn all_zero(records: &[Record]) -> bool {
+pub fn all_zero(records: &[Record]) -> bool {
     records.as_flattened().iter().fold(0, |bits, b| bits | b) == 0
 }
 
@@ -160,7 +160,7 @@ fn sound_row<const TRUSTED: bool>(entries: &[Record], ports: usize, clock: u32) 
     Some(Row { listed, heads, buffered: low & high, filled, crossed })
 }
 
-fn share_slot(entries: &[Record]) -> bool {
+pub fn share_slot(entries: &[Record]) -> bool {
     let mut slots: [u32; CELLS] = std::array::from_fn(|at| entries.get(at).map_or(0, slot));
     let slots = &mut slots[..entries.len()];
     slots.sort_unstable();
