@@ -9,6 +9,7 @@ pub mod Number
 pub mod Oq
 pub mod OqRead
 pub mod OqRows
+pub mod Parts
 pub mod Pieces
 pub mod Put
 pub mod Read

@@ -12,7 +12,7 @@ use Rattle.layout.specs.Number.{bytesOf, word}
 abbrev pub arrivalSize : ℕ
 arrivalSize = 20
 
--- so many records are looked at: inputs rise and are below N, so that the one behind them has a fault or stands behind one
+-- so many records are looked at: inputs rise and are below 16, so that the seventeenth has a fault or stands behind one
 abbrev pub heldLimit : ℕ
 heldLimit = portLimit + 1
 

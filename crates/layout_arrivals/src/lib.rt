@@ -31,7 +31,7 @@ pub fn read_records(arrivals: &[u8]) -> [Arrival; HELD]
 }
 
 // The record at a place.
-pub fn record_at(arrivals: &[u8], k: usize) -> Arrival
+fn record_at(arrivals: &[u8], k: usize) -> Arrival
     requires { ⌜ arrivalSize * k + arrivalSize ≤ length (now arrivals) ⌝ }
     ensures { λ r. ⌜ r ≡ arrivalAt (now (arrivals .entry)) k ⌝ }
 {

@@ -1,4 +1,4 @@
--- Scope 6: the checks of a record, 4 to 8, in their order. Both switches use them, each fed
+-- Scope 6: the checks of a record, 4 to 8, in their order. All three switches use them, each fed
 -- the cells that wait in it before the slot. A record is looked at as the cell that it would become.
 use Prim.Native.Nat.{ℕ, _+_}
 use mathlib.Core.Bool.{Bool, false, cond, not, _&&_, _||_}

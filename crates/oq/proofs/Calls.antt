@@ -19,7 +19,7 @@ use Rattle.layout.specs.Oq.{oqNumber, oqNumberSize, oqTableSize, encodeOq, oqSt
 use Rattle.layout.specs.Table.{encode}
 use Rattle.layout.proofs.Number.{length-bytesOf}
 use Rattle.layout.proofs.Put.{take-put, drop-put}
-use Rattle.oq.proofs.Parts.{part-behind, put-behind}
+use Rattle.layout.proofs.Parts.{part-behind, put-behind}
 
 -- the result and the buffer of a start call
 abbrev pub Answers : ℕ → ℕ → List ℕ → ℕ → List ℕ → Type 0

@@ -36,7 +36,7 @@ use Rattle.layout.proofs.Table.{decode-sound, sound-length, is-table}
 use Rattle.slot_check.specs.Handed.{Handed}
 use Rattle.slot_view.proofs.Handed.{entry-port}
 use Rattle.slot_view.proofs.Placed.{decode-ports, decode-ports-few, decode-sections}
-use Rattle.oq.proofs.Parts.{part-behind}
+use Rattle.layout.proofs.Parts.{part-behind}
 
 ------------------------------------------------------------------------
 -- a set for each input

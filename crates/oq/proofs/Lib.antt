@@ -1,5 +1,4 @@
 pub mod Calls
 pub mod Checked
 pub mod HostCalls
-pub mod Parts
 pub mod Slots

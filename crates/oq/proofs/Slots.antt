@@ -56,7 +56,7 @@ use Rattle.slot_faults.proofs.Faults.{clear-not}
 use Rattle.slot_faults.proofs.Slots.{seventeen-tell, slot-oq-fault}
 use Rattle.oq_slot.specs.Code.{ServedLeaves, tableServed}
 use Rattle.oq.specs.Code.{lentSlot, LentLeaves, Lent, countedBy}
-use Rattle.oq.proofs.Parts.{part-behind, put-behind}
+use Rattle.layout.proofs.Parts.{part-behind, put-behind}
 
 ------------------------------------------------------------------------
 -- before the records are looked at

@@ -6,10 +6,11 @@ use mathlib.Core.List.{List, [], _∷_, _++_, append-assoc, append-nil, cons≢n
 use mathlib.Core.Logic.{inl, inr}
 use mathlib.Core.Path.{_≡_, refl, sym, _∙_, ap, ap₂}
 use lib.ListN.{length, take, drop, length-append, length-drop}
-use lib.Seq.{take-at, drop-at, drop-drop, drop-length, take-length}
+use lib.Seq.{take-at, drop-at, drop-drop}
 use Rattle.layout.specs.Host.{filled}
 use Rattle.player_text.specs.Turn.{Standing, Turn, turn, turns, followed}
 use Rattle.layout.proofs.Host.{length-filled}
+use Rattle.layout.proofs.Parts.{part-behind, put-behind}
 use Rattle.player_text.proofs.Pieces.{turn-stuck}
 use Rattle.player_turns.specs.declared.Engine.{Engine}
 use Rattle.player_turns.specs.declared.Stage.{Stage}
@@ -20,16 +21,6 @@ use Rattle.player_turns.specs.Code.{Turned}
 length-nil : (l : List ℕ) → length l ≡ 0 → l ≡ []
 length-nil [] e = refl
 length-nil (b ∷ l) e = absurd (omega arith)
-
--- all that is behind a place
-pub behind-place : (l : List ℕ) (a : ℕ) → take (length l - a) (drop a l) ≡ drop a l
-behind-place l a = ap (λ k. take k (drop a l)) (sym (length-drop a l)) ∙ take-length (drop a l)
-
-pub put-behind : (l : List ℕ) (a : ℕ) (ys : List ℕ) → take a l ++ (ys ++ drop (length l - a) (drop a l)) ≡ take a l ++ ys
-put-behind l a ys =
-    ap (λ r. take a l ++ (ys ++ r))
-    (ap (λ k. drop k (drop a l)) (sym (length-drop a l)) ∙ drop-length (drop a l))
-    ∙ ap (λ r. take a l ++ r) (append-nil ys)
 
 module _ (engine : Engine) (last : Bool) (s₀ : Standing) (text table₀ out₀ : List ℕ) where
   -- so many turns are taken, they wrote w, and m more go on from there
@@ -109,11 +100,11 @@ module _ (engine : Engine) (last : Bool) (s₀ : Standing) (text table₀ out₀
       (take (length out - written) (drop written out)) table′ part stage′ l′ more n)
       (kept-room : length part ≡ length (take (length out - written) (drop written out))) where
     same : length part ≡ length (drop written out)
-    same = kept-room ∙ ap length (behind-place out written)
+    same = kept-room ∙ ap length (part-behind out written)
 
     t : Turned engine (turn (machineOf engine) last (standing stage l table) (drop used text)) (drop used text) table
         (drop written out) table′ part stage′ l′ more n
-    t = rw (behind-place text used, behind-place out written) at given
+    t = rw (part-behind text used, part-behind out written) at given
 
     abbrev out′ : List ℕ
     out′ = take written out ++ (part ++ drop (length out - written) (drop written out))

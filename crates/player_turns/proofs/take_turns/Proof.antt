@@ -6,7 +6,8 @@ use borrow.Author.Needs.{needs}
 use native.Mathlib.Omega.{arith}
 use lib.ListN.{length, length-drop}
 use Rattle.player_turns.specs.Turns.{standing}
-use Rattle.player_turns.proofs.Taking.{Going, behind-place, going-none, going-room, going-length}
+use Rattle.layout.proofs.Parts.{part-behind}
+use Rattle.player_turns.proofs.Taking.{Going, going-none, going-room, going-length}
 use Rattle.player_turns.proofs.Taking.{going-stops, all-within, all-room, all-length, going-on, going-ends}
 
 abbrev Inv-loop : tie.InvT-loop
@@ -53,7 +54,7 @@ take-turn-requires c κs =
     let out = at .loop .out in
     let written = at .loop .written in (
       at .loop .inv .stands,
-      omega (arith, c .before .before .before .loop-test .taken, ap length (behind-place out written), length-drop written out),
+      omega (arith, c .before .before .before .loop-test .taken, ap length (part-behind out written), length-drop written out),
     )
 
 add-used : tie.Need-add-used Inv-loop μ-loop
