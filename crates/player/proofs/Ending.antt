@@ -11,7 +11,8 @@ use Rattle.player_text.specs.Turn.{Over}
 use Rattle.player_turns.specs.declared.Engine.{Engine}
 use Rattle.player_turns.specs.declared.Stage.{Stage}
 use Rattle.player_turns.specs.declared.Stage.the-variants.{Opening, Playing, Ended, TurnedBack}
-use Rattle.player_turns.specs.Turns.{standing, turnRoom, Took}
+use Rattle.player_lines.specs.Writing.{turnRoom}
+use Rattle.player_turns.specs.Turns.{standing, Took}
 use Rattle.player_turns.specs.Driver.{Held, place, Run, stops}
 use Rattle.player_turns.proofs.Driver.{run-over}
 use Rattle.player.specs.Code.{Finished, statusOf}

@@ -21,7 +21,8 @@ use Rattle.player_text.proofs.Pieces.{ahead, ahead-one, Go, stays, goes as gone
 use Rattle.player_text.proofs.Pieces.{Plays, ends, receives, turns-play, plays-over, EndsAs, ends-once}
 use Rattle.player_text.proofs.Pieces.{whatever-pieces, whatever-end}
 use Rattle.player_turns.specs.declared.Engine.{Engine}
-use Rattle.player_turns.specs.Turns.{machineOf, standing, turnRoom}
+use Rattle.player_lines.specs.Writing.{turnRoom}
+use Rattle.player_turns.specs.Turns.{machineOf, standing}
 use Rattle.player_turns.specs.Driver.{Held, fresh, place, Round, Run, stops, goes}
 use Rattle.player_turns.proofs.Engines.{ticks-of, same-of}
 

@@ -40,10 +40,11 @@ use Rattle.player_turns.specs.declared.Engine.{Engine}
 use Rattle.player_turns.specs.declared.Engine.the-variants.{Crossbar, Oq}
 use Rattle.player_turns.specs.declared.Played.{Played}
 use Rattle.player_turns.specs.declared.Played.the-variants.{Ran, Stopped}
-use Rattle.player_turns.specs.Turns.{machineOf, TableOf, Wrote}
+use Rattle.player_lines.specs.Writing.{Wrote}
+use Rattle.player_turns.specs.Turns.{machineOf, TableOf}
 use Rattle.player_turns.specs.Code.{tableTaken, SlotLeft, slotText, playedOf, SlotPlayed}
 use Rattle.player_turns.proofs.Engines.{table-is, table-sound, went}
-use Rattle.player_turns.proofs.Sent.{departures-taken}
+use Rattle.player_lines.proofs.Sent.{departures-taken}
 
 -- what a slot of each engine leaves
 

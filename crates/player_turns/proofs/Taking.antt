@@ -14,7 +14,8 @@ use Rattle.layout.proofs.Parts.{part-behind, put-behind}
 use Rattle.player_text.proofs.Pieces.{turn-stuck}
 use Rattle.player_turns.specs.declared.Engine.{Engine}
 use Rattle.player_turns.specs.declared.Stage.{Stage}
-use Rattle.player_turns.specs.Turns.{machineOf, standing, Stands, Wrote, tableThen, tableAfterTurns, Took, turnRoom}
+use Rattle.player_lines.specs.Writing.{Wrote, turnRoom}
+use Rattle.player_turns.specs.Turns.{machineOf, standing, Stands, tableThen, tableAfterTurns, Took}
 use Rattle.player_turns.proofs.Turns.{table-stays}
 use Rattle.player_turns.specs.Code.{Turned}
 

@@ -40,9 +40,8 @@ use Rattle.trace_reader.proofs.Answered.{Ahead, answer-slot-e, answer-end-e, an
 use Rattle.trace_reader.proofs.Answers.{headerIn-more, headerIn-known, nextIn-more, nextIn-known, opening-short, block-more}
 use Rattle.trace_reader.proofs.Pieces.{next-line}
 use Rattle.layout.specs.Entry.{clockIn}
-use Rattle.layout.specs.Host.{filled, startCall, bufferAfter}
+use Rattle.layout.specs.Host.{filled}
 use Rattle.layout.specs.Table.{encode, stateOf, tableSize}
-use Rattle.layout.proofs.Host.{startCall-done}
 use Rattle.layout.proofs.Table.{decode-length, encode-clock, length-encode, sound-clock, stateOf-encode, encode-decode}
 use Rattle.player_text.proofs.SameText.{header-first}
 use Rattle.player_turns.specs.declared.Engine.{Engine}
@@ -52,7 +51,8 @@ use Rattle.player_turns.specs.declared.Stage.{Stage}
 use Rattle.player_turns.specs.declared.Stage.the-variants.{Opening as OpeningStage, Playing, Ended, TurnedBack}
 use Rattle.player_text.specs.Player.{lineOf}
 use Rattle.player_text.specs.Turn.{Standing, playing, ended, turnedBack, Turn, ending, slotTurn, nextTurn, headerTurn, turn}
-use Rattle.player_turns.specs.Turns.{machineOf, TableOf, standing, lineAt, tableThen, Stands, Wrote}
+use Rattle.player_lines.specs.Writing.{Wrote}
+use Rattle.player_turns.specs.Turns.{machineOf, TableOf, standing, lineAt, tableThen, Stands}
 use Rattle.player_turns.specs.Code.{Turned, Closed, SlotPlayed}
 use Rattle.player_turns.proofs.Engines.{soundOf, sound-of, table-is, table-sound, table-made, fresh-of, fresh-sound}
 use Rattle.player_turns.proofs.Engines.{ticks-of, went}
@@ -222,19 +222,17 @@ module _ (engine : Engine) (last : Bool) (t table buffer : List ℕ) (size : len
       (ap (headerTurn (machineOf engine) t) (read ∙ ap known (opening-refused-e last t e h))) size w c
 
   pub header-open : {ports first i : ℕ} → o ≡ Open ports first i → (table′ buffer′ : List ℕ) (n : ℕ)
-      → table′ ≡ bufferAfter table (startCall ports first table)
+      → table′ ≡ filled (encode (fresh ports first)) table
       → Wrote (line Ports ports ++ line First first) buffer buffer′ n
       → Turned engine atHeader t table buffer table′ buffer′ Playing 3 i n
-  unfolding headerTurn bufferAfter fresh
+  unfolding headerTurn fresh
   header-open {ports} {first} {i} h table′ buffer′ n start w =
       let read = header-read (λ k. (let z : _≡_ {A = ℕ} 0 1 = cc in omega arith)) in
       let (there, within) = opening-open-e last t e h in
       let (range, _) = rw there at (header-exact t) in
       let fine = fresh-sound engine ports first range (header-first t there) in
       let made : table′ ≡ encode (fresh ports first) =
-      start
-      ∙ ap (bufferAfter table) (startCall-done ports first table range (omega arith))
-      ∙ filled-table (fresh ports first) table (sound-of engine (fresh ports first) fine) size in
+      start ∙ filled-table (fresh ports first) table (sound-of engine (fresh ports first) fine) size in
       plays engine atHeader t table buffer (line Ports ports ++ line First first) buffer′ table′ (fresh ports first) 3 i n
       (ap (headerTurn (machineOf engine) t) (read ∙ ap known there)
       ∙ ap (λ s. record { written = line Ports ports ++ line First first; left = drop i t; after = playing 3 s })

@@ -14,7 +14,8 @@ use Rattle.player_text.specs.Turn.{Standing}
 use Rattle.player_turns.specs.declared.Engine.{Engine}
 use Rattle.player_turns.specs.declared.Stage.{Stage}
 use Rattle.player_turns.specs.declared.Stage.the-variants.{Opening}
-use Rattle.player_turns.specs.Turns.{standing, turnRoom, Took}
+use Rattle.player_lines.specs.Writing.{turnRoom}
+use Rattle.player_turns.specs.Turns.{standing, Took}
 
 -- the stage, the number of the next line, the table, and the text that is left
 pub record Held : Type 0 where

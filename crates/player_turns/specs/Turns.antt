@@ -5,25 +5,24 @@
 --     lineAt           the number of the next line, as it is kept between turns
 --     Stands           what a turn asks of these
 --     tableThen, tableAfterTurns    the table after a turn, and after turns
---     Wrote, Left, Took             what a turn leaves, and what turns leave
+--     Left, Took                    what a turn leaves, and what turns leave
 use Prim.Native.Nat.{ℕ, zero, suc, _+_, _*_, _-_, _≤_, _<_}
 use mathlib.Core.List.{List, [], _∷_}
 use mathlib.Core.Bool.{Bool, true}
 use mathlib.Core.Logic.{_⊎_}
 use mathlib.Core.Path.{_≡_}
 use lib.ListN.{length, drop}
-use Rattle.cell.specs.Limits.{portLimit}
 use Rattle.model.specs.Oq.{allBuffered}
 use Rattle.model.specs.State.{Switch}
 use Rattle.trace.specs.Contents.{blockLines}
 use Rattle.layout.specs.Entry.{clockIn}
-use Rattle.layout.specs.Host.{filled}
 use Rattle.layout.specs.Table.{IsTable, encode, stateOf, tableSize}
 use Rattle.player_turns.specs.declared.Engine.{Engine}
 use Rattle.player_turns.specs.declared.Engine.the-variants.{Crossbar, Oq}
 use Rattle.player_turns.specs.declared.Stage.{Stage}
 use Rattle.player_turns.specs.declared.Stage.the-variants.{Opening, Playing, Ended, TurnedBack}
 use Rattle.player_text.specs.Player.{Machine, crossbar, oq}
+use Rattle.player_lines.specs.Writing.{turnRoom, Wrote}
 use Rattle.player_text.specs.Turn.{Standing, opening, playing, ended, turnedBack, Turn, turn, turns}
 
 unfoldable pub machineOf : Engine → Machine Switch
@@ -41,13 +40,6 @@ standing Playing l table = playing l (stateOf table)
 standing Ended l table = ended
 standing TurnedBack l table = turnedBack
 
--- what one turn can write: the line of a slot, 16 bytes, and sixteen departures of five lines, 76 bytes each
-abbrev pub departureRoom : ℕ
-departureRoom = 76
-
-abbrev pub turnRoom : ℕ
-turnRoom = 16 + portLimit * departureRoom
-
 -- the number of the next line, where the player stands; at an end there is none, and 0 stands for it
 unfoldable pub lineAt : Standing → ℕ
 lineAt opening = 1
@@ -62,11 +54,6 @@ pub record Stands (engine : Engine) (stage : Stage) (l : ℕ) (table : List ℕ)
   pub number : l ≡ lineAt (standing stage l table)
   pub good : stage ≡ Playing → TableOf engine table
   pub few : stage ≡ Playing → l ≤ 3 + blockLines * clockIn table
-
--- a text at the start of a buffer, and how long it is
-pub record Wrote (t buffer after : List ℕ) (n : ℕ) : Type 0 where
-  pub bytes : after ≡ filled t buffer
-  pub count : n ≡ length t
 
 -- the table once the player stands there: that of its switch; before the header and at the end it is kept
 unfoldable pub tableThen : Standing → List ℕ → List ℕ

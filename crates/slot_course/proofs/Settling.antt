@@ -30,9 +30,10 @@ use Rattle.slot_view.proofs.Window.{waitingAt-at, waitingAt-cell, waitingAt-inp
 use Rattle.slot_moves.proofs.Ports.{numberBy, ByPort, has, lacks, by-none, by-cases, by-one, inputOf, outputOf}
 use Rattle.slot_moves.proofs.Ports.{straight-output, scheduled-input, scheduledOf-by, straightOf-by}
 use Rattle.slot_moves.proofs.Known.{Known, known}
-use Rattle.slot_moves.proofs.Rules.{straight-free, straight-scheduled, straight-match}
+use Rattle.slot_steps.proofs.Rules.{straight-free, straight-scheduled, straight-match}
 use Rattle.slot_matching.specs.CodeFound.{numbersOf, Found}
-use Rattle.slot_moves.specs.CodeMoves.{straightOf, straightTo}
+use Rattle.slot_steps.specs.CodeSteps.{straightTo}
+use Rattle.slot_moves.specs.CodeMoves.{straightOf}
 use Rattle.slot_moves.specs.CodeMoved.{Settled}
 use Rattle.layout.specs.Code.{portsIn}
 use Rattle.slot_course.proofs.Numbers.{matched-numbers, proposals-numbers}

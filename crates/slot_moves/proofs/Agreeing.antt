@@ -4,11 +4,11 @@ use native.Mathlib.Omega.{arith}
 use mathlib.Core.Bool.{Bool, true, false}
 use mathlib.Core.Path.{_≡_, refl, sym, _∙_, ap, ap₂, subst}
 use mathlib.Core.Logic.{_⊎_, inl, inr, _≢_}
-use mathlib.Core.List.{List, []}
+use mathlib.Core.List.{List}
 use borrow.Author.Tests.{eqb-true, eqb-false, ltb-true, ltb-false}
 use lib.Dec.{eqb, ltb}
 use lib.ListN.{length, getD, set}
-use lib.Seq.{getD-set-same, getD-set-other, set-out, set-getD}
+use lib.Seq.{getD-set-same, getD-set-other, set-out}
 use Rattle.laws.proofs.Tests.{either, clash}
 use Rattle.cell.specs.Limits.{sectionRoom}
 use Rattle.model.specs.State.{isCrossed}
@@ -17,6 +17,7 @@ use Rattle.layout.specs.Table.{placeOf, entryOf, entryLimit}
 use Rattle.layout_table.specs.CodeEntries.{nowhere}
 use Rattle.slot_view.specs.CodeView.{crossWith, waitingAt, crosspointAt, InTable, Agrees, Square}
 use Rattle.slot_view.specs.CodeScan.{Readable}
+use Rattle.slot_steps.proofs.Steps.{cross-nowhere}
 use Rattle.slot_moves.specs.CodeMoves.{written, sending, pulling}
 use Rattle.slot_view.proofs.Squares.{square-with, cross-same, cross-row, cross-other}
 use Rattle.slot_view.proofs.Window.{inTable-e, inTable-i, inTable-below}
@@ -35,23 +36,6 @@ crossedAt places k = isCrossed (placeOf (getD places k 0))
 module _ (cross : List (List ℕ)) (square : Square cross) where
   pub cross-column : (i o k j p : ℕ) → i < 16 → p ≢ o → crosspointAt (crossWith cross i o k) j p ≡ crosspointAt cross j p
   cross-column i o k j p row d = cross-other cross square i o k j p row (λ _. d)
-
-  -- a number that no entry has changes nothing
-  pub cross-nowhere : (i o k : ℕ) → 16 ≤ i → crossWith cross i o k ≡ cross
-  unfolding crossWith
-  cross-nowhere i o k h = set-out cross i (set (getD cross i []) o k) (let s = square .rows in omega arith)
-
-  pub cross-past : (i o k : ℕ) → 16 ≤ o → crossWith cross i o k ≡ cross
-  unfolding crossWith
-  cross-past i o k h = go (either (ltb i 16))
-    where
-      go : (ltb i 16 ≡ true) ⊎ (ltb i 16 ≡ false) → set cross i (set (getD cross i []) o k) ≡ cross
-      go (inl t) =
-          let row : length (getD cross i []) ≡ 16 = square .columns i (ltb-true _ _ t) in
-          ap (set cross i) (set-out (getD cross i []) o k (omega arith)) ∙ set-getD cross i []
-      go (inr t) =
-          let past : 16 ≤ i = ltb-false _ _ t in
-          set-out cross i (set (getD cross i []) o k) (omega (arith, square .rows))
 
 ------------------------------------------------------------------------
 -- rounds keep the shape

@@ -26,9 +26,11 @@ use Rattle.slot_view.specs.CodeView.{waitingAt, inTable, InTable}
 use Rattle.slot_view.specs.CodeViewed.{Buffered, BestBuffered}
 use Rattle.slot_view.proofs.Choices.{Ordered, best-same, best-more}
 use Rattle.slot_view.proofs.Window.{inTable-i, inTable-below, waitingAt-at, waitingAt-cell}
-use Rattle.slot_moves.specs.CodeMoves.{written, entered, entering}
+use Rattle.slot_steps.specs.CodeSteps.{entered}
+use Rattle.slot_moves.specs.CodeMoves.{written, entering}
 use Rattle.slot_moves.proofs.Agreeing.{outputAt, output-small}
-use Rattle.slot_moves.proofs.Entering.{entered-none, entered-own, entered-other, length-entered}
+use Rattle.slot_steps.proofs.Steps.{entered-none}
+use Rattle.slot_moves.proofs.Entering.{entered-own, entered-other, length-entered}
 use Rattle.layout.specs.Code.{portsIn}
 use Rattle.slot_moves.proofs.Written.{hit-miss, length-written, written-miss}
 

@@ -36,7 +36,8 @@ use Rattle.slot_view.proofs.Own.{table-readable, own-sections, waitingIn-state}
 use Rattle.slot_view.proofs.Placed.{inTable-waiting, length-numbers, decode-ports, decode-clock}
 use Rattle.slot_view.proofs.Placing.{placed-past}
 use Rattle.slot_moves.specs.CodeMoved.{afterPhase}
-use Rattle.slot_moves.specs.CodeMoves.{written, placing, placeAt}
+use Rattle.slot_steps.specs.CodeSteps.{placeAt}
+use Rattle.slot_moves.specs.CodeMoves.{written, placing}
 use Rattle.slot_moves.proofs.Rounds.{placing-kept}
 use Rattle.slot_moves.proofs.Written.{length-written}
 

@@ -10,8 +10,8 @@ use mathlib.Core.Logic.{_⊎_, inl, inr, _≢_}
 use mathlib.Core.List.{List}
 use borrow.Author.Tests.{eqb-true, eqb-false, ltb-true, ltb-false}
 use lib.Dec.{eqb, ltb}
-use lib.ListN.{length, getD, set, length-set}
-use lib.Seq.{getD-set-same, getD-set-other, set-getD}
+use lib.ListN.{length, getD, length-set}
+use lib.Seq.{getD-set-same, getD-set-other}
 use Rattle.laws.proofs.Tests.{either}
 use Rattle.cell.specs.Limits.{sectionRoom}
 use Rattle.cell.proofs.Order.{over-total}
@@ -21,16 +21,17 @@ use Rattle.layout.proofs.Records.{entryAt-input}
 use Rattle.layout.specs.Code.{portsIn}
 use Rattle.layout.specs.Table.{entryLimit}
 use Rattle.layout_table.specs.CodeEntries.{nowhere, betterOf}
-use Rattle.layout_table.proofs.Better.{better-none}
 use Rattle.slot_view.specs.CodeView.{crossWith, inTable, crosspointAt, InTable, Agrees, Square}
 use Rattle.slot_view.specs.CodeScan.{Readable, Bests}
 use Rattle.slot_view.proofs.Choices.{Ordered, best-same, best-more}
 use Rattle.slot_view.proofs.Window.{agrees-holds, inTable-below}
 use Rattle.slot_leaders.proofs.Best.{Crossed, BestUpTo, of-best}
-use Rattle.slot_moves.specs.CodeMoves.{written, sending, entered, entering}
+use Rattle.slot_steps.specs.CodeSteps.{entered}
+use Rattle.slot_moves.specs.CodeMoves.{written, sending, entering}
 use Rattle.slot_moves.proofs.Agreeing.{outputAt, agrees-real, agrees-sending, output-small, Sendable}
 use Rattle.slot_view.proofs.Squares.{cross-same, cross-row}
-use Rattle.slot_moves.proofs.Agreeing.{cross-column, cross-nowhere, square-sending, sent-empty}
+use Rattle.slot_steps.proofs.Steps.{cross-nowhere, entered-none}
+use Rattle.slot_moves.proofs.Agreeing.{cross-column, square-sending, sent-empty}
 
 ------------------------------------------------------------------------
 -- the column
@@ -45,13 +46,6 @@ module _ (table : List ℕ) where
   unfolding entering
   length-entering f zero best = refl
   length-entering f (suc n) best = length-entered (entering table f n best) (f n) ∙ length-entering f n best
-
-  -- no cell changes nothing
-  pub entered-none : (best : List ℕ) (k : ℕ) → nowhere ≤ k → entered table best k ≡ best
-  unfolding entered
-  entered-none best k h =
-      ap (set best (outputAt table k)) (better-none table (getD best (outputAt table k) 0) k h)
-      ∙ set-getD best (outputAt table k) 0
 
   module _ (best : List ℕ) (size : length best ≡ 16) (k : ℕ) where
     pub entered-own : outputAt table k < 16

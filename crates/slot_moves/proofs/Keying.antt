@@ -14,9 +14,11 @@ use Rattle.layout.specs.Entry.{entryAt}
 use Rattle.layout_table.specs.CodeEntries.{nowhere}
 use Rattle.slot_view.specs.CodeView.{crossWith, crosspointAt, Square}
 use Rattle.slot_view.specs.CodeViewed.{noKey, keyAt, Keyed}
-use Rattle.slot_moves.specs.CodeMoves.{sending, keying, pulling, unkeying, Bound}
+use Rattle.slot_steps.specs.CodeSteps.{Bound}
+use Rattle.slot_moves.specs.CodeMoves.{sending, keying, pulling, unkeying}
 use Rattle.slot_view.proofs.Squares.{cross-same, cross-other, square-with}
-use Rattle.slot_moves.proofs.Agreeing.{cross-nowhere, cross-past, square-sending, square-pulling}
+use Rattle.slot_steps.proofs.Steps.{cross-nowhere, cross-past}
+use Rattle.slot_moves.proofs.Agreeing.{square-sending, square-pulling}
 
 keyAt-nowhere : (table : List ℕ) → keyAt table nowhere ≡ noKey
 unfolding keyAt

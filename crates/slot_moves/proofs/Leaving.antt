@@ -41,8 +41,9 @@ use Rattle.slot_view.specs.CodeViewed.{isHead, listedSet, headSet, ListsOf}
 use Rattle.slot_view.proofs.Together.{Contiguous}
 use Rattle.slot_view.proofs.Window.{inTable-i, inTable-e, inTable-below, inTable-section, waitingAt-at, waitingAt-cell}
 use Rattle.slot_view.proofs.Window.{waitingAt-input, waitingAt-place}
-use Rattle.slot_moves.specs.CodeMoves.{written, left, nextOf, headsLeft, leftHeads, leaving, leavingHeads}
-use Rattle.slot_moves.proofs.Steps.{left-none, leftHeads-none}
+use Rattle.slot_steps.specs.CodeSteps.{left, nextOf, headsLeft, leftHeads}
+use Rattle.slot_moves.specs.CodeMoves.{written, leaving, leavingHeads}
+use Rattle.slot_steps.proofs.Steps.{left-none, leftHeads-none}
 use Rattle.slot_moves.proofs.Written.{hit, hit-miss, length-written, written-hit, written-miss}
 
 ------------------------------------------------------------------------

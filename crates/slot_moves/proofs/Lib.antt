@@ -11,6 +11,4 @@ pub mod Ports
 pub mod Pulling
 pub mod Relocated
 pub mod Rounds
-pub mod Rules
-pub mod Steps
 pub mod Written

@@ -43,7 +43,8 @@ use Rattle.slot_view.proofs.Window.{inTable-i, inTable-below, waitingAt-at, wai
 use Rattle.slot_leaders.proofs.Best.{best-of}
 use Rattle.slot_moves.specs.CodeMoved.{afterPhase, Settled, OccupanciesOf}
 use Rattle.slot_moves.specs.CodeMoves.{written, sending, entering}
-use Rattle.slot_moves.specs.CodeMoves.{straightTo, markOf, sendOf, takeOf, sentOf, pulledOf, AllBound}
+use Rattle.slot_steps.specs.CodeSteps.{straightTo, markOf, sendOf, takeOf}
+use Rattle.slot_moves.specs.CodeMoves.{sentOf, pulledOf, AllBound}
 use Rattle.slot_moves.specs.CodeMoves.{Straightened, Sent, Pulled, Counted}
 use Rattle.slot_moves.proofs.Agreeing.{outputAt, crossedAt, agrees-filled, agrees-real, agrees-straight, Sendable, output-small}
 use Rattle.slot_moves.proofs.Agreeing.{Stands, crossed-hit, crossed-miss, buffered-byte, crossed-byte, agrees-sending}
@@ -63,7 +64,7 @@ use Rattle.slot_moves.proofs.Relocated.{inTable-relocated}
 use Rattle.slot_moves.proofs.Rounds.{placesIn-placing, bound-kept, kept-straightened, kept-sent, kept-pulled}
 use Rattle.slot_moves.proofs.Rounds.{heads-kept, sending-kept, keying-kept, entering-kept}
 use Rattle.slot_moves.proofs.Rounds.{square-sent, square-pulled}
-use Rattle.slot_moves.proofs.Rules.{mark-some, mark-none, send-none, send-scheduled, take-none, take-best}
+use Rattle.slot_steps.proofs.Rules.{mark-some, mark-none, send-none, send-scheduled, take-none, take-best}
 use Rattle.slot_moves.proofs.Written.{hit, Hit, hit-i, hit-e, hit-miss, written-hit, written-miss, written-is}
 
 ------------------------------------------------------------------------

@@ -14,14 +14,15 @@ use Rattle.layout_table.specs.CodeEntries.{nowhere}
 use Rattle.slot_view.specs.CodeView.{crossWith, Square, placesIn}
 use Rattle.slot_view.specs.CodeViewed.{noKey, keyAt}
 use Rattle.slot_view.proofs.Placing.{Kept, kept-same, kept-trans, placed-kept, placesIn-placed, kept-key}
-use Rattle.slot_moves.specs.CodeMoves.{written, placeAt, placing, left, leftHeads, leaving, leavingHeads, sending}
-use Rattle.slot_moves.specs.CodeMoves.{keying, pulling, unkeying, entered, entering, markOf, Bound}
-use Rattle.slot_moves.specs.CodeMoves.{Straight, Crossed, Taken, Straightened, Sent, Pulled}
+use Rattle.slot_moves.specs.CodeMoves.{written, placing, leaving, leavingHeads, sending}
+use Rattle.slot_moves.specs.CodeMoves.{keying, pulling, unkeying, entering}
+use Rattle.slot_steps.specs.CodeSteps.{placeAt, left, leftHeads, entered, markOf, Bound, Straight, Crossed, Taken}
+use Rattle.slot_moves.specs.CodeMoves.{Straightened, Sent, Pulled}
 use Rattle.slot_moves.proofs.Written.{length-written}
 use Rattle.slot_view.proofs.Squares.{square-with}
 use Rattle.slot_moves.proofs.Agreeing.{square-sending, square-pulling}
 use Rattle.slot_moves.proofs.Entering.{length-entering}
-use Rattle.slot_moves.proofs.Steps.{entered-kept, leftHeads-kept}
+use Rattle.slot_steps.proofs.Steps.{entered-kept, leftHeads-kept}
 
 ------------------------------------------------------------------------
 -- the table

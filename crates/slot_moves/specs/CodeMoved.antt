@@ -13,7 +13,8 @@ use Rattle.model.specs.Crossbar.{occupancies}
 use Rattle.slot_view.specs.CodeChoices.{scheduledOf}
 use Rattle.slot_view.specs.CodeView.{waitingIn}
 use Rattle.layout.specs.Code.{portsIn}
-use Rattle.slot_moves.specs.CodeMoves.{straightTo, straightOf}
+use Rattle.slot_steps.specs.CodeSteps.{straightTo}
+use Rattle.slot_moves.specs.CodeMoves.{straightOf}
 
 unfoldable pub afterPhase : Switch → Switch
 afterPhase s =

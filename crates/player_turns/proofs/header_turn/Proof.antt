@@ -1,8 +1,12 @@
 -- The header's answer says how the turn goes: the trace is opened, refused, or more text is needed.
 use native.Mathlib.Omega.{arith}
+use mathlib.Core.Path.{_∙_, ap₂}
 use borrow.Author.Needs.{needs}
+use Rattle.model.specs.State
+use Rattle.layout.specs.Host.{filled}
+use Rattle.layout.specs.Table.{encode}
 use Rattle.trace.specs.Lines.{refusalText}
-use Rattle.player_turns.proofs.Lines.{wrote-refusal}
+use Rattle.player_lines.proofs.Lines.{wrote-refusal}
 use Rattle.player_turns.proofs.Turns.{header-open, header-refused, header-short}
 use Rattle.player_turns.proofs.header_turn.Statement.{statement}
 use Rattle.player_turns.proofs.header_turn.Tie as tie
@@ -13,8 +17,11 @@ read-header-requires c κs = search needs
 enum-known-ports : tie.Need-enum-known-ports
 enum-known-ports c = search needs
 
-start-requires : tie.Need-start-requires
-start-requires c κs = search needs
+fresh-requires : tie.Need-fresh-requires
+fresh-requires c κs = search needs
+
+write-fresh-requires : tie.Need-write-fresh-requires
+write-fresh-requires c κs = search needs
 
 put-header-requires : tie.Need-put-header-requires
 put-header-requires c κs = search needs
@@ -43,13 +50,17 @@ same-length-2 c = search needs
 returns : tie.Need-returns
 returns c engine =
     let put = c .before .before in
-    let made = put .before .before .before .before in
-    let told = made .before .before .before in
+    let wrote = put .before .before .before .before in
+    let made = wrote .before .before in
+    let told = made .before .before in
     let read = told .before .before in
     let start = read .before .before .before .before in
     header-open engine (start .args .last) (start .args .text .now) (start .args .table .now) (start .args .out .now)
-    (start .pre .0) (read .read-header .ensures) (told .ports .given .1) (made .start .last .1 .1 .0) (put .put-header .last .0)
-    (put .put-header .result) (made .start .ensures .1) (put .put-header .ensures)
+    (start .pre .0) (read .read-header .ensures) (told .ports .given .1) (wrote .write-fresh .last .1 .0) (put .put-header .last .0)
+    (put .put-header .result)
+    (wrote .write-fresh .ensures
+    ∙ ap₂ (λ n f. filled (encode (State.fresh n f)) (start .args .table .now)) (made .fresh .ensures .0) (made .fresh .ensures .1))
+    (put .put-header .ensures)
 
 same-length-3 : tie.Need-same-length-3
 same-length-3 c = search needs
@@ -81,7 +92,8 @@ header-turn-spec =
     (tie.spec
     read-header-requires
     enum-known-ports
-    start-requires
+    fresh-requires
+    write-fresh-requires
     put-header-requires
     enum-known-refusal
     cast-put-refusal

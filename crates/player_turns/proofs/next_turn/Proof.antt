@@ -10,7 +10,7 @@ use Rattle.trace.proofs.Tests.{fits32-i}
 use Rattle.trace.specs.Lines.{refusalText}
 use Rattle.layout.proofs.Table.{decode-length}
 use Rattle.player_turns.proofs.Engines.{table-is}
-use Rattle.player_turns.proofs.Lines.{line-le, wrote-put, wrote-refusal}
+use Rattle.player_lines.proofs.Lines.{line-le, wrote-put, wrote-refusal}
 use Rattle.player_turns.proofs.Turns.{block-size, numbers-size, next-more, next-end, next-bad, next-stopped, next-ran}
 use Rattle.player_turns.proofs.next_turn.Statement.{statement}
 use Rattle.player_turns.proofs.next_turn.Tie as tie

@@ -5,7 +5,7 @@ use lib.ListN.{take}
 use Rattle.trace.specs.Flat.{arrivalsFrom}
 use Rattle.trace.specs.Lines.{refusalText}
 use Rattle.trace_writer.proofs.Flat.{fit32-i, arrivalsFrom-fits}
-use Rattle.player_turns.proofs.Lines.{wrote-refusal}
+use Rattle.player_lines.proofs.Lines.{wrote-refusal}
 use Rattle.player_turns.proofs.Slots.{slot-stopped, slot-ran}
 use Rattle.player_turns.proofs.play_slot.Statement.{statement}
 use Rattle.player_turns.proofs.play_slot.Tie as tie

@@ -2,7 +2,8 @@
 use Prim.Native.Nat.{_-_, _≤_}
 use native.Mathlib.Omega.{arith}
 use mathlib.Core.Path.{_≡_, _∙_}
-use Rattle.slot_moves.specs.CodeMoves.{straightTo, Straightened}
+use Rattle.slot_steps.specs.CodeSteps.{straightTo}
+use Rattle.slot_moves.specs.CodeMoves.{Straightened}
 use Rattle.slot_moves.proofs.Rounds.{straightened-none, straightened-more, kept-straightened, bound-kept}
 use Rattle.slot_moves.proofs.Rounds.{length-straight-lists, length-straight-heads, length-straight-best, length-inputs, length-outputs}
 use Rattle.slot_moves.proofs.go_straight.Statement.{statement}

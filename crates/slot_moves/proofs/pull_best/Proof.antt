@@ -2,7 +2,8 @@
 use Prim.Native.Nat.{_-_, _≤_}
 use native.Mathlib.Omega.{arith}
 use mathlib.Core.Path.{_≡_, _∙_}
-use Rattle.slot_moves.specs.CodeMoves.{takeOf, Pulled}
+use Rattle.slot_steps.specs.CodeSteps.{takeOf}
+use Rattle.slot_moves.specs.CodeMoves.{Pulled}
 use Rattle.slot_moves.proofs.Rounds.{pulled-none, pulled-more, kept-pulled, bound-kept, square-pulled, square-pulled-keys}
 use Rattle.slot_moves.proofs.Rounds.{length-pulled-best}
 use Rattle.slot_moves.proofs.pull_best.Statement.{statement}

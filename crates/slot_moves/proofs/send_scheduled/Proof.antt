@@ -2,7 +2,8 @@
 use Prim.Native.Nat.{_-_, _≤_}
 use native.Mathlib.Omega.{arith}
 use mathlib.Core.Path.{_≡_, _∙_}
-use Rattle.slot_moves.specs.CodeMoves.{sendOf, Sent}
+use Rattle.slot_steps.specs.CodeSteps.{sendOf}
+use Rattle.slot_moves.specs.CodeMoves.{Sent}
 use Rattle.slot_moves.proofs.Rounds.{sent-none, sent-more, kept-sent, bound-kept, square-sent, square-sent-keys}
 use Rattle.slot_moves.proofs.Rounds.{length-sent-lists, length-sent-heads, length-sent-best}
 use Rattle.slot_moves.proofs.send_scheduled.Statement.{statement}

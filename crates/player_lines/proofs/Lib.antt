@@ -1,0 +1,3 @@
+pub mod Lines
+pub mod Records
+pub mod Sent
