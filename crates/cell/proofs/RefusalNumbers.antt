@@ -4,7 +4,7 @@ use lib.Dec.{lit≤}
 use Rattle.cell.specs.declared.Refusal.{Refusal}
 use Rattle.cell.specs.declared.Refusal.the-variants.{BadSize, BrokenTable, ClockEnd, NoSuchPort, NoSuchFlow}
 use Rattle.cell.specs.declared.Refusal.the-variants.{InputOrder, RankOrder, Full, BadLine, ShortBuffer}
-use Rattle.cell.specs.declared.Refusal.the-variants.{BadName, CuesFull, NoSuchCue}
+use Rattle.cell.specs.declared.Refusal.the-variants.{BadName, CuesFull, NoSuchCue, BadWeight, RankEnd}
 use Rattle.cell.specs.Refusal.{number}
 
 pub number-range : (r : Refusal) → (1 ≤ number r) × (number r ≤ 99)
@@ -21,3 +21,5 @@ number-range ShortBuffer = (lit≤ tt, lit≤ tt)
 number-range BadName = (lit≤ tt, lit≤ tt)
 number-range CuesFull = (lit≤ tt, lit≤ tt)
 number-range NoSuchCue = (lit≤ tt, lit≤ tt)
+number-range BadWeight = (lit≤ tt, lit≤ tt)
+number-range RankEnd = (lit≤ tt, lit≤ tt)

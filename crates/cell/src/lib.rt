@@ -61,6 +61,10 @@ pub enum Refusal {
     CuesFull,
     // no such cue: no cue of this name is held
     NoSuchCue,
+    // bad weight: at a fair output the rank is not 1 to 1,024
+    BadWeight,
+    // rank end: at a fair output the rank made passes 4,294,967,295
+    RankEnd,
 }
 
 impl Refusal {
@@ -82,6 +86,8 @@ impl Refusal {
             Refusal::BadName => 11,
             Refusal::CuesFull => 12,
             Refusal::NoSuchCue => 13,
+            Refusal::BadWeight => 14,
+            Refusal::RankEnd => 15,
         }
     }
 }

@@ -1,5 +1,5 @@
 -- The checks 4 to 8 of a slot's records.
---     same-faults                          they look only at the bag of the cells in the switch
+--     same-fault, same-faults              they look only at the bag of the cells in the switch
 --     port-input, port-output, admitted    what they say of records without a fault
 --     few-records                          there are no more of them than ports
 use Prim.Native.Nat.{ℕ, _+_, _≤_, _<_}
@@ -37,7 +37,7 @@ module _ (ports : ℕ) (waiting waiting′ : List Cell) (bag : SameBag waiting w
   unfolding full
   same-full c = ap inputFull (bag (λ d. eqb (d .input) (c .input)))
 
-  same-fault : (before : Option Cell) (c : Cell) → fault ports waiting before c ≡ fault ports waiting′ before c
+  pub same-fault : (before : Option Cell) (c : Cell) → fault ports waiting before c ≡ fault ports waiting′ before c
   unfolding fault
   same-fault before c = rw (same-rank c, same-full c)
 

@@ -1,7 +1,7 @@
 -- Cells in less cells out is the number waiting, for every list of calls without an accepted return from a fresh
--- switch and a tally of zeros (`balance`), and neither count reaches its top (`counts-below`). In one slot: those
--- waiting after it and those sent are those waiting before it and those that came (`run-balance`), because each output
--- sends at most one cell.
+-- switch, whatever outputs are fair, and a tally of zeros (`balance`), and neither count reaches its top
+-- (`counts-below`). In one slot: those waiting after it and those sent are those waiting before it and those that came
+-- (`run-balance`), because each output sends at most one cell.
 use Prim.Native.Nat.{ℕ, zero, suc, _+_, _*_, _≤_, _<_}
 use native.Mathlib.Omega.{arith}
 use mathlib.Core.Bool.{Bool, true, false, not, _&&_, _||_}
@@ -25,24 +25,25 @@ use Rattle.cell.specs.Cell.{accepted, arrivalFits}
 use Rattle.cell.specs.Limits.{portLimit, portsInRange, fits32, clockEnd}
 use Rattle.model.specs.State.{Entry, Switch, fresh, cells, isBuffered}
 use Rattle.model.specs.Checks.{firstFault}
-use Rattle.model.specs.Crossbar.{Course, run, slot, switchAfter, leaving, departuresOf}
+use Rattle.model.specs.Crossbar.{Course, run, leaving, departuresOf}
+use Rattle.model.specs.Fair.{make, Fair, marked, slotOf, afterOf, fairSlot}
 use Rattle.model.specs.Phase.{Waiting, waiting, among, beats, sameOutput}
 use Rattle.model.specs.CodeSlackness.{Orderly, otherNumber}
 use Rattle.model.specs.Sound.{sound}
 use Rattle.model.specs.Emulation.{lent, callable}
 use Rattle.model.specs.Rehearsal.{Rehearsal, begun, Call, takes, sets, drops, returns, next, nextAll, goesBack}
-use Rattle.model.specs.Rehearsal.{noneGoesBack, crossbarAfter}
+use Rattle.model.specs.Rehearsal.{noneGoesBack, crossbarAfter, tallyNext, tallyAfterAll}
 use Rattle.cell.specs.declared.Tally.{Tally}
 use Rattle.model.specs.Tally.{noTally, countTop, raise, isSent, afterRun, afterRefused, tallyAfter, arrivalCount}
-use Rattle.model.specs.Tally.{tallyNext, tallyAfterAll}
 use Rattle.model.proofs.Admitted.{few-records}
 use Rattle.model.proofs.WaitingOrder.{among-i, among-e, beats-total, output-e}
-use Rattle.model.proofs.CheckOrder.{slot-broken}
+use Rattle.model.proofs.FairChecks.{FairCalled, fair-run, fair-refusal, fair-called}
+use Rattle.model.proofs.FairSound.{made, fair-fit, fair-clear}
 use Rattle.model.proofs.Related.{flatten-empty}
 use Rattle.model.proofs.Returned.{stays}
 use Rattle.model.proofs.SlackDeparture.{leaving-in, leaving-buffered, leaving-first}
 use Rattle.model.proofs.SoundLaws.{sound-e}
-use Rattle.model.proofs.SoundSlot.{Called, runs, refuses, called, sound-fresh, settled-orderly, settled-count, run-cells}
+use Rattle.model.proofs.SoundSlot.{sound-fresh, settled-orderly, settled-count, run-cells}
 use Rattle.model.proofs.SoundSlot.{settled-sound, run-sound}
 use Rattle.model.proofs.SoundOrderly.{sound-section}
 use Rattle.model.proofs.Numbering.{entryOf, mem-waiting, stands-entry}
@@ -258,38 +259,42 @@ refused-balanced : (s : Switch) (t : Tally) → Balanced s t → Balanced s (aft
 unfolding afterRefused
 refused-balanced s t b = record { whole = b .whole; even = b .even; few = b .few }
 
-slot-balanced : (s : Switch) (a : Option (List Arrival)) (t : Tally) → lent a ≡ true → Balanced s t
-    → Balanced (switchAfter s (slot s a)) (tallyAfter (arrivalCount a) (slot s a) t)
-unfolding tallyAfter afterRun switchAfter arrivalCount raise lent course run
-slot-balanced s none t fits b = rw (slot-broken s) (refused-balanced s t b)
-slot-balanced s (some records) t fits b = go (called s records)
+slot-balanced : (x : Fair Switch) (a : Option (List Arrival)) (t : Tally) → lent a ≡ true → Balanced (x .core) t
+    → Balanced (crossbarAfter x a .core) (tallyAfter (arrivalCount a) (fairSlot x a) t)
+unfolding tallyAfter afterRun slotOf afterOf arrivalCount raise lent course run
+slot-balanced x none t fits b = refused-balanced (x .core) t b
+slot-balanced x (some records) t fits b = go (fair-called (λ s. s .ports) (λ s. s .clock) cells run x records)
   where
-    go : Called s records
-        → Balanced (switchAfter s (slot s (some records))) (tallyAfter (length records) (slot s (some records)) t)
-    go (refuses r place e) = rw e (refused-balanced s t b)
-    go (runs ticks clear e) =
+    go : FairCalled (λ s. s .ports) (λ s. s .clock) cells run x records
+        → Balanced (crossbarAfter x (some records) .core) (tallyAfter (length records) (fairSlot x (some records)) t)
+    go (fair-refusal r place e) = rw e (refused-balanced (x .core) t b)
+    go (fair-run ticks clear e) =
+        let s = x .core in
+        let fit = fair-fit x records fits clear in
+        let fine = fair-clear x records clear in
         let clock = clock-fits s (b .whole) in
-        let few = records-few s records (b .whole) clear in
+        let few = records-few s (made x records) (b .whole) fine in
+        let many = length-map records (make (x .memory)) in
         rw e
         (record {
-          whole = run-sound s records (b .whole) fits ticks clear;
-          even = omega (arith, run-balance s records (b .whole) fits ticks clear, b .even, b .few);
+          whole = run-sound s (made x records) (b .whole) fit ticks fine;
+          even = omega (arith, run-balance s (made x records) (b .whole) fit ticks fine, b .even, b .few);
           few = omega (arith, b .few);
         })
 
-next-balanced : (x : Rehearsal Switch) (call : Call) (t : Tally) → callable call ≡ true
-    → goesBack crossbarAfter x call ≡ false → Balanced (x .switch) t
-    → Balanced (next crossbarAfter x call .switch) (tallyNext x call t)
+next-balanced : (x : Rehearsal (Fair Switch)) (call : Call) (t : Tally) → callable call ≡ true
+    → goesBack crossbarAfter x call ≡ false → Balanced (x .switch .core) t
+    → Balanced (next crossbarAfter x call .switch .core) (tallyNext x call t)
 unfolding next tallyNext callable
 next-balanced x (takes arrivals) t fits forth b = slot-balanced (x .switch) arrivals t fits b
 next-balanced x (sets name) t fits forth b = b
 next-balanced x (drops name) t fits forth b = b
 next-balanced x (returns name) t fits forth b =
-    subst (λ s. Balanced s t) (sym (stays crossbarAfter x name forth)) b
+    subst (λ s. Balanced (s .core) t) (sym (stays crossbarAfter x name forth)) b
 
-all-balanced : (x : Rehearsal Switch) (calls : List Call) (t : Tally) → all? callable calls ≡ true
-    → noneGoesBack crossbarAfter x calls ≡ true → Balanced (x .switch) t
-    → Balanced (nextAll crossbarAfter x calls .switch) (tallyAfterAll x calls t)
+all-balanced : (x : Rehearsal (Fair Switch)) (calls : List Call) (t : Tally) → all? callable calls ≡ true
+    → noneGoesBack crossbarAfter x calls ≡ true → Balanced (x .switch .core) t
+    → Balanced (nextAll crossbarAfter x calls .switch .core) (tallyAfterAll x calls t)
 unfolding nextAll tallyAfterAll noneGoesBack
 all-balanced x [] t fits forth b = b
 all-balanced x (call ∷ calls) t fits forth b =
@@ -306,27 +311,28 @@ fresh-cells : (ports first : ℕ) → _≡_ {A = ℕ} (length (cells (fresh port
 unfolding fresh cells
 fresh-cells ports first = ap (λ l. length (map (λ e. e .cell) l)) (flatten-empty {A = Entry} ports)
 
-module _ (ports first : ℕ) (calls : List Call) (p : portsInRange ports ≡ true) (f : fits32 first ≡ true)
+module _ (ports first marks : ℕ) (calls : List Call) (p : portsInRange ports ≡ true) (f : fits32 first ≡ true)
     (fits : all? callable calls ≡ true)
-    (forth : noneGoesBack crossbarAfter (begun (fresh ports first)) calls ≡ true) where
-  balanced : Balanced (nextAll crossbarAfter (begun (fresh ports first)) calls .switch)
-      (tallyAfterAll (begun (fresh ports first)) calls noTally)
-  unfolding begun noTally
+    (forth : noneGoesBack crossbarAfter (begun (marked marks (fresh ports first))) calls ≡ true) where
+  balanced : Balanced (nextAll crossbarAfter (begun (marked marks (fresh ports first))) calls .switch .core)
+      (tallyAfterAll (begun (marked marks (fresh ports first))) calls noTally)
+  unfolding begun marked noTally
   balanced =
-      all-balanced (begun (fresh ports first)) calls noTally fits forth
+      all-balanced (begun (marked marks (fresh ports first))) calls noTally fits forth
       (record {
         whole = sound-fresh ports first p f;
         even = omega (arith, fresh-cells ports first);
         few = omega arith;
       })
 
-  pub balance : tallyAfterAll (begun (fresh ports first)) calls noTally .arrived
-      ≡ tallyAfterAll (begun (fresh ports first)) calls noTally .departed
-      + length (cells (nextAll crossbarAfter (begun (fresh ports first)) calls .switch))
+  pub balance : tallyAfterAll (begun (marked marks (fresh ports first))) calls noTally .arrived
+      ≡ tallyAfterAll (begun (marked marks (fresh ports first))) calls noTally .departed
+      + length (cells (nextAll crossbarAfter (begun (marked marks (fresh ports first))) calls .switch .core))
   balance = balanced .even
 
-  pub counts-below : (tallyAfterAll (begun (fresh ports first)) calls noTally .arrived < countTop)
-      × (tallyAfterAll (begun (fresh ports first)) calls noTally .departed < countTop)
+  pub counts-below : (tallyAfterAll (begun (marked marks (fresh ports first))) calls noTally .arrived < countTop)
+      × (tallyAfterAll (begun (marked marks (fresh ports first))) calls noTally .departed < countTop)
   counts-below =
-      let clock = clock-fits (nextAll crossbarAfter (begun (fresh ports first)) calls .switch) (balanced .whole) in
+      let x = nextAll crossbarAfter (begun (marked marks (fresh ports first))) calls in
+      let clock = clock-fits (x .switch .core) (balanced .whole) in
       omega (arith, balanced .even, balanced .few)

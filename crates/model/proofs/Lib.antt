@@ -1,5 +1,6 @@
 pub mod Accord
 pub mod AccordCues
+pub mod AccordFair
 pub mod AccordOq
 pub mod Admitted
 pub mod Bags
@@ -11,10 +12,16 @@ pub mod CueLaws
 pub mod CueSound
 pub mod Demand3
 pub mod Enter
+pub mod FairChecks
+pub mod FairMemory
+pub mod FairRanks
+pub mod FairRelated
+pub mod FairSound
 pub mod FirstPlace
 pub mod Insert
 pub mod Numbering
 pub mod OqAlike
+pub mod OqFair
 pub mod OqSound
 pub mod OutputChoice
 pub mod PhaseFacts

@@ -1,36 +1,32 @@
--- The output-queued switch answers every list of slot calls as the PIFO switch does, and so as the crossbar. By
--- induction over the list, with what is kept between calls: both hold the same cells (`Related`), and the table is
--- sound, with all cells in buffers.
+-- The output-queued switch answers a slot call as the PIFO switch does, where the ranks of the records stand, with what
+-- is kept between calls: both hold the same cells (`Related`), and the table is sound, with all cells in buffers. For
+-- fair outputs see OqFair.
 --     kept-oq-fresh     two fresh switches
+--     same-departures, kept-run     an accepted slot
 --     oq-step           a call
---     oq-alike          any list, from any two switches so kept
---     oq-as-crossbar    and from a crossbar that holds the same cells
---     oq-emulates       from fresh switches
 use Prim.Native.Nat.{ℕ, _+_}
 use mathlib.Core.Bool.{true, false}
-use mathlib.Core.List.{List, [], _∷_}
+use mathlib.Core.List.{List}
 use mathlib.Core.Option.{Option, none}
-use mathlib.Core.Path.{_≡_, refl, sym, _∙_, ap, subst}
+use mathlib.Core.Path.{_≡_, refl, _∙_, ap, subst}
 use lib.Dec.{eqb}
 use Rattle.laws.specs.Lists.{all?}
-use Rattle.laws.proofs.Lists.{all?-cons}
-use Rattle.laws.proofs.Tests.{clash, and-l, and-r}
+use Rattle.laws.proofs.Tests.{clash}
 use Rattle.cell.specs.declared.Arrival.{Arrival}
 use Rattle.cell.specs.Cell.{arrivalFits}
 use Rattle.cell.specs.Limits.{portsInRange, fits32, clockEnd}
 use Rattle.model.specs.State.{Switch, fresh, cells}
 use Rattle.model.specs.Checks.{Outcome, refusal, firstFault}
-use Rattle.model.specs.Crossbar.{slot, switchAfter}
 use Rattle.model.specs.Emulation.{lent}
 use Rattle.model.specs.Oq.{joinBuffers, soundOq, Served, runOq, slotOq, servedDepartures, oqAfter}
-use Rattle.model.specs.OqEmulation.{AnsweredAs, OqAsPifo, OqAsCrossbar, OqEmulates}
+use Rattle.model.specs.OqEmulation.{AnsweredAs}
 use Rattle.model.specs.Phase.{waiting}
-use Rattle.model.specs.Pifo.{Pifo, freshPifo, Sent, sentDepartures, runPifo, slotPifo, pifoAfter}
-use Rattle.model.proofs.Demand3.{Kept, step, kept-fresh}
+use Rattle.model.specs.Pifo.{Pifo, freshPifo, Sent, sentDepartures, runPifo, slotPifo}
+use Rattle.model.specs.CodeFair.{pifoAfter}
 use Rattle.model.proofs.OqSound.{sound-oq-table, sound-oq-buffered, sound-oq-fresh, joined-sound, joined-count}
 use Rattle.model.proofs.OqSound.{joined-buffered, slot-oq-refused, slot-oq-runs, run-oq-cells, run-oq-sound}
 use Rattle.model.proofs.Related.{Related, Settled, SameCall, both-refuse, both-run, arriving, related-fresh}
-use Rattle.model.proofs.Related.{related-refused, related-departures, related-run, related-same-waiting}
+use Rattle.model.proofs.Related.{related-refused, related-departures, related-run}
 use Rattle.model.proofs.SoundOrderly.{sound-orderly}
 
 -- What is kept between calls.
@@ -47,7 +43,7 @@ kept-oq-fresh ports first p f =
 module _ (s : Switch) (q : Pifo) (kept : KeptOq s q) (records : List Arrival) (fits : all? arrivalFits records ≡ true)
     (ticks : eqb (s .clock) clockEnd ≡ false)
     (clear : firstFault (s .ports) (cells s) (arriving s records) ≡ none) where
-  abbrev served : Served
+  abbrev pub served : Served
   served = runOq s (arriving s records)
 
   -- when the new cells have joined, none waits outside the buffers
@@ -67,11 +63,11 @@ module _ (s : Switch) (q : Pifo) (kept : KeptOq s q) (records : List Arrival) (f
         stay = run-oq-cells s (arriving s records);
       }
 
-  same-departures : served .departures ≡ runPifo q (arriving s records) .departures
+  pub same-departures : served .departures ≡ runPifo q (arriving s records) .departures
   unfolding runOq
   same-departures = related-departures s q (kept .related) (arriving s records) clear settled
 
-  kept-run : KeptOq (served .switch) (runPifo q (arriving s records) .pifo)
+  pub kept-run : KeptOq (served .switch) (runPifo q (arriving s records) .pifo)
   kept-run =
       record {
         related = related-run s q (kept .related) (arriving s records) clear settled;
@@ -98,38 +94,3 @@ oq-step s q kept a fits = go (related-refused s q (kept .related) a)
           answers = λ ports. (refl, same-departures s q kept records fit ticks clear);
           kept = kept-run s q kept records fit ticks clear;
         })
-
-pub oq-alike : (ports : ℕ) (s : Switch) (q : Pifo) → KeptOq s q → (calls : List (Option (List Arrival)))
-    → all? lent calls ≡ true → OqAsPifo ports s q calls
-oq-alike ports s q kept [] h = related-same-waiting s q (kept .related)
-oq-alike ports s q kept (a ∷ calls) h =
-    let fits = rw (all?-cons lent a calls) at h in
-    let t = oq-step s q kept a (and-l (lent a) (all? lent calls) fits) in (
-      t .answers ports,
-      oq-alike ports (oqAfter s (slotOq s a)) (pifoAfter q (slotPifo q a)) (t .kept) calls
-          (and-r (lent a) (all? lent calls) fits),
-    )
-
--- through the PIFO switch
-pub oq-as-crossbar : (ports : ℕ) (s x : Switch) (q : Pifo) → KeptOq s q → Kept x q
-    → (calls : List (Option (List Arrival))) → all? lent calls ≡ true → OqAsCrossbar ports s x calls
-oq-as-crossbar ports s x q kept other [] h = kept .related .clock ∙ sym (other .related .clock)
-oq-as-crossbar ports s x q kept other (a ∷ calls) h =
-    let fits = rw (all?-cons lent a calls) at h in
-    let fit = and-l (lent a) (all? lent calls) fits in
-    let t = oq-step s q kept a fit in
-    let u = step x q other a fit in (
-      (
-        t .answers ports .0 ∙ sym (u .answers ports .refusals),
-        t .answers ports .1 ∙ sym (u .answers ports .departures),
-      ),
-      oq-as-crossbar ports (oqAfter s (slotOq s a)) (switchAfter x (slot x a)) (pifoAfter q (slotPifo q a))
-          (t .kept) (u .kept) calls (and-r (lent a) (all? lent calls) fits),
-    )
-
-pub oq-emulates : OqEmulates
-oq-emulates ports first calls p f h = (
-  oq-alike ports (fresh ports first) (freshPifo ports first) (kept-oq-fresh ports first p f) calls h,
-  oq-as-crossbar ports (fresh ports first) (fresh ports first) (freshPifo ports first) (kept-oq-fresh ports first p f)
-      (kept-fresh ports first p f) calls h,
-)

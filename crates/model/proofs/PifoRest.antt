@@ -22,21 +22,21 @@ use Rattle.laws.proofs.Least.{least-below, mem-least-in, mem-least-first}
 use Rattle.laws.proofs.Pairwise.{pairwise-mono, pairwise-le-one}
 use Rattle.cell.specs.declared.Arrival.{Arrival}
 use Rattle.cell.specs.declared.Cell.{Cell}
-use Rattle.cell.specs.declared.Refusal.{Refusal}
-use Rattle.cell.specs.declared.Refusal.the-variants.{ClockEnd}
 use Rattle.cell.specs.Cell.{accepted, sameCell}
-use Rattle.cell.specs.Limits.{clockEnd}
 use Rattle.cell.specs.Order.{over}
 use Rattle.cell.proofs.Order.{over-irrefl, over-trans, over-total}
-use Rattle.model.specs.Checks.{done, refused, firstFault}
-use Rattle.model.specs.Pifo.{Pifo, freshPifo, queued, join, best, rest, Sent, runPifo, slotPifo, pifoAfter}
+use Rattle.model.specs.Checks.{done, firstFault}
+use Rattle.model.specs.Pifo.{Pifo, freshPifo, queued, join, best, rest, Sent, runPifo}
+use Rattle.model.specs.Fair.{make, recordFaultFrom, Fair, marked, slotOf, afterOf, fairSlotPifo}
 use Rattle.model.specs.Rehearsal.{begun, Call, nextAll, shadowAfter}
 use Rattle.model.proofs.Admitted.{admitted}
 use Rattle.model.proofs.CellOrder.{same-cell-refl, same-cell-path}
 use Rattle.model.proofs.CueLaws.{agree-all, both-begun}
+use Rattle.model.proofs.FairChecks.{becoming-made, record-clear-first, FairCalled, fair-run, fair-refusal}
+use Rattle.model.proofs.FairChecks.{fair-called}
 use Rattle.model.proofs.PifoLaws.{Queues, queues-fresh, queues-join, queues-rest, join-count, queue-of}
 use Rattle.model.proofs.PifoLaws.{rest-queues}
-use Rattle.model.proofs.Related.{flatten-empty, pifo-end, pifo-fault, pifo-runs}
+use Rattle.model.proofs.Related.{flatten-empty}
 use Rattle.model.proofs.SoundArrival.{accepted-slot}
 
 -- Just the best cell of a queue leaves it: it is over all others, the queue holds it once, and the rest is all but it.
@@ -280,53 +280,57 @@ module _ (s : Pifo) (kept : Kept s) (records : List Arrival)
         distinct = λ input slot. omega (arith, stays-le input slot, joined-distinct input slot);
       }
 
--- an accepted slot runs; any other is refused
-data Called (s : Pifo) (records : List Arrival) : Type 0 where
-  runs : firstFault (s .ports) (queued s) (coming s records) ≡ none
-      → slotPifo s (some records) ≡ done (runPifo s (coming s records)) → Called s records
-  refuses : (r : Refusal) (place : ℕ) → slotPifo s (some records) ≡ refused r place → Called s records
+-- the records of a call, with the ranks made
+abbrev pub madeIn : Fair Pifo → List Arrival → List Arrival
+madeIn y records = map (make (y .memory)) records
 
-called : (s : Pifo) (records : List Arrival) → Called s records
-called s records = go (eqb (s .clock) clockEnd) refl (firstFault (s .ports) (queued s) (coming s records)) refl
+abbrev calledPifo : (y : Fair Pifo) (records : List Arrival)
+    → FairCalled (λ s. s .ports) (λ s. s .clock) queued runPifo y records
+calledPifo = fair-called (λ s. s .ports) (λ s. s .clock) queued runPifo
+
+made-clear : (y : Fair Pifo) (records : List Arrival)
+    → recordFaultFrom (y .core .ports) (y .core .clock) (queued (y .core)) (y .memory) 1 none records ≡ none
+    → firstFault (y .core .ports) (queued (y .core)) (coming (y .core) (madeIn y records)) ≡ none
+made-clear y records clear =
+    ap (firstFault (y .core .ports) (queued (y .core))) (becoming-made (y .core .clock) (y .memory) records)
+    ∙ record-clear-first (y .core .ports) (y .core .clock) (queued (y .core)) (y .memory) records clear
+
+kept-after : (y : Fair Pifo) (a : Option (List Arrival)) → Kept (y .core) → Kept (shadowAfter y a .core)
+unfolding slotOf afterOf
+kept-after y none kept = kept
+kept-after y (some records) kept = go (calledPifo y records)
   where
-    go : (b : Bool) → eqb (s .clock) clockEnd ≡ b → (f : Option (Refusal × ℕ))
-        → firstFault (s .ports) (queued s) (coming s records) ≡ f → Called s records
-    go true e f q = refuses ClockEnd 0 (pifo-end s records e)
-    go false e (some f) q = refuses (f .0) (f .1) (pifo-fault s records e f q)
-    go false e none q = runs q (pifo-runs s records e q)
+    go : FairCalled (λ s. s .ports) (λ s. s .clock) queued runPifo y records → Kept (shadowAfter y (some records) .core)
+    go (fair-run ticks clear e) = rw e (kept-run (y .core) kept (madeIn y records) (made-clear y records clear))
+    go (fair-refusal r place e) = rw e kept
 
-kept-after : (s : Pifo) (a : Option (List Arrival)) → Kept s → Kept (pifoAfter s (slotPifo s a))
-unfolding pifoAfter slotPifo
-kept-after s none kept = kept
-kept-after s (some records) kept = go (called s records)
-  where
-    go : Called s records → Kept (pifoAfter s (slotPifo s (some records)))
-    go (runs clear e) = rw e (kept-run s kept records clear)
-    go (refuses r place e) = rw e kept
-
--- a PIFO switch after a list of calls from a fresh one, with no cue held at first
-abbrev pub reached : ℕ → ℕ → List Call → Pifo
-reached ports first calls = nextAll shadowAfter (begun (freshPifo ports first)) calls .switch
+-- a PIFO switch after a list of calls from a fresh one with these outputs fair, with no cue held at first
+abbrev pub reached : ℕ → ℕ → ℕ → List Call → Fair Pifo
+reached ports first marks calls = nextAll shadowAfter (begun (marked marks (freshPifo ports first))) calls .switch
 
 -- each slot keeps it, so each cue holds a switch that has it
-kept-reached : (ports first : ℕ) (calls : List Call) → Kept (reached ports first calls)
-kept-reached ports first calls =
-    let s = freshPifo ports first in
-    agree-all (λ s t. Kept s) (λ call. true) shadowAfter shadowAfter (λ s t a h kept. kept-after s a kept)
-    (begun s) (begun s) calls (all?-i (λ call. true) calls (λ call m. refl))
-    (both-begun (λ s t. Kept s) s s (kept-fresh ports first)) .switches
+kept-reached : (ports first marks : ℕ) (calls : List Call) → Kept (reached ports first marks calls .core)
+unfolding marked
+kept-reached ports first marks calls =
+    let y = marked marks (freshPifo ports first) in
+    agree-all (λ s t. Kept (s .core)) (λ call. true) shadowAfter shadowAfter (λ s t a h kept. kept-after s a kept)
+    (begun y) (begun y) calls (all?-i (λ call. true) calls (λ call m. refl))
+    (both-begun (λ s t. Kept (s .core)) y y (kept-fresh ports first)) .switches
 
 -- in every slot that it accepts just the best cell leaves each queue
-pub rest-just-best : (ports first : ℕ) (calls : List Call) (records : List Arrival) (r : Sent)
-    → slotPifo (reached ports first calls) (some records) ≡ done r
-    → (output : ℕ) → JustBest ports (getD (joinedQueues (reached ports first calls) records) output [])
-rest-just-best ports first calls records r d output = go (called s records)
+pub rest-just-best : (ports first marks : ℕ) (calls : List Call) (records : List Arrival) (r : Sent)
+    → (let y = reached ports first marks calls in
+    fairSlotPifo y (some records) ≡ done r
+    → (output : ℕ) → JustBest ports (getD (joinedQueues (y .core) (madeIn y records)) output []))
+rest-just-best ports first marks calls records r d output = go (calledPifo y records)
   where
-    s : Pifo
-    s = reached ports first calls
+    y : Fair Pifo
+    y = reached ports first marks calls
 
-    go : Called s records → JustBest ports (getD (joinedQueues s records) output [])
-    go (runs clear e) =
-        just-best ports (getD (joinedQueues s records) output [])
-        (queue-distinct s (kept-reached ports first calls) records clear output)
-    go (refuses r′ place e) = absurd (let z : _≡_ {A = ℕ} 0 1 = cc in omega arith)
+    go : FairCalled (λ s. s .ports) (λ s. s .clock) queued runPifo y records
+        → JustBest ports (getD (joinedQueues (y .core) (madeIn y records)) output [])
+    go (fair-run ticks clear e) =
+        just-best ports (getD (joinedQueues (y .core) (madeIn y records)) output [])
+        (queue-distinct (y .core) (kept-reached ports first marks calls) (madeIn y records)
+        (made-clear y records clear) output)
+    go (fair-refusal r′ place e) = absurd (let z : _≡_ {A = ℕ} 0 1 = cc in omega arith)

@@ -4,7 +4,6 @@
 --     run-cells, settled-cells, settled-count   the cells of an accepted slot
 --     arrived-, between-, settled-, run-sound   its stages
 --     after-sound, slot-sound   of a call
---     after-ports      a call keeps the number of ports
 use Prim.Native.Nat.{ℕ, _+_, _≤_}
 use native.Mathlib.Omega.{arith}
 use mathlib.Core.Bool.{Bool, true, false, not}
@@ -168,15 +167,6 @@ after-sound s (some records) h l = go (called s records)
     go : Called s records → sound (switchAfter s (slot s (some records))) ≡ true
     go (runs t f e) = rw e (run-sound s records h l t f)
     go (refuses r place e) = rw e h
-
-pub after-ports : (s : Switch) (a : Option (List Arrival)) → switchAfter s (slot s a) .ports ≡ s .ports
-unfolding switchAfter run
-after-ports s none = rw (slot-broken s)
-after-ports s (some records) = go (called s records)
-  where
-    go : Called s records → switchAfter s (slot s (some records)) .ports ≡ s .ports
-    go (runs t f e) = rw e
-    go (refuses r place e) = rw e
 
 pub slot-sound : (s : Switch) (records : List Arrival) (c : Course) → sound s ≡ true
     → all? arrivalFits records ≡ true → slot s (some records) ≡ done c → sound (c .switch) ≡ true

@@ -13,10 +13,11 @@ use Rattle.cell.specs.Refusal.{number}
 use Rattle.model.specs.State.{Place, listed, crossed, buffered, Entry, Switch, fresh, isListed, isCrossed}
 use Rattle.model.specs.State.{isBuffered}
 use Rattle.model.specs.Checks.{Outcome, done, refused}
-use Rattle.model.specs.Crossbar.{Course, answerOf, slot, switchAfter}
+use Rattle.model.specs.Crossbar.{Course, answerOf}
 use Rattle.model.specs.Emulation.{cellsAt}
-use Rattle.model.specs.Oq.{Served, slotOq, oqAfter}
-use Rattle.model.specs.Pifo.{Pifo, freshPifo, Sent, slotPifo, pifoAfter}
+use Rattle.model.specs.Fair.{Fair, marked, fairSlot, fairAfter, fairSlotPifo, fairAfterPifo, fairSlotOq, fairAfterOq}
+use Rattle.model.specs.Oq.{Served}
+use Rattle.model.specs.Pifo.{Pifo, freshPifo, Sent}
 
 -- Where the cells wait: the lists, input by input and in their order; the cells at the crosspoints and those in the
 -- buffers, in any order.
@@ -93,30 +94,37 @@ unfoldable pub oqAnswers : Expected → Outcome Served → Bool
 oqAnswers e o = departuresAnswer (λ c. c .departures) e o
 
 -- call by call, each call getting the switch that the call before returned, or left in refusing; last the clock
-unfoldable pub crossbarRuns : Switch → List Call → ℕ → Bool
-crossbarRuns s [] clock = eqb (s .clock) clock
-crossbarRuns s (c ∷ calls) clock =
-    let o = slot s (some (c .arrivals)) in
-    crossbarAnswers (c .expected) o && crossbarRuns (switchAfter s o) calls clock
+unfoldable pub crossbarRuns : Fair Switch → List Call → ℕ → Bool
+crossbarRuns x [] clock = eqb (x .core .clock) clock
+crossbarRuns x (c ∷ calls) clock =
+    let a = some (c .arrivals) in
+    let o = fairSlot x a in
+    crossbarAnswers (c .expected) o && crossbarRuns (fairAfter x a o) calls clock
 
-unfoldable pub pifoRuns : Pifo → List Call → ℕ → Bool
-pifoRuns s [] clock = eqb (s .clock) clock
-pifoRuns s (c ∷ calls) clock =
-    let o = slotPifo s (some (c .arrivals)) in
-    pifoAnswers (c .expected) o && pifoRuns (pifoAfter s o) calls clock
+unfoldable pub pifoRuns : Fair Pifo → List Call → ℕ → Bool
+pifoRuns x [] clock = eqb (x .core .clock) clock
+pifoRuns x (c ∷ calls) clock =
+    let a = some (c .arrivals) in
+    let o = fairSlotPifo x a in
+    pifoAnswers (c .expected) o && pifoRuns (fairAfterPifo x a o) calls clock
 
-unfoldable pub oqRuns : Switch → List Call → ℕ → Bool
-oqRuns s [] clock = eqb (s .clock) clock
-oqRuns s (c ∷ calls) clock =
-    let o = slotOq s (some (c .arrivals)) in
-    oqAnswers (c .expected) o && oqRuns (oqAfter s o) calls clock
+unfoldable pub oqRuns : Fair Switch → List Call → ℕ → Bool
+oqRuns x [] clock = eqb (x .core .clock) clock
+oqRuns x (c ∷ calls) clock =
+    let a = some (c .arrivals) in
+    let o = fairSlotOq x a in
+    oqAnswers (c .expected) o && oqRuns (fairAfterOq x a o) calls clock
 
--- all three switches, fresh with N and a first slot
+-- all three switches, fresh with N and a first slot, and these outputs fair
+unfoldable pub allRunMarked : ℕ → ℕ → ℕ → List Call → ℕ → Bool
+allRunMarked n first marks calls clock =
+    crossbarRuns (marked marks (fresh n first)) calls clock
+    && (pifoRuns (marked marks (freshPifo n first)) calls clock
+    && oqRuns (marked marks (fresh n first)) calls clock)
+
+-- no output fair
 unfoldable pub allRun : ℕ → ℕ → List Call → ℕ → Bool
-allRun n first calls clock =
-    crossbarRuns (fresh n first) calls clock
-    && (pifoRuns (freshPifo n first) calls clock
-    && oqRuns (fresh n first) calls clock)
+allRun n first calls clock = allRunMarked n first 0 calls clock
 
 -- The switch that has N, a clock and these tables.
 unfoldable pub enterAt : Place → ℕ → List Cell → List Entry

@@ -8,11 +8,11 @@ use lib.ListN.{replicate}
 use Rattle.laws.specs.Lists.{keep, some?, none?, least, update, first?, upTo}
 use Rattle.cell.specs.declared.Cell.{Cell}
 use Rattle.cell.specs.declared.Arrival.{Arrival}
-use Rattle.cell.specs.declared.Refusal.the-variants.{BrokenTable, ClockEnd, BadSize}
+use Rattle.cell.specs.declared.Refusal.the-variants.{BrokenTable, ClockEnd}
 use Rattle.cell.specs.Cell.{accepted}
 use Rattle.cell.specs.Flow.{sameFlow}
-use Rattle.cell.specs.Limits.{clockEnd, portsInRange}
-use Rattle.model.specs.State.{listed, Entry, Switch, fresh, cells, isListed, isBuffered}
+use Rattle.cell.specs.Limits.{clockEnd}
+use Rattle.model.specs.State.{listed, Entry, Switch, cells, isListed, isBuffered}
 use Rattle.model.specs.Checks.{Outcome, done, refused, noDepartures, firstFault}
 use Rattle.model.specs.Phase.{Waiting, numbered, waiting, beats, among, outputChoice, Phase, phase, moved}
 
@@ -135,7 +135,3 @@ slot s (some records) =
 unfoldable pub switchAfter : Switch → Outcome Course → Switch
 switchAfter s (done c) = c .switch
 switchAfter s (refused r place) = s
-
--- Start: N is 1 to 16.
-unfoldable pub start : ℕ → ℕ → Outcome Switch
-start ports first = elim (portsInRange ports) [ true ↦ done (fresh ports first) | false ↦ refused BadSize 0 ]

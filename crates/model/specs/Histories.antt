@@ -12,6 +12,7 @@ use Rattle.cell.specs.declared.Arrival.{Arrival}
 use Rattle.cell.specs.declared.Cell.{Cell}
 use Rattle.model.specs.Calls.{Tables, tables, Call, call, Expected, sends, refuses, passes, occupies, crossbarRuns, allRun}
 use Rattle.model.specs.Calls.{switchWith, arrival, cell}
+use Rattle.model.specs.Fair.{marked}
 use Rattle.model.specs.Sound.{sound}
 
 -- A row has N, a clock, slot calls, and the clock after them.
@@ -24,7 +25,7 @@ pub data History : Type 0 where
 unfoldable pub given : History → Bool
 given (fresh ports first calls clock) = allRun ports first calls clock
 given (lent ports first t calls clock) =
-    let s = switchWith ports first t in crossbarRuns s calls clock && sound s
+    let s = switchWith ports first t in crossbarRuns (marked 0 s) calls clock && sound s
 
 -- the record that becomes this cell
 unfoldable pub recordOf : Cell → Arrival

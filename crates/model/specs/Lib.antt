@@ -1,9 +1,12 @@
 pub mod Calls
 pub mod Checks
+pub mod CodeFair
 pub mod CodeSlackness
 pub mod Crossbar
 pub mod Cues
 pub mod Emulation
+pub mod Fair
+pub mod FairRows
 pub mod Histories
 pub mod Oq
 pub mod OqEmulation

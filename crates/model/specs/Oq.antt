@@ -6,11 +6,10 @@ use mathlib.Core.Bool.{Bool, true, false, _&&_}
 use mathlib.Core.List.{List, [], _∷_, _++_, map, flatten}
 use mathlib.Core.Option.{Option, none, some}
 use lib.Dec.{eqb}
-use Rattle.laws.specs.Lists.{all?, count, update}
+use Rattle.laws.specs.Lists.{all?, update}
 use Rattle.cell.specs.declared.Arrival.{Arrival}
 use Rattle.cell.specs.declared.Cell.{Cell}
 use Rattle.cell.specs.declared.Refusal.the-variants.{BrokenTable, ClockEnd}
-use Rattle.cell.specs.declared.Tally.{Tally}
 use Rattle.cell.specs.Cell.{accepted}
 use Rattle.cell.specs.Limits.{clockEnd}
 use Rattle.model.specs.State.{buffered, Entry, Switch, cells, isBuffered}
@@ -18,7 +17,6 @@ use Rattle.model.specs.Checks.{Outcome, done, refused, noDepartures, fir
 use Rattle.model.specs.Phase.{waiting}
 use Rattle.model.specs.Crossbar.{leaving, departuresOf, without}
 use Rattle.model.specs.Sound.{sound}
-use Rattle.model.specs.Tally.{isSent, afterRun, afterRefused}
 
 -- a new cell goes to the buffer of its output; in the section of its input it stands last
 unfoldable pub joinBuffer : Cell → List Entry → List Entry
@@ -74,8 +72,3 @@ servedDepartures ports (refused r place) = noDepartures ports
 unfoldable pub oqAfter : Switch → Outcome Served → Switch
 oqAfter s (done d) = d .switch
 oqAfter s (refused r place) = s
-
--- the tally after the call
-unfoldable pub oqTallyAfter : ℕ → Outcome Served → Tally → Tally
-oqTallyAfter arrivals (done d) t = afterRun arrivals (count isSent (d .departures)) t
-oqTallyAfter arrivals (refused r place) t = afterRefused t

@@ -70,8 +70,3 @@ slotPifo s (some records) =
 unfoldable pub sentDepartures : ℕ → Outcome Sent → List (Option Cell)
 sentDepartures ports (done d) = d .departures
 sentDepartures ports (refused r place) = noDepartures ports
-
--- a refused slot leaves clock and queues as they were
-unfoldable pub pifoAfter : Pifo → Outcome Sent → Pifo
-pifoAfter s (done r) = r .pifo
-pifoAfter s (refused r place) = s

@@ -7,11 +7,13 @@ use mathlib.Core.Option.{Option}
 use lib.Dec.{eqb}
 use Rattle.laws.specs.Lists.{sameList}
 use Rattle.cell.specs.declared.Arrival.{Arrival}
+use Rattle.cell.specs.declared.Tally.{Tally}
 use Rattle.model.specs.Checks.{Outcome, done, refused}
-use Rattle.model.specs.Crossbar.{slot, switchAfter}
 use Rattle.model.specs.Cues.{Cues, noCues, setCue, dropCue, returnTo}
-use Rattle.model.specs.Pifo.{Pifo, slotPifo, pifoAfter}
+use Rattle.model.specs.Fair.{Fair, fairSlot, fairAfter, fairSlotPifo, fairAfterPifo}
+use Rattle.model.specs.Pifo.{Pifo}
 use Rattle.model.specs.State.{Switch}
+use Rattle.model.specs.Tally.{tallyAfter, arrivalCount}
 
 pub record Rehearsal (S : Type 0) : Type 0 where
   pub switch : S
@@ -90,8 +92,20 @@ module _ {S : Type 0} (after : S → Option (List Arrival) → S) where
     answersFrom s (arrivals ∷ slots) = answer s arrivals ∷ answersFrom (after s arrivals) slots
 
 -- The two switches: a slot that is refused leaves them as they were.
-abbrev pub crossbarAfter : Switch → Option (List Arrival) → Switch
-crossbarAfter s arrivals = switchAfter s (slot s arrivals)
+abbrev pub crossbarAfter : Fair Switch → Option (List Arrival) → Fair Switch
+crossbarAfter x arrivals = fairAfter x arrivals (fairSlot x arrivals)
 
-abbrev pub shadowAfter : Pifo → Option (List Arrival) → Pifo
-shadowAfter q arrivals = pifoAfter q (slotPifo q arrivals)
+abbrev pub shadowAfter : Fair Pifo → Option (List Arrival) → Fair Pifo
+shadowAfter y arrivals = fairAfterPifo y arrivals (fairSlotPifo y arrivals)
+
+-- The tally after a call, which is lent it if it is a slot call: a cue call leaves it, and it is never wound back.
+unfoldable pub tallyNext : Rehearsal (Fair Switch) → Call → Tally → Tally
+tallyNext x (takes arrivals) t = tallyAfter (arrivalCount arrivals) (fairSlot (x .switch) arrivals) t
+tallyNext x (sets name) t = t
+tallyNext x (drops name) t = t
+tallyNext x (returns name) t = t
+
+-- The tally after a list of calls, lent to each slot call as the last one left it.
+unfoldable pub tallyAfterAll : Rehearsal (Fair Switch) → List Call → Tally → Tally
+tallyAfterAll x [] t = t
+tallyAfterAll x (call ∷ calls) t = tallyAfterAll (next crossbarAfter x call) calls (tallyNext x call t)

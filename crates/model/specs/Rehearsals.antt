@@ -9,9 +9,9 @@ use lib.ListN.{replicate}
 use Rattle.laws.specs.Lists.{sameList}
 use Rattle.cell.specs.Refusal.{number}
 use Rattle.model.specs.Checks.{Outcome, done, refused}
-use Rattle.model.specs.Crossbar.{slot}
 use Rattle.model.specs.Cues.{Cue, Cues, setCue, dropCue, returnTo, soundCues}
-use Rattle.model.specs.Pifo.{Pifo, freshPifo, slotPifo}
+use Rattle.model.specs.Fair.{Fair, marked, fairSlot, fairSlotPifo}
+use Rattle.model.specs.Pifo.{Pifo, freshPifo}
 use Rattle.model.specs.Rehearsal.{Rehearsal, begun, takes, sets, drops, returns, next, crossbarAfter, shadowAfter}
 use Rattle.model.specs.State.{Switch, fresh}
 use Rattle.model.specs.Calls.{Call, call, sends, crossbarAnswers, pifoAnswers, arrival, cell}
@@ -40,16 +40,16 @@ unfoldable pub holds : {S : Type 0} → List (Option (List ℕ)) → Cues S → 
 holds names cues = sameList sameHeld (map heldName cues) names
 
 -- step by step; last the clock, and the names by their places
-unfoldable pub plays? : Rehearsal Switch → Rehearsal Pifo → List Step → ℕ → List (Option (List ℕ)) → Bool
+unfoldable pub plays? : Rehearsal (Fair Switch) → Rehearsal (Fair Pifo) → List Step → ℕ → List (Option (List ℕ)) → Bool
 plays? x y [] clock names =
-    eqb (x .switch .clock) clock
-    && (eqb (y .switch .clock) clock
+    eqb (x .switch .core .clock) clock
+    && (eqb (y .switch .core .clock) clock
     && (holds names (x .cues)
     && holds names (y .cues)))
 plays? x y (plays c ∷ steps) clock names =
     let arrivals = some (c .arrivals) in
-    crossbarAnswers (c .expected) (slot (x .switch) arrivals)
-    && (pifoAnswers (c .expected) (slotPifo (y .switch) arrivals)
+    crossbarAnswers (c .expected) (fairSlot (x .switch) arrivals)
+    && (pifoAnswers (c .expected) (fairSlotPifo (y .switch) arrivals)
     && plays? (next crossbarAfter x (takes arrivals)) (next shadowAfter y (takes arrivals)) steps clock names)
 plays? x y (set name n ∷ steps) clock names =
     answersWith n (setCue name (x .switch) (x .cues))
@@ -64,9 +64,14 @@ plays? x y (back name n ∷ steps) clock names =
     && (answersWith n (returnTo name (y .cues))
     && plays? (next crossbarAfter x (returns name)) (next shadowAfter y (returns name)) steps clock names)
 
--- both switches, fresh with N and a first slot, no cue held
+-- both switches, fresh with N and a first slot, these outputs fair, and no cue held
+unfoldable pub rehearsedMarked : ℕ → ℕ → ℕ → List Step → ℕ → List (Option (List ℕ)) → Bool
+rehearsedMarked n first marks steps clock names =
+    plays? (begun (marked marks (fresh n first))) (begun (marked marks (freshPifo n first))) steps clock names
+
+-- no output fair
 unfoldable pub rehearsed : ℕ → ℕ → List Step → ℕ → List (Option (List ℕ)) → Bool
-rehearsed n first steps clock names = plays? (begun (fresh n first)) (begun (freshPifo n first)) steps clock names
+rehearsed n first steps clock names = rehearsedMarked n first 0 steps clock names
 
 unfoldable pub freePlaces : ℕ → List (Option (List ℕ))
 freePlaces n = replicate n none

@@ -1,7 +1,7 @@
 -- Scope 2.8: the tally, changed in place by each slot call.
 use Prim.Native.Nat.{ℕ, _+_, min}
 use mathlib.Core.Bool.{Bool, true, false}
-use mathlib.Core.List.{List, [], _∷_}
+use mathlib.Core.List.{List}
 use mathlib.Core.Option.{Option, none, some}
 use lib.ListN.{length}
 use Rattle.laws.specs.Lists.{count}
@@ -9,9 +9,7 @@ use Rattle.cell.specs.declared.Arrival.{Arrival}
 use Rattle.cell.specs.declared.Cell.{Cell}
 use Rattle.cell.specs.declared.Tally.{Tally}
 use Rattle.model.specs.Checks.{Outcome, done, refused}
-use Rattle.model.specs.Crossbar.{Course, slot}
-use Rattle.model.specs.Rehearsal.{Rehearsal, Call, takes, sets, drops, returns, next, crossbarAfter}
-use Rattle.model.specs.State.{Switch}
+use Rattle.model.specs.Crossbar.{Course}
 
 unfoldable pub noTally : Tally
 noTally = record { run = 0; refused = 0; arrived = 0; departed = 0 }
@@ -49,15 +47,3 @@ tallyAfter arrivals (refused r place) t = afterRefused t
 unfoldable pub arrivalCount : Option (List Arrival) → ℕ
 arrivalCount none = 0
 arrivalCount (some records) = length records
-
--- The tally after a call, which is lent it if it is a slot call: a cue call leaves it, and it is never wound back.
-unfoldable pub tallyNext : Rehearsal Switch → Call → Tally → Tally
-tallyNext x (takes arrivals) t = tallyAfter (arrivalCount arrivals) (slot (x .switch) arrivals) t
-tallyNext x (sets name) t = t
-tallyNext x (drops name) t = t
-tallyNext x (returns name) t = t
-
--- The tally after a list of calls, lent to each slot call as the last one left it.
-unfoldable pub tallyAfterAll : Rehearsal Switch → List Call → Tally → Tally
-tallyAfterAll x [] t = t
-tallyAfterAll x (call ∷ calls) t = tallyAfterAll (next crossbarAfter x call) calls (tallyNext x call t)

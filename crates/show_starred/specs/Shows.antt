@@ -12,7 +12,7 @@ use Rattle.cell.specs.declared.Cell.{Cell}
 use Rattle.cell.specs.Refusal.{number}
 use Rattle.model.specs.Calls.{Call, call, sends, refuses, occupies, allRun, arrival, cell}
 use Rattle.model.specs.Checks.{Outcome, done, refused}
-use Rattle.model.specs.Crossbar.{start}
+use Rattle.model.specs.Fair.{Fair, startFair}
 use Rattle.model.specs.State.{Switch}
 use Rattle.player_text.specs.Player.{playCrossbar, playPifo}
 use Rattle.layout.specs.Number.{sameBytes}
@@ -26,13 +26,13 @@ pub data Show : Type 0 where
   -- a fresh switch with N and a first slot, slot calls, and the clock after them
   answers : ℕ → ℕ → List Call → ℕ → Show
 
-unfoldable pub startAnswers : ℕ → Outcome Switch → Bool
+unfoldable pub startAnswers : ℕ → Outcome (Fair Switch) → Bool
 startAnswers n (done s) = eqb n 0
 startAnswers n (refused r place) = eqb (number r) n && eqb place 0
 
 unfoldable pub given : Show → Bool
 given (plays t u) = sameBytes (playCrossbar (ascii t)) (ascii u) && sameBytes (playPifo (ascii t)) (ascii u)
-given (starts n r) = startAnswers r (start n 0)
+given (starts n r) = startAnswers r (startFair n 0 0)
 given (answers n first calls clock) = allRun n first calls clock
 
 -- sixteen numbers, and sixteen departures, of which output 5 alone has one
