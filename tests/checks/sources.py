@@ -121,7 +121,8 @@ class Sources:
         module = self.declared.get(f"crates/{first}/src/{rest[0]}.rt")
         if module is not None:
             return set(rest[1:]) <= module
-        return set(rest) <= self.declared.get(f"crates/{first}/src/lib.rt", set())
+        roots = (f"crates/{first}/src/{root}.rt" for root in ("lib", "main"))
+        return any(set(rest) <= self.declared.get(root, set()) for root in roots)
 
     def is_command(self, text):
         command, *rest = text.split()

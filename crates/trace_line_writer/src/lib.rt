@@ -1,8 +1,8 @@
 // Scope 7.1: lines are written, those of a text and those that the player writes. Each function that puts a text
 // answers the place after it, and a place past the end of the buffer says that the text does not fit. The public ones
 // put all of a text or nothing of it. A text that fits is written from its end to its start with no test of the room:
-// the `write_..` below ask for the room, which every caller has measured, and answer where the text starts. No other
-// function has a `requires`.
+// the `write_..` below ask for the room, which every caller has measured, and answer where the text starts. One of them
+// is public, for a text of numbers alone. No other function has a `requires`.
 use cell::Cell;
 use cell::Refusal;
 use trace::Key;
@@ -128,7 +128,7 @@ fn write_line(out: &mut [u8], end: usize, key: Key, n: usize) -> usize
 }
 
 // The decimal digits of a number.
-fn write_number(out: &mut [u8], end: usize, n: usize) -> usize
+pub fn write_number(out: &mut [u8], end: usize, n: usize) -> usize
     requires { ⌜ Room (decimal n) end (length (now out)) ⌝ }
     ensures { λ r. ⌜ Written (now (out .entry)) end (decimal n) (now (out .exit)) r ⌝ }
 {
