@@ -12,17 +12,26 @@ use Rattle.cell.specs.declared.Refusal.{Refusal}
 use Rattle.cell.specs.declared.Refusal.the-variants.{BrokenTable, BadName, CuesFull, NoSuchCue}
 use Rattle.cell.specs.Refusal.{number}
 use Rattle.model.specs.Checks.{Outcome, done, refused}
-use Rattle.model.specs.Cues.{cueLimit, Cue, Cues, noCues, wellNamed, firstPlace, isFree, isNamed, setCue, dropCue, returnTo}
+use Rattle.model.specs.Cues.{cueLimit, Cue, Cues, noCues, wellNamed, firstPlace, isFree, isNamed, setCue, dropCue}
+use Rattle.model.specs.Cues.{returnTo}
+use Rattle.model.specs.Fair.{Fair}
+use Rattle.model.specs.Sound.{sound}
 use Rattle.model.specs.State.{Switch}
 use Rattle.layout.specs.Code.{put}
-use Rattle.layout.specs.Cues.{placeSize, storeSize, storeBytes, decodeStore, isStore, cuesOf, storeCall, storeBuffer, storeCheckCall}
+use Rattle.layout.specs.Frame.{isFairTable}
+use Rattle.layout.specs.Cues.{soundFair, fairCues, placeSize, storeSize, storeBytes, decodeStore, isStore}
+use Rattle.layout.specs.CodeCues.{cuesOf}
+use Rattle.layout.specs.Cues.{storeCall, storeBuffer, storeCheckCall}
 use Rattle.layout.specs.Cues.{setCall, dropCall, returnCall, storeAfter, tableReturned}
+use Rattle.layout.specs.Fair.{fairNumber, fairSize, fairBytes, fairOf, decodeFair}
 use Rattle.layout.specs.Host.{filled, resultOf}
 use Rattle.layout.specs.Number.{bytesOf}
-use Rattle.layout.specs.Table.{encode, decode, isTable, stateOf, tableSize}
-use Rattle.layout.proofs.Cues.{is-store, isStore-some, decodeStore-length, setCall-table, setCall-store, setCall-cues}
-use Rattle.layout.proofs.Cues.{storeCall-short, storeCall-done, dropCall-store, dropCall-cues, returnCall-table, returnCall-store, returnCall-cues}
-use Rattle.layout.proofs.Table.{is-table, isTable-some, encode-decode, decode-length}
+use Rattle.layout.proofs.Cues.{fair-fit, decodeFair-sound, is-store, isStore-some, setCall-table, setCall-store}
+use Rattle.layout.proofs.Cues.{setCall-cues}
+use Rattle.layout.proofs.Cues.{storeCall-short, storeCall-done, dropCall-store, dropCall-cues, returnCall-table}
+use Rattle.layout.proofs.Cues.{returnCall-store, returnCall-cues}
+use Rattle.layout.proofs.Fair.{is-table-with, isTableWith-none}
+use Rattle.layout.proofs.Stores.{decodeStore-length}
 use Rattle.model.proofs.CueLaws.{held, roomy, cue, set-bad, set-held, set-new, set-full, drop-bad, drop-held, drop-new}
 use Rattle.model.proofs.CueLaws.{return-bad, return-held, return-new}
 use Rattle.model.proofs.FirstPlace.{first-passes, first-most}
@@ -32,57 +41,63 @@ use Rattle.cue_store.proofs.Names.{number-zero, number-some}
 use Rattle.cue_store.proofs.Found.{place-named, place-free, table-at, put-cue, put-free, cues-four}
 
 -- a result is that of an outcome, and what was lent is as the outcome leaves it
-abbrev pub Stored : Outcome (Cues Switch) → List ℕ → ℕ → List ℕ → Type 0
+abbrev pub Stored : Outcome (Cues (Fair Switch)) → List ℕ → ℕ → List ℕ → Type 0
 Stored o store result store′ = (result ≡ resultOf o) × (store′ ≡ storeAfter store o)
 
-abbrev pub Returned : Outcome Switch → List ℕ → ℕ → List ℕ → Type 0
+abbrev pub Returned : Outcome (Fair Switch) → List ℕ → ℕ → List ℕ → Type 0
 Returned o table result table′ = (result ≡ resultOf o) × (table′ ≡ tableReturned table o)
 
-stored-refused : (o : Outcome (Cues Switch)) (store : List ℕ) (r : Refusal) (result : ℕ) → o ≡ refused r 0
+stored-refused : (o : Outcome (Cues (Fair Switch))) (store : List ℕ) (r : Refusal) (result : ℕ) → o ≡ refused r 0
     → result ≡ number r → Stored o store result store
 unfolding resultOf storeAfter
 stored-refused o store r result e h = rw e (let k : result ≡ number r + 256 * 0 = omega arith in k, refl)
 
-stored-done : (o : Outcome (Cues Switch)) (store store′ : List ℕ) (cues : Cues Switch) → o ≡ done cues
+stored-done : (o : Outcome (Cues (Fair Switch))) (store store′ : List ℕ) (cues : Cues (Fair Switch)) → o ≡ done cues
     → store′ ≡ storeBytes cues → Stored o store 0 store′
 unfolding resultOf storeAfter
 stored-done o store store′ cues e h = rw e (refl, h)
 
-returned-refused : (o : Outcome Switch) (table : List ℕ) (r : Refusal) (result : ℕ) → o ≡ refused r 0
+returned-refused : (o : Outcome (Fair Switch)) (table : List ℕ) (r : Refusal) (result : ℕ) → o ≡ refused r 0
     → result ≡ number r → Returned o table result table
 unfolding resultOf tableReturned
 returned-refused o table r result e h = rw e (let k : result ≡ number r + 256 * 0 = omega arith in k, refl)
 
-returned-done : (o : Outcome Switch) (table table′ : List ℕ) (s : Switch) → o ≡ done s → table′ ≡ encode s
+returned-done : (o : Outcome (Fair Switch)) (table table′ : List ℕ) (x : Fair Switch) → o ≡ done x
+    → table′ ≡ fairBytes fairNumber x
     → Returned o table 0 table′
 unfolding resultOf tableReturned
-returned-done o table table′ s e h = rw e (refl, h)
+returned-done o table table′ x e h = rw e (refl, h)
 
 -- bytes that are no table, or no store
-table-none : (bs : List ℕ) → isTable bs ≡ false → decode bs ≡ none
-table-none bs h = go (decode bs) refl
-  where
-    go : (o : Option Switch) → decode bs ≡ o → decode bs ≡ none
-    go none e = e
-    go (some s) e = absurd (true≢false (sym (isTable-some bs s e) ∙ h))
+table-none : (bs : List ℕ) → isFairTable bs ≡ false → decodeFair bs ≡ none
+table-none bs h = isTableWith-none fairNumber sound bs h
 
 store-none : (bs : List ℕ) → isStore bs ≡ false → decodeStore bs ≡ none
 store-none bs h = go (decodeStore bs) refl
   where
-    go : (o : Option (Cues Switch)) → decodeStore bs ≡ o → decodeStore bs ≡ none
+    go : (o : Option (Cues (Fair Switch))) → decodeStore bs ≡ o → decodeStore bs ≡ none
     go none e = e
     go (some cues) e = absurd (true≢false (sym (isStore-some bs cues e) ∙ h))
 
 pub store-length : (bs : List ℕ) → isStore bs ≡ true → length bs ≡ storeSize
-store-length bs h = decodeStore-length bs (cuesOf bs) (is-store bs h)
+store-length bs h = decodeStore-length fairCues fair-fit bs (cuesOf bs) (is-store bs h)
 
-pub table-length : (bs : List ℕ) → isTable bs ≡ true → length bs ≡ tableSize
-table-length bs h = decode-length bs (stateOf bs) (is-table bs h)
+-- the switch of a table
+module _ (bs : List ℕ) (h : isFairTable bs ≡ true) where
+  table-some : decodeFair bs ≡ some (fairOf bs)
+  table-some = is-table-with fairNumber sound bs h
+
+  table-exact : (soundFair (fairOf bs) ≡ true) × (fairBytes fairNumber (fairOf bs) ≡ bs)
+  table-exact = decodeFair-sound bs (fairOf bs) table-some
+
+  pub table-length : length bs ≡ fairSize
+  table-length =
+      ap length (sym (table-exact .1)) ∙ fair-fit .long (fairOf bs) (table-exact .0)
 
 ------------------------------------------------------------------------
 -- the places that the code finds are those of the definitions
 
-module _ (store name : List ℕ) (cues : Cues Switch) (d : decodeStore store ≡ some cues) (w : wellNamed name ≡ true) where
+module _ (store name : List ℕ) (cues : Cues (Fair Switch)) (d : decodeStore store ≡ some cues) (w : wellNamed name ≡ true) where
   four : length cues ≡ cueLimit
   four = cues-four store cues d
 
@@ -127,29 +142,29 @@ module _ (store name : List ℕ) (cues : Cues Switch) (d : decodeStore store ≡
   unfolding old
   is-lost h = le-ltb old (length cues) (omega (arith, four))
 
-  set-at : (s : Switch) (k : ℕ) → placeFor store (nameNumber name) ≡ k → k < cueLimit
-      → setCue name s cues ≡ done (set cues k (cue name s))
+  set-at : (x : Fair Switch) (k : ℕ) → placeFor store (nameNumber name) ≡ k → k < cueLimit
+      → setCue name x cues ≡ done (set cues k (cue name x))
   unfolding old free
-  set-at s k e inside = go (ltb old cueLimit) refl
+  set-at x k e inside = go (ltb old cueLimit) refl
     where
-      go : (b : Bool) → ltb old cueLimit ≡ b → setCue name s cues ≡ done (set cues k (cue name s))
+      go : (b : Bool) → ltb old cueLimit ≡ b → setCue name x cues ≡ done (set cues k (cue name x))
       go true h =
-          set-held name cues s w (is-held (ltb-true old cueLimit h))
-          ∙ ap (λ n. done (set cues n (cue name s))) (sym (place-held h) ∙ e)
+          set-held name cues x w (is-held (ltb-true old cueLimit h))
+          ∙ ap (λ n. done (set cues n (cue name x))) (sym (place-held h) ∙ e)
       go false h =
           let here : free ≡ k = sym (place-new h) ∙ e in
           let room : roomy cues ≡ true = lt-ltb free (length cues) (omega (arith, here, four)) in
-          set-new name cues s w (is-lost (ltb-false old cueLimit h)) room
-          ∙ ap (λ n. done (set cues n (cue name s))) here
+          set-new name cues x w (is-lost (ltb-false old cueLimit h)) room
+          ∙ ap (λ n. done (set cues n (cue name x))) here
 
-  set-none : (s : Switch) → placeFor store (nameNumber name) ≡ cueLimit → setCue name s cues ≡ refused CuesFull 0
+  set-none : (x : Fair Switch) → placeFor store (nameNumber name) ≡ cueLimit → setCue name x cues ≡ refused CuesFull 0
   unfolding old free
-  set-none s e = go (ltb old cueLimit) refl
+  set-none x e = go (ltb old cueLimit) refl
     where
-      go : (b : Bool) → ltb old cueLimit ≡ b → setCue name s cues ≡ refused CuesFull 0
+      go : (b : Bool) → ltb old cueLimit ≡ b → setCue name x cues ≡ refused CuesFull 0
       go true h = absurd (omega (arith, ltb-true old cueLimit h, place-held h))
       go false h =
-          set-full name cues s w (is-lost (ltb-false old cueLimit h))
+          set-full name cues x w (is-lost (ltb-false old cueLimit h))
           (le-ltb free (length cues) (omega (arith, sym (place-new h) ∙ e, four)))
 
   drop-at : (k : ℕ) → placeOf store (nameNumber name) ≡ k → k < cueLimit → dropCue name cues ≡ done (set cues k none)
@@ -162,17 +177,17 @@ module _ (store name : List ℕ) (cues : Cues Switch) (d : decodeStore store ≡
   drop-none e = drop-new name cues w (is-lost (omega (arith, sym found ∙ e)))
 
   -- where a name is found stands a cue
-  held-cue : old < length cues → (c : Cue Switch) × (getD cues old none ≡ some c)
+  held-cue : old < length cues → (c : Cue (Fair Switch)) × (getD cues old none ≡ some c)
   unfolding old isNamed
   held-cue inside = go (getD cues old none) refl (first-passes (isNamed name) cues none inside)
     where
-      go : (p : Option (Cue Switch)) → getD cues old none ≡ p → isNamed name (getD cues old none) ≡ true
-          → (c : Cue Switch) × (getD cues old none ≡ some c)
+      go : (p : Option (Cue (Fair Switch))) → getD cues old none ≡ p → isNamed name (getD cues old none) ≡ true
+          → (c : Cue (Fair Switch)) × (getD cues old none ≡ some c)
       go none e h = absurd (false≢true (sym (ap (isNamed name) e) ∙ h))
       go (some c) e h = (c, e)
 
   return-at : (k : ℕ) → placeOf store (nameNumber name) ≡ k → k < cueLimit
-      → (s : Switch) × (returnTo name cues ≡ done s) × (tableAt store k ≡ encode s)
+      → (x : Fair Switch) × (returnTo name cues ≡ done x) × (tableAt store k ≡ fairBytes fairNumber x)
   unfolding old
   return-at k e inside =
       let here : old ≡ k = sym found ∙ e in
@@ -241,7 +256,7 @@ module _ (store name : List ℕ) where
           (p ∙ put-free store (cuesOf store) (is-store store h) k few)
 
 module _ (table store name : List ℕ) where
-  pub set-broken-table : isTable table ≡ false → (result : ℕ) → result ≡ 2
+  pub set-broken-table : isFairTable table ≡ false → (result : ℕ) → result ≡ 2
       → Stored (setCall table store name) store result store
   set-broken-table h result r =
       stored-refused _ store BrokenTable result (setCall-table table store name (table-none table h)) r
@@ -251,7 +266,7 @@ module _ (table store name : List ℕ) where
   set-broken-store h result r =
       stored-refused _ store BrokenTable result (setCall-store table store name (store-none store h)) r
 
-  pub return-broken-table : isTable table ≡ false → (result : ℕ) → result ≡ 2
+  pub return-broken-table : isFairTable table ≡ false → (result : ℕ) → result ≡ 2
       → Returned (returnCall table store name) table result table
   return-broken-table h result r =
       returned-refused _ table BrokenTable result (returnCall-table table store name (table-none table h)) r
@@ -261,31 +276,35 @@ module _ (table store name : List ℕ) where
   return-broken-store h result r =
       returned-refused _ table BrokenTable result (returnCall-store table store name (store-none store h)) r
 
-  module _ (t : isTable table ≡ true) (h : isStore store ≡ true) (number : ℕ) (is : number ≡ nameNumber name) where
-    s : Switch
-    s = stateOf table
+  module _ (t : isFairTable table ≡ true) (h : isStore store ≡ true) (number : ℕ) (is : number ≡ nameNumber name) where
+    x : Fair Switch
+    x = fairOf table
 
-    state : decode table ≡ some s
-    unfolding s
-    state = is-table table t
+    state : decodeFair table ≡ some x
+    unfolding x
+    state = table-some table t
 
-    cues : Cues Switch
+    exact : fairBytes fairNumber x ≡ table
+    unfolding x
+    exact = table-exact table t .1
+
+    cues : Cues (Fair Switch)
     cues = cuesOf store
 
     stands : decodeStore store ≡ some cues
     unfolding cues
     stands = is-store store h
 
-    sets-cue : setCall table store name ≡ setCue name s cues
-    sets-cue = setCall-cues table store name s cues state stands
+    sets-cue : setCall table store name ≡ setCue name x cues
+    sets-cue = setCall-cues table store name x cues state stands
 
     returns-to : returnCall table store name ≡ returnTo name cues
-    returns-to = returnCall-cues table store name s cues state stands
+    returns-to = returnCall-cues table store name x cues state stands
 
     pub set-badly-named : number ≡ 0 → (result : ℕ) → result ≡ 11
         → Stored (setCall table store name) store result store
     set-badly-named z result r =
-        stored-refused _ store BadName result (sets-cue ∙ set-bad name cues s (unnamed store name number is z)) r
+        stored-refused _ store BadName result (sets-cue ∙ set-bad name cues x (unnamed store name number is z)) r
 
     pub return-badly-named : number ≡ 0 → (result : ℕ) → result ≡ 11
         → Returned (returnCall table store name) table result table
@@ -300,18 +319,18 @@ module _ (table store name : List ℕ) where
           → Stored (setCall table store name) store result store
       set-no-room e full result r =
           stored-refused _ store CuesFull result
-          (sets-cue ∙ set-none store name cues stands w s (sym (e ∙ ap (placeFor store) is) ∙ full)) r
+          (sets-cue ∙ set-none store name cues stands w x (sym (e ∙ ap (placeFor store) is) ∙ full)) r
 
       pub set-done : k ≡ placeFor store number → (k ≡ cueLimit → ⊥) → (store′ : List ℕ)
           → store′ ≡ put (placeStart k) placeSize (bytesOf 8 number ++ table) store
           → Stored (setCall table store name) store 0 store′
       set-done e full store′ p =
           let few = inside-for store name number is h n k full e in
-          stored-done _ store store′ (set cues k (cue name s))
-          (sets-cue ∙ set-at store name cues stands w s k (sym (e ∙ ap (placeFor store) is)) few)
+          stored-done _ store store′ (set cues k (cue name x))
+          (sets-cue ∙ set-at store name cues stands w x k (sym (e ∙ ap (placeFor store) is)) few)
           (p
-          ∙ ap₂ (λ m bs. put (placeStart k) placeSize (bytesOf 8 m ++ bs) store) is (sym (encode-decode table s state))
-          ∙ put-cue store cues stands k name s few w)
+          ∙ ap₂ (λ m bs. put (placeStart k) placeSize (bytesOf 8 m ++ bs) store) is (sym exact)
+          ∙ put-cue store cues stands k name x few w)
 
       pub return-lost : k ≡ placeOf store number → k ≡ cueLimit → (result : ℕ) → result ≡ 13
           → Returned (returnCall table store name) table result table

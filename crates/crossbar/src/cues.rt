@@ -1,5 +1,5 @@
-// The calls of cues: up to four, each under a name, hold the whole switch, clock included, in a cue store that the host
-// keeps. No call is lent a tally, so none is wound back.
+// The calls of cues: up to four, each under a name, hold the whole switch, clock and memory included, in a cue store that
+// the host keeps. No call is lent a tally, so none is wound back.
 use cell::Refusal;
 use cue_store::check::is_store;
 use cue_store::name::number_of;
@@ -9,6 +9,7 @@ use cue_store::place::place_of;
 use cue_store::place::read_cue;
 use cue_store::place::write_cue;
 use cue_store::place::write_no_cues;
+use fair_table::is_fair_table;
 use layout::CUES;
 use layout::STORE_BYTES;
 ghost use mathlib.Core.Path.{_≡_};
@@ -50,7 +51,7 @@ pub extern "C" fn cue_set(table: &[u8], store: &mut [u8], name: &[u8]) -> u32
     ensures { λ _. ⌜ now (store .exit) ≡ storeAfter (now (store .entry))
         (setCall (now (table .entry)) (now (store .entry)) (now (name .entry))) ⌝ }
 {
-    if !slot_check::is_table(table) {
+    if !is_fair_table(table) {
         return Refusal::BrokenTable.number();
     }
     if !is_store(store) {
@@ -100,7 +101,7 @@ pub extern "C" fn cue_return(table: &mut [u8], store: &[u8], name: &[u8]) -> u32
     ensures { λ _. ⌜ now (table .exit) ≡ tableReturned (now (table .entry))
         (returnCall (now (table .entry)) (now (store .entry)) (now (name .entry))) ⌝ }
 {
-    if !slot_check::is_table(table) {
+    if !is_fair_table(table) {
         return Refusal::BrokenTable.number();
     }
     if !is_store(store) {

@@ -8,23 +8,26 @@ use native.Mathlib.Nat.{zero-add}
 use native.Mathlib.Omega.{arith}
 use borrow.Author.Tests.{ne-eqb}
 use lib.Dec.{eqb, lit≤}
-use lib.ListN.{length, take, drop, replicate, set, getD, length-drop, length-replicate, replicate-append-replicate}
+use lib.ListN.{length, take, drop, replicate, set, getD, length-drop, length-replicate}
 use lib.ListN.{List·getD-map, length-map}
 use lib.Seq.{take-at, drop-at, take-take, take-add, drop-drop, length-take-le, ext-getD}
 use Rattle.laws.specs.Lists.{all?, upTo}
 use Rattle.laws.proofs.Lists.{all?-e, getD-mem}
 use Rattle.laws.proofs.Numbers.{length-numbersFrom, numbersFrom-at}
-use Rattle.laws.proofs.Tests.{and-l, eqb-turned}
+use Rattle.laws.proofs.Tests.{eqb-turned}
 use Rattle.model.specs.Cues.{cueLimit, nameLimit, wellNamed, firstPlace, isNamed, isFree}
 use Rattle.model.specs.Cues.{Cue, Cues, soundCue, soundCues}
-use Rattle.model.specs.Sound.{sound}
+use Rattle.model.specs.Fair.{Fair}
 use Rattle.model.specs.State.{Switch}
 use Rattle.layout.specs.Code.{put}
-use Rattle.layout.specs.Cues.{placeSize, storeSize, nameBytes, cueBytes, storeBytes, decodeStore}
+use Rattle.layout.specs.Cues.{soundFair, fairCues, placeSize, storeSize, storeBytes, decodeStore}
+use Rattle.layout.specs.CodeCues.{cueBytes}
+use Rattle.layout.specs.Fair.{fairNumber, fairSize, fairBytes}
 use Rattle.layout.specs.Number.{bytesOf, numberOf, numberAt}
-use Rattle.layout.specs.Table.{tableSize, encode}
-use Rattle.layout.proofs.Cues.{length-nameBytes, decodeStore-some, decodeStore-length}
-use Rattle.layout.proofs.Cues.{soundCues-length, soundCues-each, storeBytes-place, storeBytes-set}
+use Rattle.layout.specs.Stores.{nameBytes, cueBytesBy}
+use Rattle.layout.proofs.Cues.{fair-fit}
+use Rattle.layout.proofs.Stores.{length-nameBytes, zero-parts, decodeStore-some, decodeStore-length, soundCue-name}
+use Rattle.layout.proofs.Stores.{soundCues-length, soundCues-each, storeBytes-place, storeBytes-set}
 use Rattle.cue_store.specs.Code.{placeStart, nameAt, tableAt, placeOf}
 use Rattle.cue_store.specs.Names.{nameNumber}
 use Rattle.model.proofs.FirstPlace.{first-ext, first-map}
@@ -37,7 +40,7 @@ use Rattle.cue_store.proofs.Names.{number-zeros, number-bytes, name-byt
 abbrev pub placeAt : List ℕ → ℕ → List ℕ
 placeAt store k = take placeSize (drop (placeStart k) store)
 
-drop-take : (n m : ℕ) (l : List ℕ) → n ≤ length l → drop n (take (n + m) l) ≡ take m (drop n l)
+pub drop-take : (n m : ℕ) (l : List ℕ) → n ≤ length l → drop n (take (n + m) l) ≡ take m (drop n l)
 drop-take n m l h = rw (take-add n m l) (drop-at (take n l) (take m (drop n l)) n (length-take-le n l h))
 
 -- its first eight are those of the name
@@ -52,58 +55,49 @@ pub table-part : (store : List ℕ) (k : ℕ) → length store ≡ storeSize →
 unfolding tableAt
 table-part store k size few =
     sym
-    (drop-take nameLimit tableSize (drop (placeStart k) store) (simp length-drop (omega arith))
-    ∙ ap (take tableSize) (drop-drop nameLimit (placeStart k) store))
-
--- a free place is zeros
-pub zero-parts : cueBytes none ≡ replicate nameLimit 0 ++ replicate tableSize 0
-unfolding cueBytes
-zero-parts = sym (replicate-append-replicate nameLimit tableSize 0)
+    (drop-take nameLimit fairSize (drop (placeStart k) store) (simp length-drop (omega arith))
+    ∙ ap (take fairSize) (drop-drop nameLimit (placeStart k) store))
 
 ------------------------------------------------------------------------
 -- the numbers of the names
 
 -- the number of a cue's name, and 0 for a free place
-unfoldable pub numberIn : Option (Cue Switch) → ℕ
+unfoldable pub numberIn : Option (Cue (Fair Switch)) → ℕ
 numberIn none = 0
 numberIn (some c) = numberOf (c .name)
 
-pub named-well : (c : Cue Switch) → soundCue sound (some c) ≡ true → wellNamed (c .name) ≡ true
-unfolding soundCue
-named-well c h = and-l (wellNamed (c .name)) (sound (c .switch)) h
-
-pub cue-number : (c : Option (Cue Switch)) → soundCue sound c ≡ true
+pub cue-number : (c : Option (Cue (Fair Switch))) → soundCue soundFair c ≡ true
     → numberOf (take nameLimit (cueBytes c)) ≡ numberIn c
-unfolding numberIn cueBytes
+unfolding numberIn cueBytesBy
 cue-number none h =
     ap numberOf
-    (ap (take nameLimit) zero-parts
-    ∙ take-at (replicate nameLimit 0) (replicate tableSize 0) nameLimit (length-replicate {A = ℕ} nameLimit 0))
+    (ap (take nameLimit) (zero-parts fairCues)
+    ∙ take-at (replicate nameLimit 0) (replicate fairSize 0) nameLimit (length-replicate {A = ℕ} nameLimit 0))
     ∙ number-zeros nameLimit
 cue-number (some c) h =
     ap numberOf
-    (take-at (nameBytes (c .name)) (encode (c .switch)) nameLimit (length-nameBytes (c .name) (named-well c h)))
+    (take-at (nameBytes (c .name)) (fairBytes fairNumber (c .switch)) nameLimit (length-nameBytes (c .name) (soundCue-name soundFair c h)))
     ∙ number-bytes (c .name)
 
 -- whether its number is that of a name
-same-in : (name : List ℕ) (c : Option (Cue Switch)) → wellNamed name ≡ true → soundCue sound c ≡ true
+same-in : (name : List ℕ) (c : Option (Cue (Fair Switch))) → wellNamed name ≡ true → soundCue soundFair c ≡ true
     → eqb (numberIn c) (numberOf name) ≡ isNamed name c
 unfolding numberIn isNamed
 same-in name none h k =
     let some-letter : 1 ≤ numberOf name = name-positive name h in
     ne-eqb 0 (numberOf name) (omega arith)
 same-in name (some c) h k =
-    eqb-turned (numberOf (c .name)) (numberOf name) ∙ same-name name (c .name) h (named-well c k)
+    eqb-turned (numberOf (c .name)) (numberOf name) ∙ same-name name (c .name) h (soundCue-name soundFair c k)
 
-free-in : (c : Option (Cue Switch)) → soundCue sound c ≡ true → eqb (numberIn c) 0 ≡ isFree c
+free-in : (c : Option (Cue (Fair Switch))) → soundCue soundFair c ≡ true → eqb (numberIn c) 0 ≡ isFree c
 unfolding numberIn isFree
 free-in none k = refl
 free-in (some c) k =
-    let some-letter : 1 ≤ numberOf (c .name) = name-positive (c .name) (named-well c k) in
+    let some-letter : 1 ≤ numberOf (c .name) = name-positive (c .name) (soundCue-name soundFair c k) in
     ne-eqb (numberOf (c .name)) 0 (omega arith)
 
 -- cues whose names have the numbers that stand in the bytes
-module _ (store : List ℕ) (cues : Cues Switch) (four : length cues ≡ cueLimit)
+module _ (store : List ℕ) (cues : Cues (Fair Switch)) (four : length cues ≡ cueLimit)
     (names : (k : ℕ) → k < cueLimit → nameAt store k ≡ numberIn (getD cues k none)) where
   numbers : map (nameAt store) (upTo cueLimit) ≡ map numberIn cues
   unfolding upTo numberIn
@@ -126,32 +120,32 @@ module _ (store : List ℕ) (cues : Cues Switch) (four : length cues ≡ cueLimi
       ∙ ap (firstPlace (λ m. eqb m n)) numbers
       ∙ first-map (λ m. eqb m n) numberIn cues
 
-  pub place-name : all? (soundCue sound) cues ≡ true → (name : List ℕ) → wellNamed name ≡ true
+  pub place-name : all? (soundCue soundFair) cues ≡ true → (name : List ℕ) → wellNamed name ≡ true
       → placeOf store (numberOf name) ≡ firstPlace (isNamed name) cues
   place-name each name h =
       place-number (numberOf name)
       ∙ first-ext (λ c. eqb (numberIn c) (numberOf name)) (isNamed name) cues
-      (λ c m. same-in name c h (all?-e (soundCue sound) each m))
+      (λ c m. same-in name c h (all?-e (soundCue soundFair) each m))
 
 ------------------------------------------------------------------------
 -- a store of cues
 
-module _ (store : List ℕ) (cues : Cues Switch) (d : decodeStore store ≡ some cues) where
-  pub good : soundCues sound cues ≡ true
-  good = decodeStore-some store cues d .0
+module _ (store : List ℕ) (cues : Cues (Fair Switch)) (d : decodeStore store ≡ some cues) where
+  pub good : soundCues soundFair cues ≡ true
+  good = decodeStore-some fairCues store cues d .0
 
   pub cues-four : length cues ≡ cueLimit
-  cues-four = soundCues-length cues good
+  cues-four = soundCues-length soundFair cues good
 
-  pub good-each : all? (soundCue sound) cues ≡ true
-  good-each = soundCues-each cues good
+  pub good-each : all? (soundCue soundFair) cues ≡ true
+  good-each = soundCues-each soundFair cues good
 
-  pub good-at : (k : ℕ) → k < cueLimit → soundCue sound (getD cues k none) ≡ true
-  good-at k few = all?-e (soundCue sound) good-each (getD-mem cues k none (omega (arith, cues-four)))
+  pub good-at : (k : ℕ) → k < cueLimit → soundCue soundFair (getD cues k none) ≡ true
+  good-at k few = all?-e (soundCue soundFair) good-each (getD-mem cues k none (omega (arith, cues-four)))
 
   pub place-at : (k : ℕ) → k < cueLimit → placeAt store k ≡ cueBytes (getD cues k none)
   place-at k few =
-      ap (λ bs. placeAt bs k) (sym (decodeStore-some store cues d .1)) ∙ storeBytes-place cues k good few
+      ap (λ bs. placeAt bs k) (sym (decodeStore-some fairCues store cues d .1)) ∙ storeBytes-place fairCues fair-fit cues good k few
 
   pub number-at : (k : ℕ) → k < cueLimit → nameAt store k ≡ numberIn (getD cues k none)
   number-at k few =
@@ -163,7 +157,7 @@ module _ (store : List ℕ) (cues : Cues Switch) (d : decodeStore store ≡ some
   unfolding numberIn
   name-free k few e = number-at k few ∙ ap numberIn e
 
-  pub name-at : (k : ℕ) (c : Cue Switch) → k < cueLimit → getD cues k none ≡ some c
+  pub name-at : (k : ℕ) (c : Cue (Fair Switch)) → k < cueLimit → getD cues k none ≡ some c
       → nameAt store k ≡ numberOf (c .name)
   unfolding numberIn
   name-at k c few e = number-at k few ∙ ap numberIn e
@@ -176,33 +170,33 @@ module _ (store : List ℕ) (cues : Cues Switch) (d : decodeStore store ≡ some
   pub place-free : placeOf store 0 ≡ firstPlace isFree cues
   place-free =
       place-number store cues cues-four number-at 0
-      ∙ first-ext (λ c. eqb (numberIn c) 0) isFree cues (λ c m. free-in c (all?-e (soundCue sound) good-each m))
+      ∙ first-ext (λ c. eqb (numberIn c) 0) isFree cues (λ c m. free-in c (all?-e (soundCue soundFair) good-each m))
 
-  pub table-at : (k : ℕ) (c : Cue Switch) → k < cueLimit → getD cues k none ≡ some c
-      → tableAt store k ≡ encode (c .switch)
-  unfolding cueBytes
+  pub table-at : (k : ℕ) (c : Cue (Fair Switch)) → k < cueLimit → getD cues k none ≡ some c
+      → tableAt store k ≡ fairBytes fairNumber (c .switch)
+  unfolding cueBytesBy
   table-at k c few e =
-      let well : wellNamed (c .name) ≡ true = named-well c (ap (soundCue sound) (sym e) ∙ good-at k few) in
-      table-part store k (decodeStore-length store cues d) few
+      let well : wellNamed (c .name) ≡ true = soundCue-name soundFair c (ap (soundCue soundFair) (sym e) ∙ good-at k few) in
+      table-part store k (decodeStore-length fairCues fair-fit store cues d) few
       ∙ ap (drop nameLimit) (place-at k few ∙ ap cueBytes e)
-      ∙ drop-at (nameBytes (c .name)) (encode (c .switch)) nameLimit (length-nameBytes (c .name) well)
+      ∙ drop-at (nameBytes (c .name)) (fairBytes fairNumber (c .switch)) nameLimit (length-nameBytes (c .name) well)
 
-  put-place : (k : ℕ) (c : Option (Cue Switch)) → k < cueLimit
+  put-place : (k : ℕ) (c : Option (Cue (Fair Switch))) → k < cueLimit
       → put (placeStart k) placeSize (cueBytes c) store ≡ storeBytes (set cues k c)
   put-place k c few =
-      ap (put (placeStart k) placeSize (cueBytes c)) (sym (decodeStore-some store cues d .1))
-      ∙ storeBytes-set cues k c good few
+      ap (put (placeStart k) placeSize (cueBytes c)) (sym (decodeStore-some fairCues store cues d .1))
+      ∙ storeBytes-set fairCues fair-fit cues good k few c
 
-  pub put-cue : (k : ℕ) (name : List ℕ) (s : Switch) → k < cueLimit → wellNamed name ≡ true
-      → put (placeStart k) placeSize (bytesOf 8 (nameNumber name) ++ encode s) store
-      ≡ storeBytes (set cues k (some (record { name = name; switch = s })))
-  unfolding cueBytes
-  put-cue k name s few h =
-      ap (λ bs. put (placeStart k) placeSize (bs ++ encode s) store)
+  pub put-cue : (k : ℕ) (name : List ℕ) (x : Fair Switch) → k < cueLimit → wellNamed name ≡ true
+      → put (placeStart k) placeSize (bytesOf 8 (nameNumber name) ++ fairBytes fairNumber x) store
+      ≡ storeBytes (set cues k (some (record { name = name; switch = x })))
+  unfolding cueBytesBy
+  put-cue k name x few h =
+      ap (λ bs. put (placeStart k) placeSize (bs ++ fairBytes fairNumber x) store)
       (ap (bytesOf 8) (number-name name h) ∙ name-bytes name h)
-      ∙ put-place k (some (record { name = name; switch = s })) few
+      ∙ put-place k (some (record { name = name; switch = x })) few
 
   pub put-free : (k : ℕ) → k < cueLimit
       → put (placeStart k) placeSize (replicate placeSize 0) store ≡ storeBytes (set cues k none)
-  unfolding cueBytes
+  unfolding cueBytesBy
   put-free k few = put-place k none few

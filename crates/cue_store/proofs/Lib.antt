@@ -4,6 +4,8 @@ pub mod Found
 pub mod NameLoops
 pub mod NameRows
 pub mod Names
+pub mod OlderPlaces
+pub mod OlderStore
 pub mod PlaceBytes
 pub mod PlaceLoops
 pub mod PlaceTests

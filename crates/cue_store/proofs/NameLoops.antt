@@ -14,7 +14,7 @@ use Rattle.laws.specs.Lists.{all?}
 use Rattle.laws.proofs.Lists.{all?-e, getD-mem}
 use Rattle.laws.proofs.Tests.{same, clash, by-fail, and-i, and-l, and-r, and-false-l, cond-pass, cond-fail}
 use Rattle.model.specs.Cues.{nameLimit, isLetter, wellNamed}
-use Rattle.layout.specs.Cues.{nameOf}
+use Rattle.layout.specs.Stores.{nameOf}
 use Rattle.layout.specs.Number.{bytesOf, numberOf}
 use Rattle.layout.proofs.Number.{bytes?, bytes?-drop, numberOf-below, numberOf-bytesOf, length-bytesOf}
 use Rattle.cue_store.specs.Names.{nameNumber, isName}

@@ -5,8 +5,8 @@ use mathlib.Core.Path.{_≡_, refl}
 use lib.ListN.{replicate}
 use Rattle.laws.specs.Lists.{all?}
 use Rattle.model.specs.Cues.{isLetter, wellNamed}
-use Rattle.layout.specs.Cues.{nameBytes, nameOf}
 use Rattle.layout.specs.Number.{bytesOf, numberOf, sameBytes}
+use Rattle.layout.specs.Stores.{nameBytes, nameOf}
 use Rattle.cue_store.specs.Names.{nameNumber, isName}
 
 -- ab is 97 + 256 · 98; no letter, nine letters and a zero behind a letter are 0. A letter behind a zero is no name's number.

@@ -11,11 +11,11 @@ use Rattle.laws.specs.Lists.{all?, sameList}
 use Rattle.laws.proofs.Lists.{sameList-refl, sameList-exact}
 use Rattle.laws.proofs.Tests.{and-i, and-l, and-r, by-fail, by-pass, same, cond-pass, cond-fail}
 use Rattle.model.specs.Cues.{nameLimit, isLetter, wellNamed}
-use Rattle.layout.specs.Cues.{nameBytes, nameOf}
 use Rattle.layout.specs.Number.{bytesOf, numberOf}
+use Rattle.layout.specs.Stores.{nameBytes, nameOf}
 use Rattle.layout.proofs.Number.{bytesOf-numberOf, sameBytes-refl, sameBytes-exact}
 use Rattle.cue_store.specs.Names.{nameNumber, isName}
-use Rattle.layout.proofs.Cues.{nameBytes-bytes, length-nameBytes, nameOf-nameBytes}
+use Rattle.layout.proofs.Stores.{nameBytes-bytes, length-nameBytes, nameOf-nameBytes}
 
 ------------------------------------------------------------------------
 -- the bytes of a name

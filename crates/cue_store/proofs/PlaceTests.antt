@@ -7,17 +7,18 @@ use borrow.Author.Tests.{eq-eqb, ne-eqb}
 use lib.Dec.{eqb}
 use lib.ListN.{replicate}
 use Rattle.laws.proofs.Tests.{and-false-l, and-false-r}
+use Rattle.layout.specs.Frame.{isFairTable}
+use Rattle.layout.specs.Fair.{fairSize}
 use Rattle.layout.specs.Number.{sameBytes}
-use Rattle.layout.specs.Table.{tableSize, isTable}
 use Rattle.cue_store.specs.Code.{nameAt, tableAt, placeOf, isPlace}
 use Rattle.cue_store.specs.Names.{isName}
 
 -- one for a free place, one for any other
 abbrev pub isZeros : List ℕ → ℕ → Bool
-isZeros bs k = sameBytes (replicate tableSize 0) (tableAt bs k)
+isZeros bs k = sameBytes (replicate fairSize 0) (tableAt bs k)
 
 abbrev pub isCue : List ℕ → ℕ → Bool
-isCue bs k = isName (nameAt bs k) && (eqb (placeOf bs (nameAt bs k)) k && isTable (tableAt bs k))
+isCue bs k = isName (nameAt bs k) && (eqb (placeOf bs (nameAt bs k)) k && isFairTable (tableAt bs k))
 
 module _ (bs : List ℕ) (k : ℕ) where
   pub place-zeros : nameAt bs k ≡ 0 → isPlace bs k ≡ isZeros bs k
@@ -39,7 +40,7 @@ module _ (bs : List ℕ) (k : ℕ) where
         ∙ and-false-r (isName (nameAt bs k)) _
         (and-false-l (eqb (placeOf bs (nameAt bs k)) k) _ (ne-eqb (placeOf bs (nameAt bs k)) k h))
 
-    pub place-table : isName (nameAt bs k) ≡ true → placeOf bs (nameAt bs k) ≡ k → isPlace bs k ≡ isTable (tableAt bs k)
+    pub place-table : isName (nameAt bs k) ≡ true → placeOf bs (nameAt bs k) ≡ k → isPlace bs k ≡ isFairTable (tableAt bs k)
     place-table name first =
         place-cue z
-        ∙ ap₂ (λ a b. a && (b && isTable (tableAt bs k))) name (eq-eqb (placeOf bs (nameAt bs k)) k first)
+        ∙ ap₂ (λ a b. a && (b && isFairTable (tableAt bs k))) name (eq-eqb (placeOf bs (nameAt bs k)) k first)

@@ -6,9 +6,11 @@ use lib.Dec.{eqb, ltb}
 use lib.ListN.{take, drop, replicate}
 use Rattle.laws.specs.Lists.{upTo}
 use Rattle.model.specs.Cues.{cueLimit, nameLimit, firstPlace}
-use Rattle.layout.specs.Cues.{storeHeaderSize, placeSize}
+use Rattle.layout.specs.Frame.{isFairTable}
+use Rattle.layout.specs.Cues.{placeSize}
+use Rattle.layout.specs.Fair.{fairNumber, fairSize}
 use Rattle.layout.specs.Number.{numberAt, sameBytes, word}
-use Rattle.layout.specs.Table.{layoutNumber, tableSize, isTable}
+use Rattle.layout.specs.Stores.{storeHeaderSize}
 use Rattle.cue_store.specs.Names.{isName}
 
 -- the first byte of a place
@@ -20,7 +22,7 @@ unfoldable pub nameAt : List ℕ → ℕ → ℕ
 nameAt store k = numberAt 8 (placeStart k) store
 
 unfoldable pub tableAt : List ℕ → ℕ → List ℕ
-tableAt store k = take tableSize (drop (placeStart k + nameLimit) store)
+tableAt store k = take fairSize (drop (placeStart k + nameLimit) store)
 
 -- the first place with a name of this number, which is 0 for a free place; 4 if there is none
 unfoldable pub placeOf : List ℕ → ℕ → ℕ
@@ -34,10 +36,10 @@ placeFor store n = elim (ltb (placeOf store n) cueLimit) [ true ↦ placeOf stor
 unfoldable pub isPlace : List ℕ → ℕ → Bool
 isPlace store k =
     elim (eqb (nameAt store k) 0) [
-      | true ↦ sameBytes (replicate tableSize 0) (tableAt store k)
-      | false ↦ isName (nameAt store k) && (eqb (placeOf store (nameAt store k)) k && isTable (tableAt store k))
+      | true ↦ sameBytes (replicate fairSize 0) (tableAt store k)
+      | false ↦ isName (nameAt store k) && (eqb (placeOf store (nameAt store k)) k && isFairTable (tableAt store k))
     ]
 
 -- the layout's number, then zeros
 unfoldable pub isHeader : List ℕ → Bool
-isHeader store = eqb (word store 0) layoutNumber && sameBytes (replicate 12 0) (take 12 (drop 4 store))
+isHeader store = eqb (word store 0) fairNumber && sameBytes (replicate 12 0) (take 12 (drop 4 store))

@@ -3,8 +3,8 @@ use Prim.Native.Nat.{ℕ}
 use mathlib.Core.Bool.{Bool, cond, _&&_}
 use mathlib.Core.List.{List}
 use Rattle.model.specs.Cues.{wellNamed}
-use Rattle.layout.specs.Cues.{nameBytes, nameOf}
 use Rattle.layout.specs.Number.{bytesOf, numberOf, sameBytes}
+use Rattle.layout.specs.Stores.{nameBytes, nameOf}
 
 -- the number of a name: that of its bytes, and 0 where it is not well formed
 unfoldable pub nameNumber : List ℕ → ℕ

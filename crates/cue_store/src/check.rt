@@ -4,12 +4,12 @@ use crate::place::name_at;
 use crate::place::place_of;
 use crate::place::start_of;
 use layout::CUES;
+use layout::FAIR_BYTES;
+use layout::FAIR_NUMBER;
 use layout::NAME_BYTES;
 use layout::STORE_BYTES;
-use layout::TABLE_BYTES;
 use layout::run;
 use layout::word;
-use layout_table::header;
 ghost use mathlib.Core.Path.{_≡_};
 ghost use Prim.Native.Nat.{_<_};
 ghost use lib.ListN.{length};
@@ -42,7 +42,7 @@ fn is_header(store: &[u8]) -> bool
     requires { ⌜ length (now store) ≡ storeSize ⌝ }
     ensures { λ r. ⌜ r ≡ isHeader (now (store .entry)) ⌝ }
 {
-    if word::read_u32(store, 0) != header::LAYOUT {
+    if word::read_u32(store, 0) != FAIR_NUMBER {
         return false;
     }
     run::is_clear(store, 4, 12)
@@ -56,7 +56,7 @@ fn is_place(store: &[u8], k: usize) -> bool
     let number = name_at(store, k);
     let at = start_of(k) + NAME_BYTES;
     if number == 0 {
-        return run::is_clear(store, at, TABLE_BYTES);
+        return run::is_clear(store, at, FAIR_BYTES);
     }
     if !is_name(number) {
         return false;
@@ -64,5 +64,5 @@ fn is_place(store: &[u8], k: usize) -> bool
     if place_of(store, number) < k {
         return false;
     }
-    slot_check::is_table(&store[at..at + TABLE_BYTES])
+    fair_table::is_fair_table(&store[at..at + FAIR_BYTES])
 }

@@ -14,10 +14,10 @@ use Rattle.cell.specs.declared.Cell.{Cell}
 use Rattle.cell.specs.Limits.{fits32, portLimit}
 use Rattle.model.specs.Checks.{noDepartures}
 use Rattle.model.specs.Crossbar.{Answer}
-use Rattle.layout.specs.Number.{bytesOf, numberAt, numberOf, word}
+use Rattle.layout.specs.Number.{bytesOf, numberAt, numberOf, word, wordsIn}
 use Rattle.layout.specs.Answer.{departureSize, departuresSize, firstOccupancy, occupanciesSize, secondOccupancy}
 use Rattle.layout.specs.Answer.{answerSize, departureBytes, departuresBytes, wordsBytes, answerBytes}
-use Rattle.layout.specs.Answer.{departureIn, departuresIn, wordsIn, answerIn}
+use Rattle.layout.specs.Answer.{departureIn, departuresIn, answerIn}
 use Rattle.layout.proofs.Number.{take-first, drop-first, length-bytesOf}
 use Rattle.layout.proofs.Number.{numberOf-word, word-here, word-past}
 

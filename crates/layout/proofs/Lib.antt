@@ -2,10 +2,15 @@ pub mod Answer
 pub mod Arrivals
 pub mod CueRows
 pub mod Cues
+pub mod Engine
+pub mod Fair
 pub mod Halves
 pub mod Host
 pub mod Limits
+pub mod Memory
 pub mod Number
+pub mod Older
+pub mod OlderCues
 pub mod Oq
 pub mod OqRead
 pub mod OqRows
@@ -15,5 +20,6 @@ pub mod Put
 pub mod Read
 pub mod Records
 pub mod Runs
+pub mod Stores
 pub mod Table
 pub mod Tally

@@ -1,45 +1,33 @@
--- Laws of the output-queued switch's table and of the host's calls of it.
+-- Laws of the output-queued switch's older table.
 --     length-encodeOq, stateOfOq-encodeOq               the bytes of a sound state
 --     decodeOq-encodeOq, decodeOq-some, decodeOq-length what is accepted is the bytes of a sound state
 --     encodeOq-injective                                each sound state has its own
 --     oq-inner, oq-outer                                the table behind the number, and back
 --     isOqTable-some, is-oq-table, isOqTable-tests      whether bytes are a table, and by four tests
---     not-both                                          neither switch takes the other's table
---     oqStartCall-.., oqCheckCall-.., oqSlotOf-..       what the calls are refused for, and what they come to
-use Prim.Native.Nat.{ℕ, _+_, _≤_, _<_}
+--     not-both                                          no bytes are an older table of both switches
+use Prim.Native.Nat.{ℕ, _+_}
 use mathlib.Core.Bool.{Bool, true, false, _&&_, true≢false}
 use mathlib.Core.Path.{_≡_, refl, sym, _∙_, ap, ap₂}
 use mathlib.Core.List.{List, _++_}
 use mathlib.Core.Option.{Option, none, some, Option·some-injective, Option·some-ne-none}
 use native.Mathlib.Omega.{arith}
-use borrow.Author.Tests.{lt-ltb, le-ltb, eqb-true, eq-eqb, ne-eqb}
+use borrow.Author.Tests.{eqb-true, eq-eqb}
 use lib.Dec.{eqb}
 use lib.ListN.{length, take, drop, take-append-drop, length-append}
 use lib.Seq.{drop-at, length-take-le}
-use Rattle.laws.proofs.Tests.{clash, and-i, and-l, and-r, same}
-use Rattle.cell.specs.declared.Arrival.{Arrival}
-use Rattle.cell.specs.declared.Refusal.the-variants.{BadSize, BrokenTable, ShortBuffer}
-use Rattle.cell.specs.Limits.{portsInRange}
-use Rattle.model.specs.Checks.{Outcome, done, refused}
-use Rattle.model.specs.Crossbar.{start}
-use Rattle.model.specs.Oq.{allBuffered, soundOq, Served, slotOq}
-use Rattle.model.specs.State.{Switch, fresh}
+use Rattle.laws.proofs.Tests.{and-i, and-l, and-r, same}
+use Rattle.model.specs.Oq.{allBuffered, soundOq}
+use Rattle.model.specs.State.{Switch}
 use Rattle.model.proofs.OqSound.{sound-oq-i, sound-oq-table, sound-oq-buffered}
-use Rattle.layout.specs.Answer.{departuresSize}
-use Rattle.layout.specs.Arrivals.{recordsOf}
 use Rattle.layout.specs.Number.{bytesOf, numberOf, numberAt, word, sameBytes}
 use Rattle.layout.specs.CodeOq.{isOqTable}
-use Rattle.layout.specs.Oq.{oqNumber, oqNumberSize, oqTableSize, encodeOq, stateOfOq, decodeOq}
-use Rattle.layout.specs.Oq.{oqStartCall, oqCheckCall, oqSlotOf}
+use Rattle.layout.specs.Oq.{oqNumber, oqNumberSize, encodeOq, stateOfOq, decodeOq}
+use Rattle.layout.specs.CodeOq.{oqTableSize}
 use Rattle.layout.specs.Table.{encode, stateOf, decode, isTable}
-use Rattle.layout.specs.TallyBytes.{tallySize}
 use Rattle.layout.proofs.Number.{bytes?, bytes?-take, length-bytesOf, bytesOf-numberOf}
 use Rattle.layout.proofs.Number.{sameBytes-refl, sameBytes-exact}
 use Rattle.layout.proofs.Table.{length-encode, stateOf-encode, decode-encode, decode-sound, encode-decode}
 use Rattle.layout.proofs.Table.{decode-length, isTable-some, is-table}
-
-------------------------------------------------------------------------
--- the table
 
 pub length-encodeOq : (s : Switch) → soundOq s ≡ true → length (encodeOq s) ≡ oqTableSize
 unfolding encodeOq
@@ -109,7 +97,7 @@ oq-outer bs s size front inner buffered =
     ap decodeOq whole
     ∙ decodeOq-encodeOq s (sound-oq-i s (decode-sound (drop oqNumberSize bs) s inner) buffered)
 
--- neither switch takes the other's table
+-- no bytes are an older table of both switches
 pub not-both : (bs : List ℕ) (s t : Switch) → decode bs ≡ some s → decodeOq bs ≡ some t → ⊥
 not-both bs s t e f = omega (arith, decode-length bs s e, decodeOq-length bs t f)
 
@@ -159,79 +147,3 @@ module _ (bs : List ℕ) where
 
   pub isOqTable-tests : bytes? bs ≡ true → isOqTable bs ≡ tests
   isOqTable-tests h = same (isOqTable bs) tests tested (accepted h)
-
-------------------------------------------------------------------------
--- start: 1 comes before 10
-
-module _ (ports first : ℕ) (buffer : List ℕ) where
-  pub oqStartCall-size : portsInRange ports ≡ false → oqStartCall ports first buffer ≡ refused BadSize 0
-  unfolding oqStartCall start
-  oqStartCall-size h = rw (h, oqStartCall, start)
-
-  pub oqStartCall-short : portsInRange ports ≡ true → length buffer < oqTableSize
-      → oqStartCall ports first buffer ≡ refused ShortBuffer 0
-  unfolding oqStartCall start
-  oqStartCall-short h short = rw (h, lt-ltb (length buffer) oqTableSize short, oqStartCall, start)
-
-  pub oqStartCall-done : portsInRange ports ≡ true → oqTableSize ≤ length buffer
-      → oqStartCall ports first buffer ≡ done (fresh ports first)
-  unfolding oqStartCall start
-  oqStartCall-done h room = rw (h, le-ltb (length buffer) oqTableSize room, oqStartCall, start)
-
-------------------------------------------------------------------------
--- check
-
-pub oqCheckCall-table : (table : List ℕ) → isOqTable table ≡ true → oqCheckCall table ≡ 0
-unfolding oqCheckCall
-oqCheckCall-table table h = rw (is-oq-table table h, oqCheckCall)
-
-pub oqCheckCall-broken : (table : List ℕ) → isOqTable table ≡ false → oqCheckCall table ≡ 2
-unfolding oqCheckCall isOqTable
-oqCheckCall-broken table h = go (decodeOq table) refl
-  where
-    go : (o : Option Switch) → decodeOq table ≡ o → oqCheckCall table ≡ 2
-    go none e = rw (e, oqCheckCall)
-    go (some s) e = absurd (clash (isOqTable-some table s e) h)
-
-------------------------------------------------------------------------
--- slot: 2, then 10, then what the slot itself finds
-
-module _ (table arrivals : List ℕ) (room tally : ℕ) where
-  abbrev outcome : Outcome Served
-  outcome = oqSlotOf (decodeOq table) (recordsOf arrivals) room tally
-
-  pub oqSlotOf-table : isOqTable table ≡ false → outcome ≡ refused BrokenTable 0
-  unfolding oqSlotOf
-  oqSlotOf-table h = go (decodeOq table) refl
-    where
-      go : (o : Option Switch) → decodeOq table ≡ o → outcome ≡ refused BrokenTable 0
-      go none e = rw e
-      go (some s) e = absurd (clash (isOqTable-some table s e) h)
-
-  pub oqSlotOf-arrivals : recordsOf arrivals ≡ none → outcome ≡ refused BrokenTable 0
-  unfolding oqSlotOf
-  oqSlotOf-arrivals a = go (decodeOq table) refl
-    where
-      go : (o : Option Switch) → decodeOq table ≡ o → outcome ≡ refused BrokenTable 0
-      go none e = rw e
-      go (some s) e = rw (e, a)
-
-  pub oqSlotOf-tally : (tally ≡ tallySize → ⊥) → outcome ≡ refused BrokenTable 0
-  unfolding oqSlotOf
-  oqSlotOf-tally h = go (decodeOq table) refl (recordsOf arrivals) refl
-    where
-      go : (o : Option Switch) → decodeOq table ≡ o → (a : Option (List Arrival)) → recordsOf arrivals ≡ a
-          → outcome ≡ refused BrokenTable 0
-      go none e a f = rw e
-      go (some s) e none f = rw (e, f)
-      go (some s) e (some records) f = rw (e, f, ne-eqb tally tallySize h, oqSlotOf)
-
-  module _ (s : Switch) (records : List Arrival) (t : decodeOq table ≡ some s) (a : recordsOf arrivals ≡ some records)
-      (c : tally ≡ tallySize) where
-    pub oqSlotOf-short : room < departuresSize → outcome ≡ refused ShortBuffer 0
-    unfolding oqSlotOf
-    oqSlotOf-short h = rw (t, a, eq-eqb tally tallySize c, lt-ltb room departuresSize h, oqSlotOf)
-
-    pub oqSlotOf-slot : departuresSize ≤ room → outcome ≡ slotOq s (some records)
-    unfolding oqSlotOf
-    oqSlotOf-slot h = rw (t, a, eq-eqb tally tallySize c, le-ltb room departuresSize h, oqSlotOf)

@@ -28,7 +28,7 @@ use Rattle.model.proofs.OqSound.{called-oq}
 use Rattle.model.proofs.SoundSlot.{came}
 use Rattle.layout.specs.Answer.{departuresBytes, departuresIn, departuresSize}
 use Rattle.layout.specs.Host.{filled}
-use Rattle.layout.specs.Oq.{oqAnswerAfter}
+use Rattle.layout.specs.CodeOq.{oqAnswerAfter}
 use Rattle.layout.proofs.Answer.{departureFits, length-departuresBytes, departuresIn-all}
 use Rattle.layout.proofs.Limits.{length-departures, departures-fit}
 use Rattle.layout.proofs.Number.{fits32-below}

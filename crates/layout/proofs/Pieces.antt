@@ -1,6 +1,7 @@
 -- Laws of equal pieces of a byte string.
 --     sized                          all pieces have this size
 --     flatten-pieces, pieces-flatten a string cut into pieces, and pieces put together
+--     piece-of, count-pieces         one of them by its number, and how many there are
 --     length-flatten                 how long they are together
 --     piece-at, put-piece            one of them read, and one of them written, behind any front
 --     flatten-zeros                  pieces of zeros
@@ -14,11 +15,11 @@ use borrow.Author.Tests.{eqb-true}
 use lib.Dec.{eqb}
 use lib.ListN.{length, take, drop, getD, set, replicate, length-append, length-drop, take-append-drop}
 use lib.ListN.{replicate-append-replicate}
-use lib.Seq.{take-at, drop-at, take-append-add, drop-append-add}
+use lib.Seq.{take-at, drop-at, drop-drop, take-append-add, drop-append-add}
 use Rattle.laws.specs.Lists.{all?}
 use Rattle.laws.proofs.Tests.{and-l, and-r}
 use Rattle.layout.specs.Code.{put}
-use Rattle.layout.specs.Cues.{pieces}
+use Rattle.layout.specs.Stores.{pieces}
 
 unfoldable pub sized : ℕ → List (List ℕ) → Bool
 sized size xs = all? (λ x. eqb (length x) size) xs
@@ -62,6 +63,21 @@ pieces-flatten size (x ∷ xs) h =
     ap₂ _∷_ (take-at x (flatten xs) size first)
     (ap (pieces size (length xs)) (drop-at x (flatten xs) size first)
     ∙ pieces-flatten size xs (sized-others size x xs h))
+
+-- the pieces by their numbers
+pub piece-of : (size n : ℕ) (bs d : List ℕ) (k : ℕ) → k < n → getD (pieces size n bs) k d ≡ take size (drop (size * k) bs)
+unfolding pieces
+piece-of size zero bs d k few = absurd (omega arith)
+piece-of size (suc n) bs d zero few = ap (λ m. take size (drop m bs)) (sym (mul-zero size))
+piece-of size (suc n) bs d (suc k) few =
+    let next : size + size * k ≡ size * suc k = omega (arith, mul-suc size k) in
+    piece-of size n (drop size bs) d k (omega arith)
+    ∙ ap (take size) (drop-drop (size * k) size bs ∙ ap (λ m. drop m bs) next)
+
+pub count-pieces : (size n : ℕ) (bs : List ℕ) → length (pieces size n bs) ≡ n
+unfolding pieces
+count-pieces size zero bs = refl
+count-pieces size (suc n) bs = ap suc (count-pieces size n (drop size bs))
 
 pub piece-at : (size : ℕ) (xs : List (List ℕ)) (k : ℕ) → sized size xs ≡ true → k < length xs
     → take size (drop (size * k) (flatten xs)) ≡ getD xs k []

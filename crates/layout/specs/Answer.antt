@@ -11,7 +11,7 @@ use lib.ListN.{take, drop, replicate}
 use Rattle.cell.specs.declared.Cell.{Cell}
 use Rattle.cell.specs.Limits.{portLimit}
 use Rattle.model.specs.Crossbar.{Answer, refusedAnswer}
-use Rattle.layout.specs.Number.{bytesOf, word}
+use Rattle.layout.specs.Number.{bytesOf, word, wordsIn}
 
 abbrev pub departureSize : ℕ
 departureSize = 28
@@ -80,11 +80,6 @@ departureIn bs = elim (eqb (word bs 0) 0) [ true ↦ none | false ↦ some (cell
 unfoldable pub departuresIn : ℕ → List ℕ → List (Option Cell)
 departuresIn zero bs = []
 departuresIn (suc n) bs = departureIn (take departureSize bs) ∷ departuresIn n (drop departureSize bs)
-
--- so many numbers, one behind the other
-unfoldable pub wordsIn : ℕ → List ℕ → List ℕ
-wordsIn zero bs = []
-wordsIn (suc n) bs = word bs 0 ∷ wordsIn n (drop 4 bs)
 
 -- the answer of a switch of so many ports that bytes stand for
 unfoldable pub answerIn : ℕ → List ℕ → Answer

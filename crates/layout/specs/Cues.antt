@@ -1,117 +1,122 @@
--- The bytes of a cue store, and the calls of the host on it. A header of 16 bytes, the layout's number and zeros, then
--- four places, each the name in eight bytes, padded with zeros, and the table of the switch that the cue holds; a free
--- place is zeros. A store is the bytes of one sound store of cues, and each of these has one.
-use Prim.Native.Nat.{ℕ, zero, suc, _+_, _*_, _-_}
-use mathlib.Core.Bool.{Bool, true, false, cond, _&&_}
-use mathlib.Core.List.{List, [], _∷_, _++_, map, flatten}
+-- The cue stores of the host and its calls on them. A cue holds a switch with its memory, as the host's table does; in an
+-- older store it holds a switch alone.
+use Prim.Native.Nat.{ℕ}
+use mathlib.Core.Bool.{Bool, true, false, _&&_}
+use mathlib.Core.List.{List, map}
 use mathlib.Core.Option.{Option, none, some}
-use lib.Dec.{ltb, eqb}
-use lib.ListN.{length, take, drop, replicate}
+use lib.Dec.{ltb}
+use lib.ListN.{length}
 use Rattle.cell.specs.declared.Refusal.the-variants.{BrokenTable, ShortBuffer}
-use Rattle.cell.specs.Refusal.{number}
+use Rattle.cell.specs.Refusal.{number as refusalNumber}
 use Rattle.model.specs.Checks.{Outcome, done, refused}
-use Rattle.model.specs.Cues.{cueLimit, nameLimit, Cue, Cues, noCues, setCue, dropCue, returnTo, soundCues}
-use Rattle.model.specs.Sound.{sound}
+use Rattle.model.specs.Cues.{Cue, Cues, noCues, setCue, dropCue, returnTo}
+use Rattle.model.specs.Fair.{Fair, soundMemory, marked}
+use Rattle.model.specs.Sound.{sound as soundSwitch}
 use Rattle.model.specs.State.{Switch}
+use Rattle.layout.specs.Fair.{fairNumber, fairSize, fairBytes, fairOf, decodeFair}
 use Rattle.layout.specs.Host.{filled}
-use Rattle.layout.specs.Number.{bytesOf, sameBytes}
-use Rattle.layout.specs.Table.{layoutNumber, tableSize, encode, stateOf, decode}
+use Rattle.layout.specs.Stores.{Layout, placeSizeBy, storeSizeBy, storeBytesBy, cueBy, decodeBy}
+use Rattle.layout.specs.Table.{layoutNumber, tableSize, encode, stateOf}
 
-abbrev pub storeHeaderSize : ℕ
-storeHeaderSize = 16
+unfoldable pub soundFair : Fair Switch → Bool
+soundFair x = soundSwitch (x .core) && soundMemory (x .core .ports) (x .memory)
+
+abbrev pub fairCues : Layout (Fair Switch)
+fairCues =
+    record { number = fairNumber; size = fairSize; bytes = fairBytes fairNumber; state = fairOf; sound = soundFair }
+
+abbrev pub olderCues : Layout Switch
+olderCues =
+    record { number = layoutNumber; size = tableSize; bytes = encode; state = stateOf; sound = soundSwitch }
 
 abbrev pub placeSize : ℕ
-placeSize = nameLimit + tableSize
+placeSize = placeSizeBy fairCues
 
 abbrev pub storeSize : ℕ
-storeSize = storeHeaderSize + cueLimit * placeSize
+storeSize = storeSizeBy fairCues
 
--- a name, then zeros
-unfoldable pub nameBytes : List ℕ → List ℕ
-nameBytes name = name ++ replicate (nameLimit - length name) 0
+abbrev pub storeBytes : Cues (Fair Switch) → List ℕ
+storeBytes = storeBytesBy fairCues
 
-unfoldable pub cueBytes : Option (Cue Switch) → List ℕ
-cueBytes none = replicate placeSize 0
-cueBytes (some c) = nameBytes (c .name) ++ encode (c .switch)
+abbrev pub cueOf : List ℕ → Option (Cue (Fair Switch))
+cueOf = cueBy fairCues
 
-unfoldable pub storeHeader : List ℕ
-storeHeader = bytesOf 4 layoutNumber ++ replicate 12 0
-
-unfoldable pub storeBytes : Cues Switch → List ℕ
-storeBytes cues = storeHeader ++ flatten (map cueBytes cues)
-
--- the bytes before the first zero
-unfoldable pub nameOf : List ℕ → List ℕ
-nameOf [] = []
-nameOf (b ∷ bs) = cond (eqb b 0) [] (b ∷ nameOf bs)
-
--- the cue that the bytes of a place would stand for, whatever they are: none without a name
-unfoldable pub cueOf : List ℕ → Option (Cue Switch)
-cueOf bs =
-    let name = nameOf (take nameLimit bs) in
-    elim (eqb (length name) 0) [ true ↦ none | false ↦ some (record { name = name; switch = stateOf (drop nameLimit bs) }) ]
-
--- so many pieces of a size, one after the other
-unfoldable pub pieces : ℕ → ℕ → List ℕ → List (List ℕ)
-pieces size zero bs = []
-pieces size (suc n) bs = take size bs ∷ pieces size n (drop size bs)
-
--- the cues that bytes would stand for, whatever they are
-unfoldable pub cuesOf : List ℕ → Cues Switch
-cuesOf bs = map cueOf (pieces placeSize cueLimit (drop storeHeaderSize bs))
-
--- the cues of a store; none if the bytes are no store of sound cues
-unfoldable pub decodeStore : List ℕ → Option (Cues Switch)
-decodeStore bs =
-    let cues = cuesOf bs in
-    elim (soundCues sound cues && sameBytes (storeBytes cues) bs) [ true ↦ some cues | false ↦ none ]
+abbrev pub decodeStore : List ℕ → Option (Cues (Fair Switch))
+decodeStore = decodeBy fairCues
 
 -- whether bytes are a store
 unfoldable pub isStore : List ℕ → Bool
 isStore bs = elim (decodeStore bs) [ some cues ↦ true | none ↦ false ]
 
 -- Start of a store: no cue held, or 10.
-unfoldable pub storeCall : List ℕ → Outcome (Cues Switch)
+unfoldable pub storeCall : List ℕ → Outcome (Cues (Fair Switch))
 storeCall buffer = elim (ltb (length buffer) storeSize) [ true ↦ refused ShortBuffer 0 | false ↦ done noCues ]
 
-unfoldable pub storeBuffer : List ℕ → Outcome (Cues Switch) → List ℕ
+unfoldable pub storeBuffer : List ℕ → Outcome (Cues (Fair Switch)) → List ℕ
 storeBuffer buffer (done cues) = filled (storeBytes cues) buffer
 storeBuffer buffer (refused r place) = buffer
 
 -- Check of a store: 0 or 2.
 unfoldable pub storeCheckCall : List ℕ → ℕ
-storeCheckCall store = elim (decodeStore store) [ some cues ↦ 0 | none ↦ number BrokenTable ]
+storeCheckCall store = elim (decodeStore store) [ some cues ↦ 0 | none ↦ refusalNumber BrokenTable ]
 
 -- Setting, dropping and returning: 2 for a switch or a cue store that is not sound, then what the cues say.
-unfoldable pub setOf : Option Switch → Option (Cues Switch) → List ℕ → Outcome (Cues Switch)
+unfoldable pub setOf : Option (Fair Switch) → Option (Cues (Fair Switch)) → List ℕ → Outcome (Cues (Fair Switch))
 setOf none cues name = refused BrokenTable 0
-setOf (some s) none name = refused BrokenTable 0
-setOf (some s) (some cues) name = setCue name s cues
+setOf (some x) none name = refused BrokenTable 0
+setOf (some x) (some cues) name = setCue name x cues
 
-unfoldable pub setCall : List ℕ → List ℕ → List ℕ → Outcome (Cues Switch)
-setCall table store name = setOf (decode table) (decodeStore store) name
+unfoldable pub setCall : List ℕ → List ℕ → List ℕ → Outcome (Cues (Fair Switch))
+setCall table store name = setOf (decodeFair table) (decodeStore store) name
 
-unfoldable pub dropOf : Option (Cues Switch) → List ℕ → Outcome (Cues Switch)
+unfoldable pub dropOf : Option (Cues (Fair Switch)) → List ℕ → Outcome (Cues (Fair Switch))
 dropOf none name = refused BrokenTable 0
 dropOf (some cues) name = dropCue name cues
 
-unfoldable pub dropCall : List ℕ → List ℕ → Outcome (Cues Switch)
+unfoldable pub dropCall : List ℕ → List ℕ → Outcome (Cues (Fair Switch))
 dropCall store name = dropOf (decodeStore store) name
 
 -- a return is lent the switch too, which it writes
-unfoldable pub returnOf : Option Switch → Option (Cues Switch) → List ℕ → Outcome Switch
+unfoldable pub returnOf : Option (Fair Switch) → Option (Cues (Fair Switch)) → List ℕ → Outcome (Fair Switch)
 returnOf none cues name = refused BrokenTable 0
-returnOf (some s) none name = refused BrokenTable 0
-returnOf (some s) (some cues) name = returnTo name cues
+returnOf (some x) none name = refused BrokenTable 0
+returnOf (some x) (some cues) name = returnTo name cues
 
-unfoldable pub returnCall : List ℕ → List ℕ → List ℕ → Outcome Switch
-returnCall table store name = returnOf (decode table) (decodeStore store) name
+unfoldable pub returnCall : List ℕ → List ℕ → List ℕ → Outcome (Fair Switch)
+returnCall table store name = returnOf (decodeFair table) (decodeStore store) name
 
 -- the store after setting or dropping, and the table after a return: in refusing, as they were
-unfoldable pub storeAfter : List ℕ → Outcome (Cues Switch) → List ℕ
+unfoldable pub storeAfter : List ℕ → Outcome (Cues (Fair Switch)) → List ℕ
 storeAfter store (done cues) = storeBytes cues
 storeAfter store (refused r place) = store
 
-unfoldable pub tableReturned : List ℕ → Outcome Switch → List ℕ
-tableReturned table (done s) = encode s
+unfoldable pub tableReturned : List ℕ → Outcome (Fair Switch) → List ℕ
+tableReturned table (done x) = fairBytes fairNumber x
 tableReturned table (refused r place) = table
+
+------------------------------------------------------------------------
+-- the older store
+
+abbrev pub oldStoreSize : ℕ
+oldStoreSize = storeSizeBy olderCues
+
+abbrev pub decodeOldStore : List ℕ → Option (Cues Switch)
+decodeOldStore = decodeBy olderCues
+
+-- the same cue, of another switch
+unfoldable pub cueWith : {S T : Type 0} → (S → T) → Option (Cue S) → Option (Cue T)
+cueWith f none = none
+cueWith f (some c) = some (record { name = c .name; switch = f (c .switch) })
+
+-- the same cues in the new layout: no output is fair, and all else is kept
+unfoldable pub converted : Cues Switch → Cues (Fair Switch)
+converted cues = map (cueWith (marked 0)) cues
+
+-- Writing an older store in the new layout: 2 where it is not sound by its own rules, then 10.
+unfoldable pub convertCuesCall : List ℕ → List ℕ → Outcome (Cues (Fair Switch))
+convertCuesCall old buffer =
+    elim (decodeOldStore old) [
+      | none ↦ refused BrokenTable 0
+      | some cues ↦
+          elim (ltb (length buffer) storeSize) [ true ↦ refused ShortBuffer 0 | false ↦ done (converted cues) ]
+    ]

@@ -23,6 +23,11 @@ numberAt width at bs = numberOf (take width (drop at bs))
 unfoldable pub word : List ℕ → ℕ → ℕ
 word bs at = numberAt 4 at bs
 
+-- so many of them, one behind the other
+unfoldable pub wordsIn : ℕ → List ℕ → List ℕ
+wordsIn zero bs = []
+wordsIn (suc n) bs = word bs 0 ∷ wordsIn n (drop 4 bs)
+
 unfoldable pub sameBytes : List ℕ → List ℕ → Bool
 sameBytes [] [] = true
 sameBytes [] (c ∷ cs) = false

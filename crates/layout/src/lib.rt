@@ -22,7 +22,31 @@ pub const ENTRY_BYTES: usize = 16;
 
 pub const TABLE_BYTES: usize = HEADER_BYTES + ENTRIES * ENTRY_BYTES;
 
-// The bytes of the output-queued switch's table: a number of its own, then a table.
+// The bytes of a switch's memory: the marks of its fair outputs, the rank that last left each output, and the last rank
+// given to each flow, where they stand.
+pub const WORD_BYTES: usize = 4;
+
+pub const FLOWS: usize = PORTS * PORTS * Switch::FLOWS as usize;
+
+pub const LEFT_AT: usize = WORD_BYTES;
+
+pub const GIVEN_AT: usize = LEFT_AT + WORD_BYTES * PORTS;
+
+pub const MEMORY_BYTES: usize = GIVEN_AT + WORD_BYTES * FLOWS;
+
+// The bytes of the table that a host keeps: the number of its layout, then a table of cells, then a memory, where they
+// stand. The number is the engine's own.
+pub const FAIR_NUMBER: u32 = 2;
+
+pub const FAIR_NUMBER_OQ: u32 = 102;
+
+pub const CORE_AT: usize = WORD_BYTES;
+
+pub const MEMORY_AT: usize = CORE_AT + TABLE_BYTES;
+
+pub const FAIR_BYTES: usize = MEMORY_AT + MEMORY_BYTES;
+
+// The bytes of the output-queued switch's older table: a number of its own, then a table.
 pub const OQ_NUMBER: u32 = 101;
 
 pub const OQ_NUMBER_BYTES: usize = 4;
@@ -61,6 +85,11 @@ pub const NAME_BYTES: usize = 8;
 
 pub const STORE_HEADER_BYTES: usize = 16;
 
-pub const PLACE_BYTES: usize = NAME_BYTES + TABLE_BYTES;
+pub const PLACE_BYTES: usize = NAME_BYTES + FAIR_BYTES;
 
 pub const STORE_BYTES: usize = STORE_HEADER_BYTES + CUES * PLACE_BYTES;
+
+// The bytes of an older cue store, whose tables have no memory.
+pub const OLD_PLACE_BYTES: usize = NAME_BYTES + TABLE_BYTES;
+
+pub const OLD_STORE_BYTES: usize = STORE_HEADER_BYTES + CUES * OLD_PLACE_BYTES;

@@ -1,9 +1,10 @@
--- Whether bytes are the table of an output-queued switch: the number, then a table, and where its cells wait, by the
--- sets that the check of this table hands on.
+-- Whether bytes are the table of an output-queued switch: the frame, then a table of its cells, and where they wait, by
+-- the sets that the check of this table hands on.
 --     a-member, no-members              whether the set of each input is empty
 --     broken, in-a-list, in-no-list     a table whose cells all wait in buffers: its check, then whether none of
 --                                       them is in a list, then none at a crosspoint
---     other-size, other-number, by-inner   with the number in front
+--     other-frame, by-core              framed
+--     other-size, other-number, by-inner   the older table, with the number in front
 use Prim.Native.Nat.{ℕ, _+_, _*_, _-_, _≤_, _<_}
 use native.Mathlib.Nat.{zero-add}
 use native.Mathlib.Omega.{arith}
@@ -27,9 +28,14 @@ use Rattle.model.proofs.OqSound.{all-buffered-at, all-buffered-i}
 use Rattle.layout.specs.Code.{portsIn, firstRecord, entriesBetween, sectionAt}
 use Rattle.layout.specs.Entry.{entryAt, countIn}
 use Rattle.layout.specs.Number.{word}
+use Rattle.layout.specs.CodeFair.{isFairOqTable}
+use Rattle.layout.specs.Frame.{isFramed}
 use Rattle.layout.specs.CodeOq.{isOqTable}
-use Rattle.layout.specs.Oq.{oqNumber, oqNumberSize, oqTableSize, stateOfOq}
+use Rattle.layout.specs.Fair.{fairNumberOq, coreIn}
+use Rattle.layout.specs.Oq.{oqNumber, oqNumberSize, stateOfOq}
+use Rattle.layout.specs.CodeOq.{oqTableSize}
 use Rattle.layout.specs.Table.{stateOf, isTable, IsTable}
+use Rattle.layout.proofs.Fair.{isFairOqTable-tests}
 use Rattle.layout.proofs.Number.{bytes?}
 use Rattle.layout.proofs.Oq.{isOqTable-tests}
 use Rattle.layout.proofs.Table.{decode-sound, sound-length, is-table}
@@ -189,6 +195,14 @@ module _ (t lists heads crosses buffers : List ℕ) (whole : isTable t ≡ true)
     pub in-no-list : all? (λ set. eqb set 0) lists ≡ true
         → (b : Bool) → b ≡ all? (λ set. eqb set 0) crosses → b ≡ wholly t
     in-no-list none b e = sets-tell b (e ∙ ap (λ a. a && all? (λ set. eqb set 0) crosses) (sym none))
+
+-- bytes with a frame
+module _ (bs : List ℕ) (h : bytes? bs ≡ true) where
+  pub other-frame : isFramed fairNumberOq bs ≡ false → false ≡ isFairOqTable bs
+  other-frame n = sym (isFairOqTable-tests bs h ∙ and-false-l (isFramed fairNumberOq bs) (wholly (coreIn bs)) n)
+
+  pub by-core : isFramed fairNumberOq bs ≡ true → wholly (coreIn bs) ≡ isFairOqTable bs
+  by-core f = sym (isFairOqTable-tests bs h ∙ ap (λ x. x && wholly (coreIn bs)) f)
 
 -- bytes with the number in front
 module _ (bs : List ℕ) (h : bytes? bs ≡ true) where

@@ -1,4 +1,5 @@
-pub mod Calls
 pub mod Checked
+pub mod Held
 pub mod HostCalls
+pub mod Older
 pub mod Slots

@@ -1,5 +1,9 @@
-// Whether bytes are the table of an output-queued switch. The check of the table behind the number tells where its
-// cells wait, so the bytes are gone through once.
+// Whether bytes are the table of an output-queued switch, and whether they are an older one. The check of the cells
+// tells where they wait, so the bytes are gone through once.
+use fair_table::is_framed;
+use layout::CORE_AT;
+use layout::FAIR_NUMBER_OQ;
+use layout::MEMORY_AT;
 use layout::OQ_NUMBER;
 use layout::OQ_NUMBER_BYTES;
 use layout::OQ_TABLE_BYTES;
@@ -11,10 +15,21 @@ ghost use mathlib.Core.Path.{_≡_};
 ghost use lib.Dec.{eqb};
 ghost use Rattle.laws.specs.Lists.{all?};
 ghost use Rattle.model.specs.Oq.{allBuffered};
+ghost use Rattle.layout.specs.CodeFair.{isFairOqTable};
 ghost use Rattle.layout.specs.CodeOq.{isOqTable};
 ghost use Rattle.layout.specs.Table.{isTable, stateOf};
 
-// The number, then a table in which every cell waits in a buffer.
+// A framed table of cells that all wait in buffers.
+pub(crate) fn is_fair_oq_table(table: &[u8]) -> bool
+    ensures { λ r. ⌜ r ≡ isFairOqTable (now (table .entry)) ⌝ }
+{
+    if !is_framed(table, FAIR_NUMBER_OQ) {
+        return false;
+    }
+    is_buffered(&table[CORE_AT..MEMORY_AT])
+}
+
+// The older table: the number, then a table in which every cell waits in a buffer.
 pub(crate) fn is_oq_table(table: &[u8]) -> bool
     ensures { λ r. ⌜ r ≡ isOqTable (now (table .entry)) ⌝ }
 {

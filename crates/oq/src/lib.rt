@@ -1,51 +1,41 @@
 // What a host calls of the output-queued switch: numbers and byte slices, no call with a condition on what it is lent.
 mod check;
+pub mod convert;
 mod slot;
 
 use cell::Refusal;
-use cell::Switch;
-use check::is_oq_table;
+use check::is_fair_oq_table;
 use layout::ARRIVAL_BYTES;
-use layout::OQ_NUMBER;
-use layout::OQ_NUMBER_BYTES;
-use layout::OQ_TABLE_BYTES;
+use layout::FAIR_NUMBER_OQ;
 use layout::TALLY_BYTES;
 use layout::result::result_of;
-use layout::word::write_u32;
-use layout_table::header::write_fresh;
 use layout_tally::read;
 use layout_tally::write;
 use slot::counted_by;
 use slot::take_slot;
 ghost use mathlib.Core.Path.{_≡_};
+ghost use Rattle.layout.specs.Engine.{oq, startCall, bufferAfter, checkCall, slotCall, CallLeaves};
+ghost use Rattle.layout.specs.Fair.{fairNumberOq};
 ghost use Rattle.layout.specs.Host.{resultOf};
-ghost use Rattle.layout.specs.Oq.{oqStartCall, oqBufferAfter, oqCheckCall, oqSlotCall, OqCallLeaves};
 
-// Writes the table of a fresh switch into the first bytes of the buffer: 0. Refuses with 1 a number of ports that is
-// not 1 to 16, then with 10 a buffer that is too short; a refusal writes nothing.
+// Writes the table of a fresh switch into the first bytes of the buffer: 0. Output o is fair if bit o of `fair` is 1.
+// Refuses with 1 a number of ports that is not 1 to 16, then with 4 a mark at an output that is not below it, then with
+// 10 a buffer that is too short; a refusal writes nothing.
 #[no_mangle]
-pub extern "C" fn oq_start(ports: u32, first: u32, table: &mut [u8]) -> u32
-    ensures { λ r. ⌜ r ≡ resultOf (oqStartCall ports first (now (table .entry))) ⌝ }
-    ensures { λ _. ⌜ now (table .exit)
-        ≡ oqBufferAfter (now (table .entry)) (oqStartCall ports first (now (table .entry))) ⌝ }
+pub extern "C" fn oq_start(ports: u32, first: u32, fair: u32, table: &mut [u8]) -> u32
+    ensures { λ r. ⌜ r ≡ resultOf (startCall ports first fair (now (table .entry))) ⌝ }
+    ensures { λ _. ⌜ now (table .exit) ≡ bufferAfter fairNumberOq (now (table .entry))
+        (startCall ports first fair (now (table .entry))) ⌝ }
 {
-    if !Switch::ports_in_range(ports) {
-        return Refusal::BadSize.number();
-    }
-    if table.len() < OQ_TABLE_BYTES {
-        return Refusal::ShortBuffer.number();
-    }
-    write_u32(table, 0, OQ_NUMBER);
-    write_fresh(Switch::fresh(ports, first), &mut table[OQ_NUMBER_BYTES..]);
-    0
+    fair_table::start::start(ports, first, fair, FAIR_NUMBER_OQ, table)
 }
 
 // Whether the bytes are a table: 0, or 2. Nothing is written.
 #[no_mangle]
 pub extern "C" fn oq_check(table: &[u8]) -> u32
-    ensures { λ r. ⌜ r ≡ oqCheckCall (now (table .entry)) ⌝ }
+    ensures { λ r. ⌜ r ≡ checkCall oq (now (table .entry)) ⌝ }
 {
-    if is_oq_table(table) {
+    if is_fair_oq_table(table) {
         return 0;
     }
     Refusal::BrokenTable.number()
@@ -55,8 +45,9 @@ pub extern "C" fn oq_check(table: &[u8]) -> u32
 // of the answer's buffer are its departures, and the tally counts it. A refusal is its number and 256 times the
 // record's place (from 1; 0 for 2, 10 and 3), the first one of: 2, the table is broken, the arrivals are no whole
 // records or the tally has another length; 10, the buffer is too short for the departures; 3, the clock's end; record
-// by record 4 to 8. A refused slot has no departures, and nothing of that is written: the answer's buffer keeps its
-// bytes, and so does the table. The tally counts a refused slot; a tally of another length is kept too.
+// by record 4, 5, 6, 14, 15, 7, 8. A refused slot has no departures, and nothing of that is written: the answer's
+// buffer keeps its bytes, and so does the table, which remembers nothing of it. The tally counts a refused slot; a
+// tally of another length is kept too.
 #[no_mangle]
 pub extern "C" fn oq_slot(
     table: &mut [u8],
@@ -64,8 +55,8 @@ pub extern "C" fn oq_slot(
     answer: &mut [u8],
     tally: &mut [u8],
 ) -> u64
-    ensures { λ r. ⌜ OqCallLeaves
-        (oqSlotCall (now (table .entry)) (now (arrivals .entry)) (now (answer .entry)) (now (tally .entry)))
+    ensures { λ r. ⌜ CallLeaves oq
+        (slotCall oq (now (table .entry)) (now (arrivals .entry)) (now (answer .entry)) (now (tally .entry)))
         (now (table .entry)) (now (arrivals .entry)) (now (answer .entry)) (now (tally .entry))
         r (now (table .exit)) (now (answer .exit)) (now (tally .exit)) ⌝ }
 {

@@ -22,7 +22,7 @@ use Rattle.model.proofs.OqSound.{all-buffered-join}
 use Rattle.layout.specs.Answer.{departuresBytes}
 use Rattle.layout.specs.Code.{portsIn}
 use Rattle.layout.specs.Host.{filled}
-use Rattle.layout.specs.Oq.{oqAnswerAfter}
+use Rattle.layout.specs.CodeOq.{oqAnswerAfter}
 use Rattle.layout.specs.Table.{stateOf, encode, IsTable}
 use Rattle.slot_faults.specs.CodeFault.{coming, faultIn}
 use Rattle.slot_faults.proofs.Slots.{slot-oq-fault}

@@ -15,7 +15,7 @@ use Rattle.model.specs.Oq.{Served, joinBuffer, joinBuffers}
 use Rattle.model.specs.State.{Switch}
 use Rattle.layout.specs.Code.{portsIn}
 use Rattle.layout.specs.Entry.{clockIn, countIn}
-use Rattle.layout.specs.Oq.{oqAnswerAfter}
+use Rattle.layout.specs.CodeOq.{oqAnswerAfter}
 use Rattle.layout.specs.Table.{encode, IsTable}
 use Rattle.slot_faults.specs.CodeFault.{coming}
 

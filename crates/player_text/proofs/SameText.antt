@@ -25,7 +25,8 @@ use Rattle.model.specs.Checks.{Outcome, done, refused, refusal}
 use Rattle.model.specs.Crossbar.{answerOf, slotAnswer, slot, switchAfter}
 use Rattle.model.specs.Emulation.{lent}
 use Rattle.model.specs.Oq.{slotOq, servedDepartures, oqAfter}
-use Rattle.model.specs.Pifo.{sentDepartures, slotPifo, pifoAfter}
+use Rattle.model.specs.Pifo.{sentDepartures, slotPifo}
+use Rattle.model.specs.CodeFair.{pifoAfter}
 use Rattle.model.proofs.Demand3.{Kept, step, kept-fresh}
 use Rattle.model.proofs.OqAlike.{KeptOq, oq-step, kept-oq-fresh}
 use Rattle.trace.specs.declared.Key.the-variants.{Ports, First, Slot}

@@ -1,5 +1,5 @@
 // Shows whose arrivals are made by rule.
-use crate::stage::show;
+use crate::stage::show_fair;
 ghost use Prim.Native.Nat.{_<_};
 
 // Rows for 200 calls of eight arrivals. Those that are not filled name a call that never comes.
@@ -10,12 +10,26 @@ const NEVER: u32 = 4294967295;
 pub(crate) fn show_all() {
     let mut rows = [[NEVER; 6]; 1600];
     crowd_rows(&mut rows);
-    show_made(b"64th cell: ", 2, 64, &rows);
-    show_made(b"65th cell: ", 2, 133, &rows);
+    show_made(b"64th cell: ", 2, 0, 64, &rows);
+    show_made(b"65th cell: ", 2, 0, 133, &rows);
     equal_rows(&mut rows);
-    show_made(b"40 slots of equal ranks at 16 ports: ", 16, 200, &rows);
+    show_made(b"40 slots of equal ranks at 16 ports: ", 16, 0, 200, &rows);
+    show_made(
+        b"40 slots of equal weights at 16 ports: ",
+        16,
+        65535,
+        200,
+        &rows,
+    );
     load_rows(&mut rows);
-    show_made(b"200 slots at 16 ports: ", 16, 400, &rows);
+    show_made(b"200 slots at 16 ports: ", 16, 0, 400, &rows);
+    show_made(
+        b"200 slots at 16 ports, 8 outputs fair: ",
+        16,
+        21845,
+        400,
+        &rows,
+    );
 }
 
 // Input 1 keeps output 0 busy, so that the cells of input 0 stay: the 64th passes in call 63. A 65th is turned back
@@ -106,6 +120,6 @@ pub(crate) fn draw(seed: &mut u32) -> u32 {
     next
 }
 
-fn show_made(name: &[u8], ports: u32, calls: u32, rows: &Rows) {
-    show(name, ports, 0, calls, rows, false);
+fn show_made(name: &[u8], ports: u32, fair: u32, calls: u32, rows: &Rows) {
+    show_fair(name, ports, 0, fair, calls, rows, false);
 }

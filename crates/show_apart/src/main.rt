@@ -12,11 +12,12 @@ mod wrong;
 
 use layout::ANSWER_BYTES;
 use layout::ARRIVAL_BYTES;
-use layout::TABLE_BYTES;
+use layout::FAIR_BYTES;
 use layout::TALLY_BYTES;
 use say::say;
 use say::tell;
 use stage::show;
+use stage::show_fair;
 use trace_reader::Verdict;
 
 fn main() {
@@ -27,6 +28,7 @@ fn main() {
     records();
     ranks();
     matchings();
+    weights();
     made::show_all();
     rehearsal::show_all();
 }
@@ -43,11 +45,13 @@ fn bad_line() {
     }
 }
 
-// 1 comes before 10.
+// 1 comes before 4, and 4 before 10.
 fn starts() {
-    wrong::show_start(b"start with 0 ports: ", 0, TABLE_BYTES);
-    wrong::show_start(b"start with 17 ports: ", 17, TABLE_BYTES - 1);
-    wrong::show_start(b"start in 16415 bytes: ", 2, TABLE_BYTES - 1);
+    wrong::show_start(b"start with 0 ports: ", 0, 1, FAIR_BYTES);
+    wrong::show_start(b"start with 17 ports: ", 17, 0, FAIR_BYTES - 1);
+    wrong::show_start(b"start with output 2 of 2 fair: ", 2, 4, FAIR_BYTES - 1);
+    wrong::show_start(b"start with a mark at 31: ", 16, 2147483648, FAIR_BYTES);
+    wrong::show_start(b"start in 24679 bytes: ", 2, 3, FAIR_BYTES - 1);
 }
 
 // 2 comes before 10.
@@ -132,6 +136,57 @@ fn matchings() {
         true,
     );
 }
+
+// Weights at fair outputs, ranks at the others; 14, and in which order it comes.
+fn weights() {
+    show_fair(b"ranks made of weights: ", 2, 0, 1, 7, &WEIGHTS, true);
+    show_fair(
+        b"output 1 fair, output 0 not: ",
+        2,
+        0,
+        2,
+        7,
+        &ONE_FAIR,
+        true,
+    );
+    show_fair(b"no weights: ", 2, 0, 1, 8, &NO_WEIGHTS, true);
+}
+
+// Input 0 goes on from its own last rank or from the one that left, whichever is larger; so does its flow 1.
+const WEIGHTS: [[u32; 6]; 6] = [
+    [0, 0, 0, 0, 1024, 1],
+    [0, 1, 0, 0, 1, 2],
+    [1, 0, 0, 0, 1024, 3],
+    [2, 0, 0, 1, 3, 4],
+    [4, 0, 0, 1, 1024, 5],
+    [5, 1, 0, 0, 7, 6],
+];
+
+// In call 1 the rank of input 1 falls at output 0; at output 1 weights may.
+const ONE_FAIR: [[u32; 6]; 8] = [
+    [0, 0, 0, 0, 9, 1],
+    [0, 1, 0, 0, 2000, 2],
+    [1, 0, 1, 0, 9, 3],
+    [1, 1, 0, 0, 9, 4],
+    [2, 0, 1, 0, 9, 5],
+    [2, 1, 1, 0, 20, 6],
+    [3, 0, 1, 0, 5, 7],
+    [3, 1, 1, 0, 3, 8],
+];
+
+// 0 and 1,025 are no weights: 14 behind 5 and 6, and nothing is remembered of a slot that is turned back.
+const NO_WEIGHTS: [[u32; 6]; 10] = [
+    [0, 0, 0, 0, 2, 1],
+    [1, 0, 0, 0, 0, 2],
+    [2, 0, 0, 0, 4, 3],
+    [2, 1, 0, 0, 1025, 4],
+    [3, 0, 0, 8, 0, 5],
+    [4, 1, 0, 0, 2, 6],
+    [4, 1, 0, 1, 0, 7],
+    [5, 0, 0, 0, 4, 8],
+    [5, 1, 1, 0, 0, 9],
+    [6, 0, 0, 0, 4294967295, 10],
+];
 
 // In slot 1 both cells are matched: rank 4, which is urgent, loses to rank 3, and goes straight in the second phase.
 const SEVERAL: [[u32; 6]; 5] = [

@@ -18,11 +18,11 @@ use crate::stage::end_of;
 use crate::stage::start_of;
 use crate::stage::step;
 use layout::CUES;
+use layout::FAIR_BYTES;
 use layout::NAME_BYTES;
 use layout::PLACE_BYTES;
 use layout::STORE_BYTES;
 use layout::STORE_HEADER_BYTES;
-use layout::TABLE_BYTES;
 use layout::TALLY_BYTES;
 use layout::word::read_u32;
 ghost use Prim.Native.Nat.{_<_, _≤_};
@@ -40,6 +40,7 @@ pub(crate) fn show_all() {
         b"a rehearsal: ",
         3,
         0,
+        0,
         b"slot 1,set a,slot 2,slot 3,slot 4,return a,slot 2,slot 3,slot 4,return a,slot 0",
         &TWICE,
     );
@@ -47,6 +48,7 @@ pub(crate) fn show_all() {
     rehearse(
         b"four cues: ",
         3,
+        0,
         0,
         b"slot 1,set a,slot 0,set b,slot 0,set c,slot 2,set d,set e,slot 3,set b,drop a,slot 0,set e,return a,\
           return b,slot 0,return c,slot 0,return d,slot 0,return e,slot 0,drop a",
@@ -56,6 +58,7 @@ pub(crate) fn show_all() {
     rehearse(
         b"names of cues: ",
         3,
+        0,
         0,
         b"set ,set abcdefghi,set A,set a1,set \0,set a\0,set {,set `,slot 1,set z,slot 0,set abcdefgh,set y,set x,\
           set ,set abcdefghi,set A,set a1,set \0,set a\0,set {,set `,set a,drop A,return a1,return abcdefg,drop ,\
@@ -67,10 +70,21 @@ pub(crate) fn show_all() {
         b"a return after the clock's end: ",
         2,
         4294967294,
+        0,
         b"set a,slot 1,slot 0,return a,slot 1,slot 0",
         &LAST,
     );
-    show_made();
+    // A return winds back what was remembered too.
+    rehearse(
+        b"a rehearsal of weights: ",
+        3,
+        0,
+        5,
+        b"slot 1,set a,slot 2,slot 3,slot 0,set b,return a,slot 2,slot 3,slot 0,return b,slot 3,return a,slot 3",
+        &TWICE,
+    );
+    show_made(b"a rehearsal of 200 calls at 16 ports: ", 0);
+    show_made(b"a rehearsal of 200 calls at 16 fair ports: ", 65535);
 }
 
 // The cue holds ranks 2 and 9 of output 0, rank 9 at its crosspoint. In slot 2 that one blocks rank 4, which is urgent.
@@ -102,15 +116,15 @@ const LAST: [[u32; 6]; 2] = [[1, 0, 1, 0, 5, 1], [1, 1, 1, 0, 6, 2]];
 // A rehearsal on a fresh switch, told aloud. The calls are a text, with a comma between two: `set`, `drop` or `return`
 // with a name, or `slot` with a digit. A slot has the arrivals of the rows that begin with its digit, and none does
 // with 0.
-fn rehearse(name: &[u8], ports: u32, first: u32, calls: &[u8], rows: &[[u32; 6]]) {
-    let mut table = [0u8; TABLE_BYTES];
+fn rehearse(name: &[u8], ports: u32, first: u32, fair: u32, calls: &[u8], rows: &[[u32; 6]]) {
+    let mut table = [0u8; FAIR_BYTES];
     let mut store = [0u8; STORE_BYTES];
     let mut tally = [0u8; TALLY_BYTES];
-    let mut shadow = shadow::fresh(ports, first);
+    let mut shadow = shadow::fresh(ports, first, fair);
     let mut names = [[0u8; 8]; 4];
     let mut held = [shadow; 4];
     say(name);
-    crossbar::start(ports, first, &mut table);
+    crossbar::start(ports, first, fair, &mut table);
     crossbar::cues::cue_start(&mut store);
     let same = play(
         &mut table,
@@ -128,7 +142,7 @@ fn rehearse(name: &[u8], ports: u32, first: u32, calls: &[u8], rows: &[[u32; 6]]
 // The end of a line. The two agree if they do so in every call, in the clock and in which name is at which place.
 fn finish(same: bool, table: &Table, store: &Store, tally: &Tally, shadow: &Shadow, names: &Names) {
     say_cells(tally);
-    let clocks = read_u32(table, 8) == shadow::clock(shadow);
+    let clocks = read_u32(table, 12) == shadow::clock(shadow);
     let cues = crossbar::cues::cue_check(store) == 0 && same_names(store, names);
     say_verdict(same && clocks && cues, b"as the shadow says\n");
 }
@@ -320,16 +334,16 @@ fn compare(result: u32, right: u32, same: &mut bool) -> u32 {
 
 // A rehearsal of 200 calls at 16 ports that are made by rule. It tells the slots that are turned back, and at the end
 // how many returns were done.
-fn show_made() {
-    let mut table = [0u8; TABLE_BYTES];
+fn show_made(name: &[u8], fair: u32) {
+    let mut table = [0u8; FAIR_BYTES];
     let mut store = [0u8; STORE_BYTES];
     let mut tally = [0u8; TALLY_BYTES];
-    let mut shadow = shadow::fresh(16, 0);
+    let mut shadow = shadow::fresh(16, 0, fair);
     let mut names = [[0u8; 8]; 4];
     let mut held = [shadow; 4];
     let mut same = true;
-    say(b"a rehearsal of 200 calls at 16 ports: ");
-    crossbar::start(16, 0, &mut table);
+    say(name);
+    crossbar::start(16, 0, fair, &mut table);
     crossbar::cues::cue_start(&mut store);
     let returns = play_made(
         &mut table,

@@ -1,10 +1,12 @@
 // Scope 4, the PIFO switch, written plainly and apart from the crossbar: no lists, no crosspoints, no phases. All
-// waiting cells stand in one flat array, in no order, and whatever is asked of them is searched for from end to end.
+// waiting cells stand in one flat array, in no order, and whatever is asked of them is searched for from end to end. At
+// fair outputs (scope 15) it makes its own ranks, by division.
 ghost use Prim.Native.Nat.{_<_};
 
-// A shadow switch has 2,048 places for cells, its number of ports, its clock, and how many places have been taken. A
-// cell that has left leaves its place unused.
-pub(crate) type Shadow = [u32; 14339];
+// A shadow switch has 2,048 places for cells, its number of ports, its clock, and how many places have been taken; the
+// marks of its fair outputs, the last rank that each of sixteen outputs sent, and the last that each of 2,048 flows was
+// given. A cell that has left leaves its place unused.
+pub(crate) type Shadow = [u32; 16404];
 
 const PLACES: usize = 2048;
 
@@ -13,6 +15,12 @@ const PORTS: usize = 14336;
 const CLOCK: usize = 14337;
 
 const USED: usize = 14338;
+
+const FAIR: usize = 14339;
+
+const LEFT: usize = 14340;
+
+const GIVEN: usize = 14356;
 
 // The seven numbers of a place: 1 if a cell waits there, else 0; then the cell, with its tag before its slot.
 const WAITS: usize = 0;
@@ -27,11 +35,12 @@ const RANK: usize = 4;
 
 const SLOT: usize = 6;
 
-// A switch in which no cell waits.
-pub(crate) fn fresh(ports: u32, first: u32) -> Shadow {
-    let mut shadow = [0; 14339];
+// A switch in which no cell waits. Bit o of `fair` marks output o.
+pub(crate) fn fresh(ports: u32, first: u32, fair: u32) -> Shadow {
+    let mut shadow = [0; 16404];
     shadow[PORTS] = ports;
     shadow[CLOCK] = first;
+    shadow[FAIR] = fair;
     shadow
 }
 
@@ -86,13 +95,58 @@ fn fault_of(shadow: &Shadow, record: [u32; 6], k: usize, before: [u32; 6]) -> u8
     if 0 < k && input <= before[INPUT] {
         return 6;
     }
-    if falls(shadow, input, record[OUTPUT], record[FLOW], record[RANK]) {
+    if is_fair(shadow, record[OUTPUT]) && (record[RANK] == 0 || 1024 < record[RANK]) {
+        return 14;
+    }
+    let rank = rank_of(shadow, record);
+    if 4294967295 < rank {
+        return 15;
+    }
+    if falls(shadow, input, record[OUTPUT], record[FLOW], rank as u32) {
         return 7;
     }
     if 64 <= count_of(shadow, input) {
         return 8;
     }
     0
+}
+
+// Of an output below 16.
+fn is_fair(shadow: &Shadow, output: u32) -> bool {
+    (shadow[FAIR] >> (output % 16)) % 2 == 1
+}
+
+// The rank of a record's cell: the record's, or at a fair output the last rank that counts and the stride of the weight.
+fn rank_of(shadow: &Shadow, record: [u32; 6]) -> u64 {
+    if !is_fair(shadow, record[OUTPUT]) {
+        return record[RANK] as u64;
+    }
+    last_of(shadow, record) as u64 + stride_of(record[RANK]) as u64
+}
+
+// The larger of the last rank that a record's flow was given and the last that its output sent.
+fn last_of(shadow: &Shadow, record: [u32; 6]) -> u32 {
+    let given = shadow[GIVEN + flow_of(record)];
+    let left = shadow[LEFT + (record[OUTPUT] % 16) as usize];
+    if given < left {
+        return left;
+    }
+    given
+}
+
+fn stride_of(weight: u32) -> u32 {
+    if weight == 0 {
+        return 0;
+    }
+    1048576 / weight
+}
+
+// The number of a record's flow, of inputs and outputs below 16 and flows below 8.
+fn flow_of(record: [u32; 6]) -> usize
+    ensures { λ r. ⌜ r < 2048 ⌝ }
+{
+    let pair = 16 * (record[INPUT] % 16) + record[OUTPUT] % 16;
+    (8 * pair + record[FLOW] % 8) as usize
 }
 
 // Whether a cell of the flow waits with a higher rank.
@@ -129,8 +183,22 @@ fn count_of(shadow: &Shadow, input: u32) -> u32 {
 fn accept(shadow: &mut Shadow, records: &[[u32; 6]]) {
     let mut k = 0;
     while k < records.len() {
-        store(shadow, records[k]);
+        take(shadow, records[k]);
         k += 1;
+    }
+}
+
+// A record becomes a cell of the rank made, which a fair output's flow is given.
+fn take(shadow: &mut Shadow, record: [u32; 6]) {
+    let rank = rank_of(shadow, record);
+    if 4294967295 < rank {
+        return;
+    }
+    let mut cell = record;
+    cell[RANK] = rank as u32;
+    store(shadow, cell);
+    if is_fair(shadow, record[OUTPUT]) {
+        shadow[GIVEN + flow_of(record)] = rank as u32;
     }
 }
 
@@ -155,9 +223,21 @@ fn store(shadow: &mut Shadow, record: [u32; 6]) {
 fn send(shadow: &mut Shadow, sent: &mut [u32; 112]) {
     let mut output = 0;
     while output < 16 {
-        leave(shadow, first_for(shadow, output as u32), sent, output);
+        let place = first_for(shadow, output as u32);
+        remember(shadow, place, output);
+        leave(shadow, place, sent, output);
         output += 1;
     }
+}
+
+// The rank of the cell at a place, if it is one, is the last that a fair output sent.
+fn remember(shadow: &mut Shadow, place: usize, output: usize)
+    requires { ⌜ output < 16 ⌝ }
+{
+    if PLACES <= place || !is_fair(shadow, output as u32) {
+        return;
+    }
+    shadow[LEFT + output] = field(shadow, place, RANK);
 }
 
 // Where the cell of highest output priority for an output waits.

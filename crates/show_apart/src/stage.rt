@@ -9,15 +9,15 @@ use crate::shadow::Shadow;
 use layout::ANSWER_BYTES;
 use layout::ARRIVAL_BYTES;
 use layout::DEPARTURES_BYTES;
+use layout::FAIR_BYTES;
 use layout::PORTS;
-use layout::TABLE_BYTES;
 use layout::TALLY_BYTES;
 use layout::word::read_u32;
 ghost use Prim.Native.Nat.{_≤_};
 ghost use lib.ListN.{length};
 
 // The bytes of a table, a tally and an answer, and of the arrivals of a show's call.
-pub(crate) type Table = [u8; TABLE_BYTES];
+pub(crate) type Table = [u8; FAIR_BYTES];
 
 pub(crate) type Tally = [u8; TALLY_BYTES];
 
@@ -31,8 +31,9 @@ const MOST_BYTES: usize = (PORTS + 1) * ARRIVAL_BYTES;
 // The numbers of the departures of an answer.
 const SENT: usize = DEPARTURES_BYTES / 4;
 
-// A show of so many slot calls on a fresh switch. A row is an arrival: the number of its call, counted from 0, then
-// input, output, flow, rank and tag. A show that is not told aloud tells its refusals, and its cells at the end.
+// A show of so many slot calls on a fresh switch without fair outputs. A row is an arrival: the number of its call,
+// counted from 0, then input, output, flow, rank and tag. A show that is not told aloud tells its refusals, and its
+// cells at the end.
 pub(crate) fn show(
     name: &[u8],
     ports: u32,
@@ -41,11 +42,24 @@ pub(crate) fn show(
     rows: &[[u32; 6]],
     aloud: bool,
 ) {
-    let mut table = [0u8; TABLE_BYTES];
+    show_fair(name, ports, first, 0, calls, rows, aloud);
+}
+
+// The same with fair outputs, by their marks.
+pub(crate) fn show_fair(
+    name: &[u8],
+    ports: u32,
+    first: u32,
+    fair: u32,
+    calls: u32,
+    rows: &[[u32; 6]],
+    aloud: bool,
+) {
+    let mut table = [0u8; FAIR_BYTES];
     let mut tally = [0u8; TALLY_BYTES];
-    let mut shadow = shadow::fresh(ports, first);
+    let mut shadow = shadow::fresh(ports, first, fair);
     say(name);
-    crossbar::start(ports, first, &mut table);
+    crossbar::start(ports, first, fair, &mut table);
     let same = play(&mut table, &mut tally, &mut shadow, calls, rows, aloud);
     if !aloud {
         say_cells(&tally);

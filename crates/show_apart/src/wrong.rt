@@ -7,27 +7,27 @@ use crate::stage::Table;
 use crate::stage::play;
 use layout::ANSWER_BYTES;
 use layout::ARRIVAL_BYTES;
-use layout::TABLE_BYTES;
+use layout::FAIR_BYTES;
 use layout::TALLY_BYTES;
 ghost use Prim.Native.Nat.{_≤_};
 ghost use Rattle.layout.specs.Answer.{answerSize};
 ghost use Rattle.layout.specs.Arrivals.{arrivalSize};
-ghost use Rattle.layout.specs.Table.{tableSize};
+ghost use Rattle.layout.specs.Fair.{fairSize};
 ghost use Rattle.layout.specs.TallyBytes.{tallySize};
 
 // A start that is turned back keeps the buffer.
-pub(crate) fn show_start(name: &[u8], ports: u32, length: usize)
-    requires { ⌜ length ≤ tableSize ⌝ }
+pub(crate) fn show_start(name: &[u8], ports: u32, fair: u32, length: usize)
+    requires { ⌜ length ≤ fairSize ⌝ }
 {
-    let mut buffer = [7u8; TABLE_BYTES];
+    let mut buffer = [7u8; FAIR_BYTES];
     say(name);
-    say_refusal(crossbar::start(ports, 0, &mut buffer[0..length]) as u64);
+    say_refusal(crossbar::start(ports, 0, fair, &mut buffer[0..length]) as u64);
     say_verdict(untouched(&buffer), b"buffer kept\n");
 }
 
 fn untouched(buffer: &Table) -> bool {
     let mut k = 0;
-    while k < TABLE_BYTES {
+    while k < FAIR_BYTES {
         if buffer[k] != 7 {
             return false;
         }
@@ -45,11 +45,11 @@ pub(crate) fn show_slot(name: &[u8], ports: u8, arrivals: usize, answer: usize, 
 {
     let first = [[0, 0, 0, 0, 5, 1], [0, 1, 0, 0, 3, 2]];
     let second = [[0, 1, 1, 0, 4, 3]];
-    let mut table = [0u8; TABLE_BYTES];
+    let mut table = [0u8; FAIR_BYTES];
     let mut counts = [0u8; TALLY_BYTES];
-    let mut shadow = shadow::fresh(2, 0);
+    let mut shadow = shadow::fresh(2, 0, 0);
     say(name);
-    crossbar::start(2, 0, &mut table);
+    crossbar::start(2, 0, 0, &mut table);
     let before = play(&mut table, &mut counts, &mut shadow, 1, &first, true);
     wrong_slot(&mut table, ports, arrivals, answer, tally);
     let after = play(&mut table, &mut counts, &mut shadow, 2, &second, true);
@@ -64,13 +64,13 @@ fn wrong_slot(table: &mut Table, ports: u8, arrivals: usize, answer: usize, tall
     let record = [0u8; ARRIVAL_BYTES];
     let mut buffer = [0u8; ANSWER_BYTES];
     let mut counts = [0u8; TALLY_BYTES];
-    table[4] = ports;
+    table[8] = ports;
     let result = crossbar::slot(
         table,
         &record[0..arrivals],
         &mut buffer[0..answer],
         &mut counts[0..tally],
     );
-    table[4] = 2;
+    table[8] = 2;
     say_refusal(result);
 }

@@ -6,31 +6,35 @@
 --     outranks-by                      7 of one entry
 --     Fallen                           7 by a pass over the section of the record's input
 --     full-count                       8 by the count of the record's input
---     fault-none                       all five
+--     fault-none, port-none            all five, and 4 to 6 where no cell waits
+--     port-found, -clear, -passed      4 to 6 first, then 7 and 8 by the waiting cells
 --     clear-not                        a fault is not `Clear`
-use Prim.Native.Nat.{ℕ, suc, _+_, _*_, _-_, _/_, _≤_, _<_}
-use mathlib.Core.Bool.{Bool, true, false, not, _&&_, _||_}
+use Prim.Native.Nat.{ℕ, zero, suc, _+_, _*_, _-_, _/_, _≤_, _<_}
+use mathlib.Core.Bool.{Bool, true, false, cond, not, _&&_, _||_}
 use mathlib.Core.Path.{_≡_, refl, sym, _∙_, ap, ap₂, subst}
 use mathlib.Core.Logic.{_⊎_, inl, inr, _≢_}
 use mathlib.Core.List.{List, [], _∷_, flatten, List·Memᴰ}
 use mathlib.Core.Option.{Option, none, some}
 use native.Mathlib.Nat.{le-refl}
+use native.Mathlib.Numerals.{add-one}
 use native.Mathlib.Omega.{arith}
 use borrow.Author.Count.{below-more}
 use borrow.Author.Tests.{ltb-true, leb-true, leb-false, lt-ltb, le-ltb, le-leb, lt-leb, eq-eqb, ne-eqb, not-false}
 use lib.Dec.{ltb, leb, eqb}
 use lib.ListN.{length, getD}
-use Rattle.laws.specs.Lists.{some?, none?}
+use Rattle.laws.specs.Lists.{some?, none?, count}
 use Rattle.laws.proofs.Tests.{clash, same, and-i, and-l, or-l, or-cases, or-false-l, or-false-r}
 use Rattle.laws.proofs.Lists.{Passing, some?-e, some?-i, some?-false, some?-map, none?-i, all?-i, getD-mem}
 use Rattle.laws.proofs.Count.{count-all, count-map}
 use Rattle.cell.specs.declared.Cell.{Cell}
 use Rattle.cell.specs.declared.Refusal.{Refusal}
+use Rattle.cell.specs.declared.Refusal.the-variants.{NoSuchPort, NoSuchFlow, InputOrder}
 use Rattle.cell.specs.Flow.{sameFlow}
 use Rattle.cell.specs.Limits.{sectionRoom, flowLimit, inputFull}
 use Rattle.cell.proofs.Flow.{flow-input}
 use Rattle.model.specs.State.{Entry, cells}
 use Rattle.model.specs.Checks.{noSuchPort, noSuchFlow, outOfTurn, fallingRank, full, fault}
+use Rattle.model.proofs.Admitted.{Faultless, faultless, port-input, port-output}
 use Rattle.model.proofs.Bags.{flatten-mem, mem-flatten}
 use Rattle.model.proofs.Sections.{count-flatten-one}
 use Rattle.layout.specs.Entry.{entryAt, countIn}
@@ -38,9 +42,10 @@ use Rattle.layout.specs.Table.{stateOf, IsTable}
 use Rattle.layout.proofs.Records.{entryAt-input}
 use Rattle.layout_table.specs.CodeEntries.{flowWord}
 use Rattle.layout_table.proofs.Entries.{flow-word}
+use Rattle.cell.specs.declared.Fault.{Fault}
 use Rattle.cell.specs.declared.Fault.the-variants.{Clear, At}
 use Rattle.layout.specs.Code.{portsIn}
-use Rattle.slot_faults.specs.CodeFault.{sectionIn, turnAfter, outranks}
+use Rattle.slot_faults.specs.CodeFault.{sectionIn, InPorts, waitingFault, faultAt, turnAfter, outranks}
 use Rattle.slot_faults.proofs.Stored.{section-sound, section-length, section-entry}
 
 ------------------------------------------------------------------------
@@ -219,8 +224,87 @@ pub fault-none : (ports : ℕ) (waiting : List Cell) (before : Option Cell) (c :
 unfolding fault
 fault-none ports waiting before c p f t r u = rw (p, f, t, r, u)
 
+-- the first three, where no cell waits
+pub port-none : (ports : ℕ) (before : Option Cell) (c : Cell) → noSuchPort ports c ≡ false → noSuchFlow c ≡ false
+    → outOfTurn before c ≡ false → fault ports [] before c ≡ none
+unfolding fallingRank full some? count
+port-none ports before c p f t = fault-none ports [] before c p f t refl refl
+
 ------------------------------------------------------------------------
 -- as the code answers it
 
 pub clear-not : {r : Refusal} {place : ℕ} → Clear ≡ At r place → ⊥
 clear-not q = let z : _≡_ {A = ℕ} 0 1 = cc in omega arith
+
+-- what is found is clear where there is no fault
+pub clear-none : (place : ℕ) (o : Option Refusal) → faultAt place o ≡ Clear → o ≡ none
+unfolding faultAt
+clear-none place none e = refl
+clear-none place (some r) e = absurd (clear-not (sym e))
+
+-- some record before it sets the turn
+turn-by : (turn : ℕ) → (before : Option Cell) × (turnAfter before ≡ turn)
+unfolding turnAfter
+turn-by zero = (none, refl)
+turn-by (suc n) =
+    (some (record { input = n; output = 0; flow = 0; rank = 0; tag = 0; slot = 0 }), add-one n)
+
+------------------------------------------------------------------------
+-- 4 to 6, and then 7 and 8
+
+-- what the checks of a record's ports, flow and turn say
+abbrev pub PortSays : ℕ → ℕ → ℕ → Cell → Fault → Type 0
+PortSays ports turn place c found =
+    (before : Option Cell) → turnAfter before ≡ turn → found ≡ faultAt place (fault ports [] before c)
+
+-- what is found without the waiting cells, and else what is found by them
+abbrev thenBy : Option Refusal → Option Refusal → Option Refusal
+thenBy o later = elim o [ some r ↦ some r | none ↦ later ]
+
+fault-parts : (ports : ℕ) (waiting : List Cell) (before : Option Cell) (c : Cell)
+    → fault ports waiting before c ≡ thenBy (fault ports [] before c) (waitingFault waiting c)
+unfolding fault fallingRank full waitingFault some? count
+fault-parts ports waiting before c = go (noSuchPort ports c) (noSuchFlow c) (outOfTurn before c)
+  where
+    go : (p f t : Bool)
+        → cond p (some NoSuchPort) (cond f (some NoSuchFlow) (cond t (some InputOrder) (waitingFault waiting c)))
+        ≡ thenBy (cond p (some NoSuchPort) (cond f (some NoSuchFlow) (cond t (some InputOrder) none)))
+        (waitingFault waiting c)
+    go true f t = refl
+    go false true t = refl
+    go false false true = refl
+    go false false false = refl
+
+module _ (ports : ℕ) (waiting : List Cell) (turn place : ℕ) (c : Cell) (found : Fault)
+    (says : PortSays ports turn place c found) where
+  -- a fault that is found without the waiting cells is found with them
+  pub port-found : {r : Refusal} {at : ℕ} → found ≡ At r at → (before : Option Cell) → turnAfter before ≡ turn
+      → found ≡ faultAt place (fault ports waiting before c)
+  unfolding faultAt
+  port-found bad before e = go (fault ports [] before c) refl
+    where
+      go : (o : Option Refusal) → fault ports [] before c ≡ o → found ≡ faultAt place (fault ports waiting before c)
+      go none q = absurd (clear-not (sym (says before e ∙ ap (faultAt place) q) ∙ bad))
+      go (some r) q =
+          says before e
+          ∙ ap (faultAt place) (q ∙ sym (fault-parts ports waiting before c ∙ ap (λ o. thenBy o (waitingFault waiting c)) q))
+
+  module _ (clear : found ≡ Clear) where
+    none-found : (before : Option Cell) → turnAfter before ≡ turn → fault ports [] before c ≡ none
+    none-found before e = clear-none place _ (sym (says before e) ∙ clear)
+
+    -- the ports and the flow are there
+    pub port-clear : InPorts ports c
+    port-clear =
+        let w = turn-by turn in
+        let passes : Faultless ports [] (w .0) c = faultless ports [] (w .0) c (none-found (w .0) (w .1)) in
+        record {
+          input = port-input ports c (passes .port);
+          output = port-output ports c (passes .port);
+          flow = flow-below c (passes .flow);
+        }
+
+    -- and the waiting cells decide
+    pub port-passed : (before : Option Cell) → turnAfter before ≡ turn
+        → fault ports waiting before c ≡ waitingFault waiting c
+    port-passed before e = fault-parts ports waiting before c ∙ ap (λ o. thenBy o (waitingFault waiting c)) (none-found before e)

@@ -1,6 +1,6 @@
 -- Scope 6, refusals 3 to 8: what turns a slot back, by its table and its records.
-use Prim.Native.Nat.{ℕ, _+_}
-use mathlib.Core.Bool.{Bool, true, false, _&&_}
+use Prim.Native.Nat.{ℕ, _+_, _<_}
+use mathlib.Core.Bool.{Bool, true, false, cond, _&&_}
 use mathlib.Core.List.{List, [], map}
 use mathlib.Core.Option.{Option, none, some}
 use lib.Dec.{ltb, eqb}
@@ -8,12 +8,12 @@ use lib.ListN.{getD}
 use Rattle.cell.specs.declared.Arrival.{Arrival}
 use Rattle.cell.specs.declared.Cell.{Cell}
 use Rattle.cell.specs.declared.Refusal.{Refusal}
-use Rattle.cell.specs.declared.Refusal.the-variants.{ClockEnd}
+use Rattle.cell.specs.declared.Refusal.the-variants.{ClockEnd, RankOrder, Full}
 use Rattle.cell.specs.Cell.{accepted}
 use Rattle.cell.specs.Flow.{sameFlow}
-use Rattle.cell.specs.Limits.{clockEnd}
+use Rattle.cell.specs.Limits.{clockEnd, flowLimit}
 use Rattle.model.specs.State.{Entry, Switch, cells}
-use Rattle.model.specs.Checks.{fault, firstFault}
+use Rattle.model.specs.Checks.{fallingRank, full, fault, firstFault}
 use Rattle.layout.specs.Table.{stateOf}
 use Rattle.cell.specs.declared.Fault.{Fault}
 use Rattle.cell.specs.declared.Fault.the-variants.{Clear, At}
@@ -29,6 +29,16 @@ coming s records = map (accepted (s .clock)) records
 -- the fault of a record of a slot, by the record before it
 abbrev pub faultBy : Switch → Option Cell → Arrival → Option Refusal
 faultBy s before a = fault (s .ports) (cells s) before (accepted (s .clock) a)
+
+-- a record's ports and its flow are there
+pub record InPorts (ports : ℕ) (c : Cell) : Type 0 where
+  pub input : c .input < ports
+  pub output : c .output < ports
+  pub flow : c .flow < flowLimit
+
+-- the fault of a record by the waiting cells alone
+unfoldable pub waitingFault : List Cell → Cell → Option Refusal
+waitingFault waiting c = cond (fallingRank waiting c) (some RankOrder) (cond (full waiting c) (some Full) none)
 
 -- the fault of the record at this place, as the code answers it
 unfoldable pub faultAt : ℕ → Option Refusal → Fault

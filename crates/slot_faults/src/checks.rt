@@ -5,6 +5,7 @@ use cell::Refusal;
 use cell::Switch;
 use layout::CELLS;
 ghost use mathlib.Core.Path.{_≡_};
+ghost use mathlib.Core.List.{[]};
 ghost use mathlib.Core.Option.{Option};
 ghost use Prim.Native.Nat.{_/_, _<_};
 ghost use Rattle.cell.specs.declared.Cell.{Cell};
@@ -15,13 +16,26 @@ ghost use Rattle.layout.specs.Entry.{entryAt};
 ghost use Rattle.layout.specs.Code.{HasEntry, portsIn};
 ghost use Rattle.layout.specs.Table.{stateOf, IsTable};
 ghost use Rattle.layout_table.specs.CodeEntries.{flowWord};
-ghost use Rattle.slot_faults.specs.CodeFault.{faultAt, turnAfter, outranks};
+ghost use Rattle.slot_faults.specs.CodeFault.{faultAt, waitingFault, InPorts, turnAfter, outranks};
 
 // The checks of one record, in their order. `turn` is the lowest input whose turn it is.
 pub(crate) fn check_record(table: &[u8], turn: u32, place: u32, c: Cell) -> Fault
     requires { ⌜ IsTable (now table) ⌝ }
     ensures { λ r. ⌜ ((before : Option Cell) → turnAfter before ≡ turn → r
         ≡ faultAt place (fault (portsIn (now (table .entry))) (cells (stateOf (now (table .entry)))) before c)) ⌝ }
+{
+    let found = port_fault(table, turn, place, c);
+    let Fault::Clear = found else {
+        return found;
+    };
+    waiting_fault(table, place, c)
+}
+
+// The checks that look at no waiting cell, 4 to 6.
+pub fn port_fault(table: &[u8], turn: u32, place: u32, c: Cell) -> Fault
+    requires { ⌜ IsTable (now table) ⌝ }
+    ensures { λ r. ⌜ ((before : Option Cell) → turnAfter before ≡ turn → r
+        ≡ faultAt place (fault (portsIn (now (table .entry))) [] before c)) ⌝ }
 {
     if no_such_port(table, c) {
         return Fault::At(Refusal::NoSuchPort, place);
@@ -32,6 +46,15 @@ pub(crate) fn check_record(table: &[u8], turn: u32, place: u32, c: Cell) -> Faul
     if out_of_turn(turn, c) {
         return Fault::At(Refusal::InputOrder, place);
     }
+    Fault::Clear
+}
+
+// The checks by the waiting cells, 7 and 8, of a record that passes 4 and 5.
+pub fn waiting_fault(table: &[u8], place: u32, c: Cell) -> Fault
+    requires { ⌜ IsTable (now table) ⌝ }
+    requires { ⌜ InPorts (portsIn (now table)) c ⌝ }
+    ensures { λ r. ⌜ r ≡ faultAt place (waitingFault (cells (stateOf (now (table .entry)))) c) ⌝ }
+{
     if falling_rank(table, c) {
         return Fault::At(Refusal::RankOrder, place);
     }

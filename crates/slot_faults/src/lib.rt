@@ -1,5 +1,5 @@
 // Scope 6, refusals 3 to 8: what turns a slot back, looked for in its table and its records before anything of it runs.
-mod checks;
+pub mod checks;
 
 use cell::Arrival;
 use cell::Cell;

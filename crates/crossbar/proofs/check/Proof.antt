@@ -6,18 +6,18 @@ use borrow.Author.Needs.{needs}
 use Rattle.crossbar.proofs.check.Statement.{statement}
 use Rattle.crossbar.proofs.check.Tie as tie
 
-is-table-requires : tie.Need-is-table-requires
-is-table-requires c κs = search needs
+is-fair-table-requires : tie.Need-is-fair-table-requires
+is-fair-table-requires c κs = search needs
 
 returns : tie.Need-returns
-returns c = check-passes _ (sym (c .before .is-table .ensures) ∙ c .if1 .taken)
+returns c = check-passes _ (sym (c .before .is-fair-table .ensures) ∙ c .if1 .taken)
 
 number-requires : tie.Need-number-requires
 number-requires c κs = search needs
 
 returns-2 : tie.Need-returns-2
 returns-2 c =
-    check-refuses _ _ (sym (c .before .before .is-table .ensures) ∙ c .before .if1 .left) (c .number .ensures)
+    check-refuses _ _ (sym (c .before .before .is-fair-table .ensures) ∙ c .before .if1 .left) (c .number .ensures)
 
 pub check-spec : {M : Type 1} → statement M
-check-spec = tie.close (tie.spec is-table-requires returns number-requires returns-2)
+check-spec = tie.close (tie.spec is-fair-table-requires returns number-requires returns-2)

@@ -8,8 +8,8 @@ use Rattle.crossbar.proofs.CueCalls.{return-done, store-length, table-l
 use Rattle.crossbar.proofs.cues.cue_return.Statement.{statement}
 use Rattle.crossbar.proofs.cues.cue_return.Tie as tie
 
-is-table-requires : tie.Need-is-table-requires
-is-table-requires c κs = search needs
+is-fair-table-requires : tie.Need-is-fair-table-requires
+is-fair-table-requires c κs = search needs
 
 number-requires : tie.Need-number-requires
 number-requires c κs = search needs
@@ -20,7 +20,7 @@ same-length c = search needs
 returns : tie.Need-returns
 returns c =
     let tabled = c .before .before in
-    return-broken-table _ _ _ (sym (tabled .is-table .ensures) ∙ not-true _ (c .before .if1 .taken))
+    return-broken-table _ _ _ (sym (tabled .is-fair-table .ensures) ∙ not-true _ (c .before .if1 .taken))
     _ (c .number .ensures)
 
 is-store-requires : tie.Need-is-store-requires
@@ -52,7 +52,7 @@ returns-3 c =
     let named = c .before .before in
     let stored = named .before .before in
     let tabled = stored .before .before in
-    return-badly-named _ _ _ (sym (tabled .is-table .ensures) ∙ not-false _ (stored .before .if1 .left))
+    return-badly-named _ _ _ (sym (tabled .is-fair-table .ensures) ∙ not-false _ (stored .before .if1 .left))
     (sym (stored .is-store .ensures) ∙ not-false _ (named .before .if2 .left))
     _ (named .number-of .ensures) (c .before .if3 .taken) _ (c .number3 .ensures)
 
@@ -74,7 +74,7 @@ returns-4 c =
     let named = found .before .before in
     let stored = named .before .before in
     let tabled = stored .before .before in
-    return-lost _ _ _ (sym (tabled .is-table .ensures) ∙ not-false _ (stored .before .if1 .left))
+    return-lost _ _ _ (sym (tabled .is-fair-table .ensures) ∙ not-false _ (stored .before .if1 .left))
     (sym (stored .is-store .ensures) ∙ not-false _ (named .before .if2 .left))
     _ (named .number-of .ensures) (found .before .if3 .left) _ (found .place-of .ensures)
     (c .before .if4 .taken) _ (c .number4 .ensures)
@@ -89,7 +89,7 @@ read-cue-requires c κs =
       store-length _ h,
       inside _ _ _ (named .number-of .ensures) h (found .before .if3 .left) _ (c .before .if4 .left)
           (found .place-of .ensures),
-      table-length _ (sym (tabled .is-table .ensures) ∙ not-false _ (stored .before .if1 .left)),
+      table-length _ (sym (tabled .is-fair-table .ensures) ∙ not-false _ (stored .before .if1 .left)),
     )
 
 same-length-5 : tie.Need-same-length-5
@@ -102,7 +102,7 @@ returns-5 c =
     let named = found .before .before in
     let stored = named .before .before in
     let tabled = stored .before .before in
-    return-done _ _ _ (sym (tabled .is-table .ensures) ∙ not-false _ (stored .before .if1 .left))
+    return-done _ _ _ (sym (tabled .is-fair-table .ensures) ∙ not-false _ (stored .before .if1 .left))
     (sym (stored .is-store .ensures) ∙ not-false _ (named .before .if2 .left))
     _ (named .number-of .ensures) (found .before .if3 .left) _ (found .place-of .ensures)
     (read .before .before .if4 .left) _ (read .read-cue .ensures)
@@ -111,7 +111,7 @@ pub cue-return-spec : {M : Type 1} → statement M
 cue-return-spec =
     tie.close
     (tie.spec
-    is-table-requires
+    is-fair-table-requires
     number-requires
     same-length
     returns

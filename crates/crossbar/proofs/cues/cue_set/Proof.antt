@@ -8,8 +8,8 @@ use Rattle.crossbar.proofs.CueCalls.{store-length, table-length, inside
 use Rattle.crossbar.proofs.cues.cue_set.Statement.{statement}
 use Rattle.crossbar.proofs.cues.cue_set.Tie as tie
 
-is-table-requires : tie.Need-is-table-requires
-is-table-requires c κs = search needs
+is-fair-table-requires : tie.Need-is-fair-table-requires
+is-fair-table-requires c κs = search needs
 
 number-requires : tie.Need-number-requires
 number-requires c κs = search needs
@@ -17,7 +17,7 @@ number-requires c κs = search needs
 returns : tie.Need-returns
 returns c =
     let tabled = c .before .before in
-    set-broken-table _ _ _ (sym (tabled .is-table .ensures) ∙ not-true _ (c .before .if1 .taken)) _ (c .number .ensures)
+    set-broken-table _ _ _ (sym (tabled .is-fair-table .ensures) ∙ not-true _ (c .before .if1 .taken)) _ (c .number .ensures)
 
 is-store-requires : tie.Need-is-store-requires
 is-store-requires c κs = search needs
@@ -47,7 +47,7 @@ returns-3 c =
     let named = c .before .before in
     let stored = named .before .before in
     let tabled = stored .before .before .before in
-    set-badly-named _ _ _ (sym (tabled .is-table .ensures) ∙ not-false _ (stored .before .before .if1 .left))
+    set-badly-named _ _ _ (sym (tabled .is-fair-table .ensures) ∙ not-false _ (stored .before .before .if1 .left))
     (sym (stored .is-store .ensures) ∙ not-false _ (named .before .if2 .left))
     _ (named .number-of .ensures) (c .before .if3 .taken) _ (c .number3 .ensures)
 
@@ -69,7 +69,7 @@ returns-4 c =
     let named = found .before .before .before in
     let stored = named .before .before in
     let tabled = stored .before .before .before in
-    set-no-room _ _ _ (sym (tabled .is-table .ensures) ∙ not-false _ (stored .before .before .if1 .left))
+    set-no-room _ _ _ (sym (tabled .is-fair-table .ensures) ∙ not-false _ (stored .before .before .if1 .left))
     (sym (stored .is-store .ensures) ∙ not-false _ (named .before .if2 .left))
     _ (named .number-of .ensures) (found .before .before .if3 .left) _ (found .place-for .ensures)
     (c .before .if4 .taken) _ (c .number4 .ensures)
@@ -84,7 +84,7 @@ write-cue-requires c κs =
       store-length _ h,
       inside-for _ _ _ (named .number-of .ensures) h (found .before .before .if3 .left) _ (c .before .if4 .left)
           (found .place-for .ensures),
-      table-length _ (sym (tabled .is-table .ensures) ∙ not-false _ (stored .before .before .if1 .left)),
+      table-length _ (sym (tabled .is-fair-table .ensures) ∙ not-false _ (stored .before .before .if1 .left)),
     )
 
 same-length-4 : tie.Need-same-length-4
@@ -97,7 +97,7 @@ returns-5 c =
     let named = found .before .before .before in
     let stored = named .before .before in
     let tabled = stored .before .before .before in
-    set-done _ _ _ (sym (tabled .is-table .ensures) ∙ not-false _ (stored .before .before .if1 .left))
+    set-done _ _ _ (sym (tabled .is-fair-table .ensures) ∙ not-false _ (stored .before .before .if1 .left))
     (sym (stored .is-store .ensures) ∙ not-false _ (named .before .if2 .left))
     _ (named .number-of .ensures) (found .before .before .if3 .left) _ (found .place-for .ensures)
     (wrote .before .before .if4 .left) _ (wrote .write-cue .ensures)
@@ -106,7 +106,7 @@ pub cue-set-spec : {M : Type 1} → statement M
 cue-set-spec =
     tie.close
     (tie.spec
-    is-table-requires
+    is-fair-table-requires
     number-requires
     returns
     is-store-requires

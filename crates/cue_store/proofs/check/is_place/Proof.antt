@@ -6,8 +6,9 @@ use borrow.Author.Needs.{needs}
 use borrow.Author.Tests.{not-true, not-false}
 use lib.ListN.{take, drop, replicate}
 use Rattle.model.specs.Cues.{nameLimit}
+use Rattle.layout.specs.Frame.{isFairTable}
+use Rattle.layout.specs.Fair.{fairSize}
 use Rattle.layout.specs.Number.{sameBytes}
-use Rattle.layout.specs.Table.{tableSize, isTable}
 use Rattle.cue_store.specs.Code.{tableAt, placeOf}
 use Rattle.cue_store.specs.Names.{isName}
 use Rattle.cue_store.proofs.PlaceLoops.{place-before}
@@ -35,7 +36,7 @@ returns c =
     let a = named .before .before .args in
     let store = a .store .now in
     c .is-clear .ensures
-    ∙ ap (λ n. sameBytes (replicate tableSize 0) (take tableSize (drop (n + nameLimit) store)))
+    ∙ ap (λ n. sameBytes (replicate fairSize 0) (take fairSize (drop (n + nameLimit) store)))
     (started .start-of .ensures)
     ∙ sym (place-zeros store (a .k) (sym (named .name-at .ensures) ∙ c .before .if1 .taken))
 
@@ -69,20 +70,20 @@ returns-3 c =
     (place-again store (a .k) (λ z. else1 .if1 .left (number ∙ z))
     (λ e. omega (arith, found .place-of .ensures ∙ ap (placeOf store) number ∙ e, c .if3 .taken)))
 
-add-is-table : tie.Need-add-is-table
-add-is-table c = search needs
+add-is-fair-table : tie.Need-add-is-fair-table
+add-is-fair-table c = search needs
 
-sub-is-table : tie.Need-sub-is-table
-sub-is-table c = search needs
+sub-is-fair-table : tie.Need-sub-is-fair-table
+sub-is-fair-table c = search needs
 
-part-is-table-start : tie.Need-part-is-table-start
-part-is-table-start c = search needs
+part-is-fair-table-start : tie.Need-part-is-fair-table-start
+part-is-fair-table-start c = search needs
 
-part-is-table-end : tie.Need-part-is-table-end
-part-is-table-end c = search needs
+part-is-fair-table-end : tie.Need-part-is-fair-table-end
+part-is-fair-table-end c = search needs
 
-is-table-requires : tie.Need-is-table-requires
-is-table-requires c κs = search needs
+is-fair-table-requires : tie.Need-is-fair-table-requires
+is-fair-table-requires c κs = search needs
 
 returns-4 : tie.Need-returns-4
 unfolding tableAt
@@ -98,9 +99,9 @@ returns-4 c =
     let store = a .store .now in
     let number = named .name-at .ensures in
     let start = started .start-of .result in
-    let long : start + nameLimit + tableSize - (start + nameLimit) ≡ tableSize = omega arith in
-    c .is-table .ensures
-    ∙ ap₂ (λ n at. isTable (take n (drop (at + nameLimit) store))) long (started .start-of .ensures)
+    let long : start + nameLimit + fairSize - (start + nameLimit) ≡ fairSize = omega arith in
+    c .is-fair-table .ensures
+    ∙ ap₂ (λ n at. isFairTable (take n (drop (at + nameLimit) store))) long (started .start-of .ensures)
     ∙ sym
     (place-table store (a .k) (λ z. else1 .if1 .left (number ∙ z))
     (ap isName (sym number) ∙ sym (asked .is-name .ensures) ∙ not-false (asked .is-name .result) (else2 .if2 .left))
@@ -124,9 +125,9 @@ is-place-spec =
     returns-2
     place-of-requires
     returns-3
-    add-is-table
-    sub-is-table
-    part-is-table-start
-    part-is-table-end
-    is-table-requires
+    add-is-fair-table
+    sub-is-fair-table
+    part-is-fair-table-start
+    part-is-fair-table-end
+    is-fair-table-requires
     returns-4)

@@ -1,15 +1,13 @@
--- `oq::slot::take_slot` meets its contract: what is found before the records, or the slot behind the table's number.
+-- `oq::slot::take_slot` meets its contract: what is found before the records, or the slot with the first of them.
 -- Assumes nothing.
 use Prim.Native.Nat.{ℕ}
 use native.Mathlib.Omega.{arith}
 use mathlib.Core.List.{List}
-use mathlib.Core.Path.{_≡_}
 use borrow.Author.Needs.{needs}
 use lib.ListN.{length}
 use Rattle.cell.specs.declared.Fault.the-variants.{Clear}
-use Rattle.layout.specs.Oq.{oqTableSize}
 use Rattle.oq.specs.Code.{Lent}
-use Rattle.oq.proofs.Slots.{lent-size, inner-table, lent-clear, lent-refuses, lent-runs}
+use Rattle.oq.proofs.Slots.{lent-clear, lent-refuses, lent-held}
 use Rattle.oq.proofs.slot.take_slot.Statement.{statement}
 use Rattle.oq.proofs.slot.take_slot.Tie as tie
 
@@ -17,7 +15,7 @@ use Rattle.oq.proofs.slot.take_slot.Tie as tie
 abbrev start-of : tie.After-lent-fault → tie.Start
 start-of c = c .before .before .before .before .before
 
--- nothing was found there, and so the table has its length
+-- nothing was found there
 module _ (c : tie.After-enum-told) where
   abbrev table : List ℕ
   table = start-of (c .before .before) .args .table .now
@@ -30,9 +28,6 @@ module _ (c : tie.After-enum-told) where
 
   found : Lent table arrivals (length answer) Clear
   found = lent-clear table arrivals (length answer) _ (c .enum-told .given .1) (c .before .before .lent-fault .ensures)
-
-  size : length table ≡ oqTableSize
-  size = lent-size table arrivals (length answer) found
 
 lent-fault-requires : tie.Need-lent-fault-requires
 lent-fault-requires c κs = search needs
@@ -59,22 +54,11 @@ read-records-requires c κs = search needs
 few-requires : tie.Need-few-requires
 few-requires c κs = search needs
 
-sub-sound-slot : tie.Need-sub-sound-slot
-sub-sound-slot c = omega (arith, size (c .before .before))
-
-part-sound-slot-start : tie.Need-part-sound-slot-start
-part-sound-slot-start c = omega (arith, size (c .before .before))
-
-part-sound-slot-end : tie.Need-part-sound-slot-end
-part-sound-slot-end c = search needs
-
-sound-slot-requires : tie.Need-sound-slot-requires
-sound-slot-requires c κs =
+held-slot-requires : tie.Need-held-slot-requires
+held-slot-requires c κs =
     let few = c .before .before in
-    let told = few .before .before in (
-      inner-table (table told) (arrivals told) (answer told) (found told),
-      (found told .2, omega (arith, few .few .ensures)),
-    )
+    let told = few .before .before in
+    (found told .0, omega (arith, few .few .ensures), found told .2)
 
 same-length-2 : tie.Need-same-length-2
 same-length-2 c = search needs
@@ -88,8 +72,8 @@ returns-2 c =
     let few = called .before .before .before in
     let records = few .before in
     let told = records .before in
-    lent-runs (table told) (arrivals told) (answer told) (found told) (records .read-records .result) (few .few .result)
-    (few .few .ensures) (records .read-records .ensures) (called .sound-slot .result) _ _ (called .sound-slot .ensures)
+    lent-held (table told) (arrivals told) (answer told) (found told) (records .read-records .result) (few .few .result)
+    (few .few .ensures) (records .read-records .ensures) (called .held-slot .result) _ _ (called .held-slot .ensures)
 
 pub take-slot-spec : {M : Type 1} → statement M
 take-slot-spec =
@@ -102,10 +86,7 @@ take-slot-spec =
     returns
     read-records-requires
     few-requires
-    sub-sound-slot
-    part-sound-slot-start
-    part-sound-slot-end
-    sound-slot-requires
+    held-slot-requires
     same-length-2
     same-length-3
     returns-2)

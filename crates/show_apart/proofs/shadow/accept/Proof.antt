@@ -15,14 +15,14 @@ abbrev μ-loop : tie.MeasureT-loop
 loop-holds : tie.Need-loop-holds Inv-loop μ-loop
 loop-holds c = search needs
 
-mul-store : tie.Need-mul-store Inv-loop μ-loop
-mul-store c = search needs
+mul-take : tie.Need-mul-take Inv-loop μ-loop
+mul-take c = search needs
 
-shared-slice-copy-out-store : tie.Need-shared-slice-copy-out-store Inv-loop μ-loop
-shared-slice-copy-out-store c = search needs
+shared-slice-copy-out-take : tie.Need-shared-slice-copy-out-take Inv-loop μ-loop
+shared-slice-copy-out-take c = search needs
 
-store-requires : tie.Need-store-requires Inv-loop μ-loop
-store-requires c κs = search needs
+take-requires : tie.Need-take-requires Inv-loop μ-loop
+take-requires c κs = search needs
 
 add-k : tie.Need-add-k Inv-loop μ-loop
 add-k c = search needs
@@ -43,9 +43,9 @@ accept-spec =
     Inv-loop
     μ-loop
     loop-holds
-    mul-store
-    shared-slice-copy-out-store
-    store-requires
+    mul-take
+    shared-slice-copy-out-take
+    take-requires
     add-k
     loop-less
     loop-again

@@ -20,6 +20,9 @@ cast-first-for c = search needs
 first-for-requires : tie.Need-first-for-requires Inv-loop μ-loop
 first-for-requires c κs = search needs
 
+remember-requires : tie.Need-remember-requires Inv-loop μ-loop
+remember-requires c κs = search needs
+
 leave-requires : tie.Need-leave-requires Inv-loop μ-loop
 leave-requires c κs = search needs
 
@@ -44,6 +47,7 @@ send-spec =
     loop-holds
     cast-first-for
     first-for-requires
+    remember-requires
     leave-requires
     add-output
     loop-less

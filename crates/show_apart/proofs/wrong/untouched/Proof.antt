@@ -2,15 +2,15 @@
 -- Assumes nothing.
 use borrow.Author.Needs.{needs}
 use Prim.Native.Nat.{_≤_, _-_}
-use Rattle.layout.specs.Table.{tableSize}
+use Rattle.layout.specs.Fair.{fairSize}
 use Rattle.show_apart.proofs.wrong.untouched.Statement.{statement}
 use Rattle.show_apart.proofs.wrong.untouched.Tie as tie
 
 abbrev Inv-loop : tie.InvT-loop
-Inv-loop buffer k₀ k = k ≤ tableSize
+Inv-loop buffer k₀ k = k ≤ fairSize
 
 abbrev μ-loop : tie.MeasureT-loop
-μ-loop buffer k₀ k = tableSize - k
+μ-loop buffer k₀ k = fairSize - k
 
 loop-holds : tie.Need-loop-holds Inv-loop μ-loop
 loop-holds c = search needs

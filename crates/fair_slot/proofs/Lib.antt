@@ -1,0 +1,4 @@
+pub mod Calls
+pub mod Plain
+pub mod Runs
+pub mod Tables
