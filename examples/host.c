@@ -2,7 +2,8 @@
 
      cc -Iinclude examples/host.c target/staticlib/libcrossbar.a -o target/host && target/host
 
-   Three stage boxes play to desk 0. In slot 1 box 2 asks for something that the switch turns back. */
+   Three stage boxes play to desk 0, and give each cell its rank. In slot 1 box 2 asks for something that the switch turns
+   back. From slot 2 on boxes 0 and 1 play to desk 1, which is fair: they send weights, and the switch makes the ranks. */
 #include <inttypes.h>
 #include <stdio.h>
 #include <string.h>
@@ -13,11 +14,18 @@
 static const struct {
     uint32_t slot, input, output, flow, rank, tag;
 } show[] = {
-    {0, 0, 0, 0, 9, 1}, /* box 0 can wait, */
-    {0, 1, 0, 0, 1, 2}, /* box 1 goes first, */
-    {0, 2, 0, 0, 2, 3}, /* box 2 next. */
-    {1, 0, 0, 1, 0, 4}, /* Box 0 has something urgent, in a flow of its own; */
-    {1, 2, 0, 0, 1, 5}, /* box 2 lets its rank fall below that of tag 3, which still waits in the same flow. */
+    {0, 0, 0, 0, 9, 1},  /* box 0 can wait, */
+    {0, 1, 0, 0, 1, 2},  /* box 1 goes first, */
+    {0, 2, 0, 0, 2, 3},  /* box 2 next. */
+    {1, 0, 0, 1, 0, 4},  /* Box 0 has something urgent, in a flow of its own; */
+    {1, 2, 0, 0, 1, 5},  /* box 2 lets its rank fall below that of tag 3, which still waits in the same flow. */
+    {2, 0, 1, 0, 2, 6},  /* At desk 1 box 0 has twice the weight */
+    {2, 1, 1, 0, 1, 7},  /* of box 1; */
+    {2, 2, 1, 0, 0, 8},  /* box 2 sends no weight. */
+    {3, 0, 1, 0, 2, 9},  /* As long as both have cells waiting, */
+    {3, 1, 1, 0, 1, 10}, /* box 0 gets two slots of three. */
+    {4, 0, 1, 0, 2, 11},
+    {5, 0, 1, 0, 2, 12},
 };
 
 static const char *const words[] = {
@@ -25,10 +33,11 @@ static const char *const words[] = {
     [CROSSBAR_NO_SUCH_PORT] = "no such port", [CROSSBAR_NO_SUCH_FLOW] = "no such flow",
     [CROSSBAR_INPUT_ORDER] = "out of turn",   [CROSSBAR_RANK_ORDER] = "falling rank",
     [CROSSBAR_FULL] = "full",                 [CROSSBAR_SHORT_BUFFER] = "short tray",
+    [CROSSBAR_BAD_WEIGHT] = "bad weight",     [CROSSBAR_RANK_END] = "rank end",
 };
 
 #define SHOW_LENGTH (sizeof show / sizeof *show)
-#define SLOTS 4
+#define SLOTS 8
 
 /* All numbers are little-endian, whatever the machine. */
 static void put32(uint8_t *bytes, uint32_t n) {
@@ -91,7 +100,7 @@ int main(void) {
     static uint8_t table[CROSSBAR_TABLE_BYTES], arrivals[CROSSBAR_PORTS * CROSSBAR_ARRIVAL_BYTES];
     static uint8_t answer[CROSSBAR_ANSWER_BYTES], tally[CROSSBAR_TALLY_BYTES];
 
-    if (start(3, 0, table, sizeof table) != 0) return 1;
+    if (start(3, 0, CROSSBAR_FAIR(1), table, sizeof table) != 0) return 1;
     for (uint32_t number = 0; number < SLOTS; number++) {
         size_t bytes = write_arrivals(number, arrivals);
         uint64_t result;

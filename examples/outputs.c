@@ -28,6 +28,7 @@ static const char *const words[] = {
     [OQ_NO_SUCH_PORT] = "no such port", [OQ_NO_SUCH_FLOW] = "no such flow",
     [OQ_INPUT_ORDER] = "out of turn",   [OQ_RANK_ORDER] = "falling rank",
     [OQ_FULL] = "full",                 [OQ_SHORT_BUFFER] = "short tray",
+    [OQ_BAD_WEIGHT] = "bad weight",     [OQ_RANK_END] = "rank end",
 };
 
 #define SHOW_LENGTH (sizeof show / sizeof *show)
@@ -107,7 +108,8 @@ static void print_desk(uint32_t desk) {
 }
 
 int main(void) {
-    if (oq_start(3, 0, table, sizeof table) != 0) return 1;
+    /* No output is fair: each rank stands as it is sent. */
+    if (oq_start(3, 0, 0, table, sizeof table) != 0) return 1;
     for (uint32_t number = 0; number < SLOTS; number++)
         if (play(number) != 0) return 1;
     for (uint32_t desk = 0; desk < DESKS; desk++) print_desk(desk);

@@ -44,7 +44,7 @@ static uint64_t get64(const uint8_t *bytes) { return (uint64_t)get32(bytes + 4) 
 /* Plays the slot of the show that is next by the clock, and prints what departs. Returns 0 if it ran. */
 static int play(uint8_t *answer) {
     uint8_t arrivals[CROSSBAR_PORTS * CROSSBAR_ARRIVAL_BYTES], *at = arrivals;
-    uint32_t number = get32(table + 8); /* the clock */
+    uint32_t number = get32(table + 12); /* the clock */
     for (size_t k = 0; k < SHOW_LENGTH; k++) {
         if (show[k].slot != number) continue;
         put32(at, show[k].input);
@@ -95,7 +95,7 @@ int main(void) {
     static uint8_t opening[CROSSBAR_ANSWER_BYTES], first[TAKE][CROSSBAR_ANSWER_BYTES];
     static uint8_t second[TAKE][CROSSBAR_ANSWER_BYTES];
 
-    if (start(3, 0, table, sizeof table) != 0 || cue_start(store, sizeof store) != 0) return 1;
+    if (start(3, 0, 0, table, sizeof table) != 0 || cue_start(store, sizeof store) != 0) return 1;
     if (play(opening) != 0) return 1;
     /* Two cells wait, and the cue holds them too. */
     set("verse");

@@ -1,10 +1,11 @@
 /* Tests the calls of cues through the static library: the check of a store against one that is written here from
-   docs/LAYOUT.md alone, random settings, drops and returns against four places kept here, and every call with null for no
-   bytes. Prints one line and ends with 0 if all agree. */
+   docs/LAYOUT.md alone, random settings, drops and returns against four places kept here, the converter of older stores,
+   and every call with null for no bytes. Prints one line and ends with 0 if all agree. */
 #include "tables.h"
 
 #define PLACES CROSSBAR_CUES
 #define PLACE_BYTES (CROSSBAR_NAME_BYTES + CROSSBAR_TABLE_BYTES)
+#define OLD_PLACE_BYTES (CROSSBAR_NAME_BYTES + CROSSBAR_OLD_TABLE_BYTES)
 
 static uint8_t *place_at(uint8_t *store, uint32_t k) { return store + 16 + PLACE_BYTES * k; }
 
@@ -27,17 +28,27 @@ static int padded_name(const uint8_t *name) {
     return 0;
 }
 
-/* The independent check of a store. */
-static int sound_store(uint8_t *store, size_t n) {
-    if (n != CROSSBAR_STORE_BYTES || get32(store) != 1 || !zeros(store + 4, 12)) return 0;
+/* The independent check of a store with this number, whose tables have so many bytes and this check. */
+static int sound_places(const uint8_t *store, uint32_t number, size_t table_bytes,
+                        int (*sound_table)(const uint8_t *, size_t)) {
+    size_t place_bytes = CROSSBAR_NAME_BYTES + table_bytes;
+    if (get32(store) != number || !zeros(store + 4, 12)) return 0;
     for (uint32_t k = 0; k < PLACES; k++) {
-        uint8_t *place = place_at(store, k);
-        if (zeros(place, PLACE_BYTES)) continue;
-        if (!padded_name(place) || !sound(place + CROSSBAR_NAME_BYTES, CROSSBAR_TABLE_BYTES)) return 0;
+        const uint8_t *place = store + 16 + place_bytes * k;
+        if (zeros(place, place_bytes)) continue;
+        if (!padded_name(place) || !sound_table(place + CROSSBAR_NAME_BYTES, table_bytes)) return 0;
         for (uint32_t j = 0; j < k; j++)
-            if (memcmp(place_at(store, j), place, CROSSBAR_NAME_BYTES) == 0) return 0;
+            if (memcmp(store + 16 + place_bytes * j, place, CROSSBAR_NAME_BYTES) == 0) return 0;
     }
     return 1;
+}
+
+static int sound_store(const uint8_t *store, size_t n) {
+    return n == CROSSBAR_STORE_BYTES && sound_places(store, 2, CROSSBAR_TABLE_BYTES, sound);
+}
+
+static int sound_old_store(const uint8_t *store, size_t n) {
+    return n == CROSSBAR_OLD_STORE_BYTES && sound_places(store, 1, CROSSBAR_OLD_TABLE_BYTES, sound_cells);
 }
 
 static void same_store(uint8_t *store, size_t n, const char *what, long where) {
@@ -53,7 +64,7 @@ static void test_start(void) {
         expect(result == (sizes[s] < CROSSBAR_STORE_BYTES ? 10u : 0u), "start's result", (long)s);
         if (result == 0) {
             memset(old, 0, CROSSBAR_STORE_BYTES);
-            old[0] = 1;
+            old[0] = 2;
         }
         expect(memcmp(buffer, old, sizeof buffer) == 0, "start's buffer", (long)s);
     }
@@ -71,7 +82,7 @@ static void test_check(void) {
     static uint8_t store[CROSSBAR_STORE_BYTES + 1];
     for (size_t s = 0; s < sizeof held; s++) {
         memset(store, 0, sizeof store);
-        store[0] = 1;
+        store[0] = 2;
         for (uint32_t k = 0; k < PLACES; k++)
             if (held[s] >> k & 1) put_cue(store, k, names[k], 1 + 5 * k, 3);
         if (!sound_store(store, CROSSBAR_STORE_BYTES)) fail("a store made here is not sound", (long)s);
@@ -94,6 +105,59 @@ static void test_check(void) {
             if (pick(2)) memcpy(b + from, name + from, size);
             same_store(copy, sizeof copy, "two names", n);
         }
+    }
+}
+
+/* An older store in the new layout, each table with its number before it and without marks and ranks behind it. */
+static void convert_here(const uint8_t *old, uint8_t *store) {
+    memset(store, 0, CROSSBAR_STORE_BYTES);
+    store[0] = 2;
+    for (uint32_t k = 0; k < PLACES; k++) {
+        const uint8_t *from = old + 16 + OLD_PLACE_BYTES * k;
+        uint8_t *place = place_at(store, k);
+        if (zeros(from, OLD_PLACE_BYTES)) continue;
+        memcpy(place, from, CROSSBAR_NAME_BYTES);
+        put32(place + CROSSBAR_NAME_BYTES, 2);
+        memcpy(place + CROSSBAR_NAME_BYTES + 4, from + CROSSBAR_NAME_BYTES, CROSSBAR_OLD_TABLE_BYTES);
+    }
+}
+
+/* Older stores with none to four cues, sound and with bytes changed: they are written in the new layout, or refused, as
+   the check says; every other call refuses them. */
+static void test_convert(void) {
+    static const uint8_t held[] = {0, 1, 11, 15}; /* a bit for each place */
+    static const char *const names[] = {"a", "prologue", "zz", "prologus"};
+    static uint8_t old[CROSSBAR_OLD_STORE_BYTES + 1], want[CROSSBAR_STORE_BYTES], table[CROSSBAR_TABLE_BYTES];
+    fill(table, 3, 9);
+    for (size_t s = 0; s < sizeof held; s++) {
+        memset(old, 0, sizeof old);
+        old[0] = 1;
+        for (uint32_t k = 0; k < PLACES; k++) {
+            if (!(held[s] >> k & 1)) continue;
+            memcpy(old + 16 + OLD_PLACE_BYTES * k, names[k], strlen(names[k]));
+            fill_cells(old + 16 + OLD_PLACE_BYTES * k + CROSSBAR_NAME_BYTES, 1 + 5 * k, 3);
+        }
+        expect(sound_old_store(old, CROSSBAR_OLD_STORE_BYTES), "a store made here is not sound", (long)s);
+        for (size_t i = 0; i < CROSSBAR_OLD_STORE_BYTES; i++) {
+            /* the header, the names, the first bytes of each table, and some of the others */
+            if (i >= 16 && (i - 16) % OLD_PLACE_BYTES >= 64 && i % 61 != 0) continue;
+            uint8_t kept = old[i];
+            if (i > 0) old[i] = (uint8_t)(pick(3) ? kept + 1 + pick(255) : 'a' + pick(26));
+            int is_sound = sound_old_store(old, CROSSBAR_OLD_STORE_BYTES);
+            convert_here(old, want);
+            test_converter(convert_cues, sizeof want, old, CROSSBAR_OLD_STORE_BYTES, is_sound ? want : NULL, (long)i);
+            old[i] = kept;
+        }
+        for (size_t n = 0; n <= sizeof old; n += n < 40 || n > sizeof old - 40 ? 1 : 10007)
+            if (n != CROSSBAR_OLD_STORE_BYTES) test_converter(convert_cues, sizeof want, old, n, NULL, (long)n);
+        convert_here(old, want);
+        test_converter(convert_cues, sizeof want, want, sizeof want, NULL, 0);
+        const uint8_t *name = (const uint8_t *)"a";
+        size_t size = CROSSBAR_OLD_STORE_BYTES;
+        expect(cue_check(old, size) == CROSSBAR_BROKEN_TABLE, "an older store", (long)s);
+        expect(cue_set(table, sizeof table, old, size, name, 1) == CROSSBAR_BROKEN_TABLE, "set in it", (long)s);
+        expect(cue_drop(old, size, name, 1) == CROSSBAR_BROKEN_TABLE, "drop in it", (long)s);
+        expect(cue_return(table, sizeof table, old, size, name, 1) == CROSSBAR_BROKEN_TABLE, "return in it", (long)s);
     }
 }
 
@@ -155,7 +219,8 @@ static void test_null(void) {
     const uint8_t *name = (const uint8_t *)"verse";
     expect(cue_start(NULL, 0) == CROSSBAR_SHORT_BUFFER, "start in null", 0);
     expect(cue_check(NULL, 0) == CROSSBAR_BROKEN_TABLE, "check of null", 0);
-    expect(start(2, 7, table, sizeof table) == 0 && cue_start(store, sizeof store) == 0, "start", 0);
+    expect(start(2, 7, 1, table, sizeof table) == 0 && cue_start(store, sizeof store) == 0, "start", 0);
+    expect(convert_cues(NULL, 0, NULL, 0) == CROSSBAR_BROKEN_TABLE, "convert of null", 0);
     expect(cue_set(table, sizeof table, store, sizeof store, name, 5) == 0, "set", 0);
     memcpy(old, store, sizeof store);
     expect(cue_set(table, sizeof table, store, sizeof store, NULL, 0) == CROSSBAR_BAD_NAME, "set of no name", 0);
@@ -170,13 +235,14 @@ static void test_null(void) {
     expect(cue_drop(NULL, 0, NULL, 0) == CROSSBAR_BROKEN_TABLE, "drop of nothing", 0);
     expect(cue_return(NULL, 0, NULL, 0, NULL, 0) == CROSSBAR_BROKEN_TABLE, "return of nothing", 0);
     expect(memcmp(store, old, sizeof store) == 0, "the store of refused calls", 0);
-    expect(check(table, sizeof table) == 0 && get32(table + 8) == 7, "the table of refused calls", 0);
+    expect(check(table, sizeof table) == 0 && get32(table + 12) == 7, "the table of refused calls", 0);
 }
 
 int main(void) {
     test_start();
     test_check();
     test_calls();
+    test_convert();
     test_null();
     printf("cues: %lu cases agree\n", cases);
     return 0;

@@ -1,64 +1,56 @@
-/* Tests oq_start and oq_check through the static library, against a check of a table that is written here; and all
-   three calls with null for no bytes. Prints one line and ends with 0 if all agree. */
+/* Tests oq_start, oq_check and oq_convert through the static library, against a check of a table that is written here;
+   and all four calls with null for no bytes. Prints one line and ends with 0 if all agree. */
 #include "tables.h"
 
 #include "oq.h"
 
-/* The independent check: the number, a sound table behind it, and every cell in a buffer. */
-static int sound_oq(const uint8_t *t, size_t n) {
-    if (n != OQ_TABLE_BYTES || get32(t) != 101 || !sound(t + 4, n - 4)) return 0;
+/* Whether every cell is in a buffer, in a table or an older one. */
+static int buffered(const uint8_t *t) {
     for (int input = 0; input < 16; input++)
         for (int at = 0; at < t[20 + input]; at++)
             if (t[36 + 1024 * input + 16 * at + 2] != 3) return 0;
     return 1;
 }
 
-/* A sound table with so many cells an input at most. */
-static void fill_oq(uint8_t *t, uint32_t ports, uint32_t most) {
+/* The independent checks: the number, sound cells behind it, and every cell in a buffer. */
+static int sound_oq(const uint8_t *t, size_t n) { return sound_numbered(t, n, 102) && buffered(t); }
+
+static int sound_old(const uint8_t *t, size_t n) {
+    return n == OQ_OLD_TABLE_BYTES && get32(t) == 101 && sound_cells(t + 4, n - 4) && buffered(t);
+}
+
+/* A sound older table with so many cells an input at most. */
+static void fill_old(uint8_t *t, uint32_t ports, uint32_t most) {
     put32(t, 101);
-    fill(t + 4, ports, most);
+    fill_cells(t + 4, ports, most);
     for (uint32_t input = 0; input < ports; input++)
         for (int at = 0; at < t[20 + input]; at++) record_at(t + 4, (int)input, at)[2] = 3;
 }
 
+/* A sound table with so many cells an input at most, and any marks and ranks. */
+static void fill_oq(uint8_t *t, uint32_t ports, uint32_t most) {
+    fill_old(t, ports, most);
+    fill_memory(t, 102, ports);
+}
+
 static void test_start(void) {
     static const uint32_t firsts[] = {0, 1, 255, 256, 65535, 16777216, 4294967294u, 4294967295u};
-    static const size_t sizes[] = {0, 7, CROSSBAR_TABLE_BYTES, OQ_TABLE_BYTES - 1, OQ_TABLE_BYTES, OQ_TABLE_BYTES + 64};
+    static const size_t sizes[] = {0, 7, OQ_OLD_TABLE_BYTES, OQ_TABLE_BYTES - 1, OQ_TABLE_BYTES, OQ_TABLE_BYTES + 64};
     static uint8_t buffer[OQ_TABLE_BYTES + 64], old[OQ_TABLE_BYTES + 64];
     for (uint32_t ports = 0; ports <= 17; ports++)
-        for (size_t f = 0; f < sizeof firsts / sizeof *firsts; f++)
+        for (int k = 0; k < MARKS; k++)
             for (size_t s = 0; s < sizeof sizes / sizeof *sizes; s++) {
-                size_t bytes = sizes[s];
+                uint32_t first = firsts[pick(sizeof firsts / sizeof *firsts)], fair = marks_at(k);
                 for (size_t i = 0; i < sizeof buffer; i++) buffer[i] = old[i] = (uint8_t)pick(256);
-                uint32_t r = oq_start(ports, firsts[f], buffer, bytes);
-                uint32_t want = ports < 1 || ports > 16 ? 1 : bytes < OQ_TABLE_BYTES ? 10 : 0;
-                expect(r == want, "the result of oq_start", (long)ports);
-                if (r == 0) {
-                    memset(old, 0, OQ_TABLE_BYTES);
-                    put32(old, 101);
-                    put32(old + 4, 1);
-                    put32(old + 8, ports);
-                    put32(old + 12, firsts[f]);
-                }
+                uint32_t r = oq_start(ports, first, fair, buffer, sizes[s]);
+                expect(r == start_refusal(ports, fair, sizes[s]), "the result of oq_start", (long)ports);
+                if (r == 0) fresh(old, 102, ports, first, fair);
                 expect(memcmp(buffer, old, sizeof buffer) == 0, "the buffer of oq_start", (long)ports);
             }
 }
 
 static void same(const uint8_t *t, size_t n, const char *what, long where) {
     expect(oq_check(t, n) == (sound_oq(t, n) ? 0u : 2u), what, where);
-}
-
-/* Two entries of an input made alike in one field or exchanged. */
-static void change_entries(uint8_t *t, uint32_t ports) {
-    static const int fields[][2] = {{0, 1}, {1, 1}, {2, 1}, {4, 4}, {12, 4}, {0, 16}, {0, 2}};
-    uint32_t input = pick(ports), count = t[20 + input];
-    if (count == 0) return;
-    uint8_t *a = record_at(t + 4, (int)input, (int)pick(count)), *b = record_at(t + 4, (int)input, (int)pick(count));
-    const int *f = fields[pick(7)];
-    uint8_t held[16];
-    memcpy(held, a, 16);
-    memcpy(a + f[0], b + f[0], (size_t)f[1]);
-    if (pick(2)) memcpy(b + f[0], held + f[0], (size_t)f[1]);
 }
 
 static void test_check(void) {
@@ -69,11 +61,11 @@ static void test_check(void) {
         expect(sound_oq(table, OQ_TABLE_BYTES), "a table made here is not sound", (long)s);
         for (size_t n = 0; n <= sizeof table; n += n < 40 || n > sizeof table - 1100 ? 1 : 1009)
             same(table, n, "length", (long)n);
-        /* Every byte changed to several values, one at a time. */
+        /* Every byte changed to several values, one at a time; of the ranks remembered, which are any, to one. */
         for (size_t i = 0; i < OQ_TABLE_BYTES; i++) {
             uint8_t kept = table[i];
-            uint8_t values[] = {0, 1, 2, 16, 64, 255, (uint8_t)(kept + 1), (uint8_t)(kept - 1)};
-            for (size_t v = 0; v < sizeof values; v++) {
+            uint8_t values[] = {(uint8_t)(kept + 1), (uint8_t)(kept - 1), 0, 1, 2, 16, 64, 255};
+            for (size_t v = 0; v < (i < MEMORY_AT + 4 ? sizeof values : 1); v++) {
                 table[i] = values[v];
                 same(table, OQ_TABLE_BYTES, "one byte changed", (long)i);
             }
@@ -84,12 +76,51 @@ static void test_check(void) {
             change_entries(copy, sizes[s][0]);
             same(copy, OQ_TABLE_BYTES, "two entries", k);
         }
-        /* The crossbar's tables, without the number and with it. */
+        /* The crossbar's tables, with their number and with this switch's. */
         for (int k = 0; k < 200; k++) {
-            put32(copy, pick(2) ? 101 : 1);
-            fill(copy + 4, sizes[s][0], pick(1 + sizes[s][1]));
-            same(copy, OQ_TABLE_BYTES, "a table of the crossbar with a number before it", k);
-            expect(oq_check(copy + 4, CROSSBAR_TABLE_BYTES) == OQ_BROKEN_TABLE, "a table of the crossbar", k);
+            fill(copy, sizes[s][0], pick(1 + sizes[s][1]));
+            expect(oq_check(copy, CROSSBAR_TABLE_BYTES) == OQ_BROKEN_TABLE, "a table of the crossbar", k);
+            put32(copy, 102);
+            same(copy, OQ_TABLE_BYTES, "a table of the crossbar with another number", k);
+        }
+    }
+}
+
+/* Older tables, sound and with a byte changed: they are written in the new layout, no output fair, or refused, as the
+   check says; every other call refuses them. */
+static void test_convert(void) {
+    static uint8_t old[OQ_OLD_TABLE_BYTES + 1], want[OQ_TABLE_BYTES], new[OQ_TABLE_BYTES];
+    static uint8_t answer[OQ_ANSWER_BYTES], tally[OQ_TALLY_BYTES];
+    static const uint32_t sizes[][2] = {{1, 64}, {2, 5}, {5, 17}, {16, 64}};
+    for (size_t s = 0; s < sizeof sizes / sizeof *sizes; s++) {
+        fill_old(old, sizes[s][0], sizes[s][1]);
+        for (size_t i = 0; i < OQ_OLD_TABLE_BYTES; i += i < 64 ? 1 : 13) {
+            uint8_t kept = old[i];
+            if (i > 0) old[i] = (uint8_t)(kept + 1 + pick(255));
+            memset(want, 0, sizeof want);
+            memcpy(want, old, OQ_OLD_TABLE_BYTES);
+            put32(want, 102);
+            int is_sound = sound_old(old, OQ_OLD_TABLE_BYTES);
+            test_converter(oq_convert, sizeof want, old, OQ_OLD_TABLE_BYTES, is_sound ? want : NULL, (long)i);
+            old[i] = kept;
+        }
+        for (size_t n = 0; n <= sizeof old; n += n < 40 || n > sizeof old - 40 ? 1 : 1009)
+            if (n != OQ_OLD_TABLE_BYTES) test_converter(oq_convert, sizeof want, old, n, NULL, (long)n);
+        fill_oq(new, sizes[s][0], sizes[s][1]);
+        test_converter(oq_convert, sizeof want, new, sizeof new, NULL, 0);
+        same(old, OQ_OLD_TABLE_BYTES, "an older table", (long)s);
+        uint64_t r = oq_slot(old, OQ_OLD_TABLE_BYTES, NULL, 0, answer, sizeof answer, tally, sizeof tally);
+        expect(r == OQ_BROKEN_TABLE, "a slot of an older table", (long)s);
+        /* The crossbar's older tables, and those with this switch's older number before them. */
+        for (int k = 0; k < 100; k++) {
+            put32(old, 101);
+            fill_cells(old + 4, sizes[s][0], pick(1 + sizes[s][1]));
+            test_converter(oq_convert, sizeof want, old + 4, CROSSBAR_OLD_TABLE_BYTES, NULL, k);
+            memset(want, 0, sizeof want);
+            memcpy(want, old, OQ_OLD_TABLE_BYTES);
+            put32(want, 102);
+            int is_sound = sound_old(old, OQ_OLD_TABLE_BYTES);
+            test_converter(oq_convert, sizeof want, old, OQ_OLD_TABLE_BYTES, is_sound ? want : NULL, k);
         }
     }
 }
@@ -100,10 +131,14 @@ static void test_null(void) {
     static uint8_t answer[OQ_ANSWER_BYTES], same_answer[OQ_ANSWER_BYTES];
     static uint8_t tally[OQ_TALLY_BYTES], same_tally[OQ_TALLY_BYTES];
     uint64_t ran;
-    expect(oq_start(2, 0, NULL, 0) == OQ_SHORT_BUFFER, "start in null", 0);
-    expect(oq_start(0, 0, NULL, 0) == OQ_BAD_SIZE, "start of no ports in null", 0);
+    expect(oq_start(2, 0, 0, NULL, 0) == OQ_SHORT_BUFFER, "start in null", 0);
+    expect(oq_start(0, 0, 1, NULL, 0) == OQ_BAD_SIZE, "start of no ports in null", 0);
+    expect(oq_start(2, 0, OQ_FAIR(2), NULL, 0) == OQ_NO_SUCH_PORT, "start with a mark at a third port", 0);
     expect(oq_check(NULL, 0) == OQ_BROKEN_TABLE, "check of null", 0);
-    expect(oq_start(2, 7, table, sizeof table) == 0, "start", 0);
+    expect(oq_convert(NULL, 0, NULL, 0) == OQ_BROKEN_TABLE, "convert of null", 0);
+    fill_old(other, 2, 3);
+    expect(oq_convert(other, OQ_OLD_TABLE_BYTES, NULL, 0) == OQ_SHORT_BUFFER, "convert into null", 0);
+    expect(oq_start(2, 7, 0, table, sizeof table) == 0, "start", 0);
     put32(arrival + 12, 5);
     ran = oq_slot(table, sizeof table, arrival, sizeof arrival, answer, sizeof answer, tally, sizeof tally);
     expect(ran == 0, "slot", 0);
@@ -131,7 +166,8 @@ static void test_null(void) {
 int main(void) {
     test_start();
     test_check();
+    test_convert();
     test_null();
-    printf("oq_start, oq_check and null: %lu cases agree\n", cases);
+    printf("oq_start, oq_check, oq_convert and null: %lu cases agree\n", cases);
     return 0;
 }

@@ -1,22 +1,25 @@
 //! Safe calls of the crossbar: a switch, what a slot answers, the tally, cues to come back to, and refusals; and of the
-//! output-queued switch beside it. The promises of the calls are in include/crossbar.h and include/oq.h, the layouts in
+//! output-queued switch beside it. Either takes up the tables of older versions. The promises of the calls are in include/crossbar.h and include/oq.h, the layouts in
 //! docs/LAYOUT.md. It links target/staticlib/libcrossbar.a and liboq.a.
 
 pub const PORTS: usize = 16;
-pub const TABLE_BYTES: usize = 16416;
+pub const TABLE_BYTES: usize = 24680;
 pub const ARRIVAL_BYTES: usize = 20;
 pub const DEPARTURE_BYTES: usize = 28;
 pub const ANSWER_BYTES: usize = 584;
 pub const TALLY_BYTES: usize = 32;
 pub const CUES: usize = 4;
 pub const NAME_BYTES: usize = 8;
-pub const STORE_BYTES: usize = 65712;
-pub const OQ_TABLE_BYTES: usize = 16420;
+pub const STORE_BYTES: usize = 98768;
+pub const OQ_TABLE_BYTES: usize = 24680;
 pub const OQ_ANSWER_BYTES: usize = 448;
+pub const OLD_TABLE_BYTES: usize = 16416;
+pub const OLD_STORE_BYTES: usize = 65712;
+pub const OQ_OLD_TABLE_BYTES: usize = 16420;
 
 mod raw {
     extern "C" {
-        pub fn start(ports: u32, first: u32, table: *mut u8, table_bytes: usize) -> u32;
+        pub fn start(ports: u32, first: u32, fair: u32, table: *mut u8, table_bytes: usize) -> u32;
         pub fn check(table: *const u8, table_bytes: usize) -> u32;
         pub fn slot(
             table: *mut u8,
@@ -28,6 +31,8 @@ mod raw {
             tally: *mut u8,
             tally_bytes: usize,
         ) -> u64;
+        pub fn convert(old: *const u8, old_bytes: usize, table: *mut u8, table_bytes: usize) -> u32;
+        pub fn convert_cues(old: *const u8, old_bytes: usize, store: *mut u8, store_bytes: usize) -> u32;
         pub fn cue_start(store: *mut u8, store_bytes: usize) -> u32;
         pub fn cue_check(store: *const u8, store_bytes: usize) -> u32;
         pub fn cue_set(
@@ -47,7 +52,7 @@ mod raw {
             name: *const u8,
             name_bytes: usize,
         ) -> u32;
-        pub fn oq_start(ports: u32, first: u32, table: *mut u8, table_bytes: usize) -> u32;
+        pub fn oq_start(ports: u32, first: u32, fair: u32, table: *mut u8, table_bytes: usize) -> u32;
         pub fn oq_check(table: *const u8, table_bytes: usize) -> u32;
         pub fn oq_slot(
             table: *mut u8,
@@ -59,12 +64,13 @@ mod raw {
             tally: *mut u8,
             tally_bytes: usize,
         ) -> u64;
+        pub fn oq_convert(old: *const u8, old_bytes: usize, table: *mut u8, table_bytes: usize) -> u32;
     }
 }
 
 /// The calls on byte slices, as the host has them.
-pub fn start_bytes(ports: u32, first: u32, table: &mut [u8]) -> u32 {
-    unsafe { raw::start(ports, first, table.as_mut_ptr(), table.len()) }
+pub fn start_bytes(ports: u32, first: u32, fair: u32, table: &mut [u8]) -> u32 {
+    unsafe { raw::start(ports, first, fair, table.as_mut_ptr(), table.len()) }
 }
 
 pub fn check_bytes(table: &[u8]) -> u32 {
@@ -84,6 +90,14 @@ pub fn slot_bytes(table: &mut [u8], arrivals: &[u8], answer: &mut [u8], tally: &
             tally.len(),
         )
     }
+}
+
+pub fn convert_bytes(old: &[u8], table: &mut [u8]) -> u32 {
+    unsafe { raw::convert(old.as_ptr(), old.len(), table.as_mut_ptr(), table.len()) }
+}
+
+pub fn convert_cues_bytes(old: &[u8], store: &mut [u8]) -> u32 {
+    unsafe { raw::convert_cues(old.as_ptr(), old.len(), store.as_mut_ptr(), store.len()) }
 }
 
 pub fn cue_start_bytes(store: &mut [u8]) -> u32 {
@@ -110,8 +124,8 @@ pub fn cue_return_bytes(table: &mut [u8], store: &[u8], name: &[u8]) -> u32 {
     }
 }
 
-pub fn oq_start_bytes(ports: u32, first: u32, table: &mut [u8]) -> u32 {
-    unsafe { raw::oq_start(ports, first, table.as_mut_ptr(), table.len()) }
+pub fn oq_start_bytes(ports: u32, first: u32, fair: u32, table: &mut [u8]) -> u32 {
+    unsafe { raw::oq_start(ports, first, fair, table.as_mut_ptr(), table.len()) }
 }
 
 pub fn oq_check_bytes(table: &[u8]) -> u32 {
@@ -131,6 +145,10 @@ pub fn oq_slot_bytes(table: &mut [u8], arrivals: &[u8], answer: &mut [u8], tally
             tally.len(),
         )
     }
+}
+
+pub fn oq_convert_bytes(old: &[u8], table: &mut [u8]) -> u32 {
+    unsafe { raw::oq_convert(old.as_ptr(), old.len(), table.as_mut_ptr(), table.len()) }
 }
 
 /// Why a call was turned back.
@@ -162,6 +180,10 @@ pub enum Refusal {
     CuesFull,
     /// no such cue: no cue of this name is held
     NoSuchCue,
+    /// bad weight: at a fair output the rank is not 1 to 1,024
+    BadWeight,
+    /// rank end: at a fair output the rank made passes 4,294,967,295
+    RankEnd,
 }
 
 impl Refusal {
@@ -173,7 +195,7 @@ impl Refusal {
         use Refusal::*;
         [
             BadSize, BrokenTable, ClockEnd, NoSuchPort, NoSuchFlow, InputOrder, RankOrder, Full, BadLine, ShortBuffer,
-            BadName, CuesFull, NoSuchCue,
+            BadName, CuesFull, NoSuchCue, BadWeight, RankEnd,
         ][n as usize - 1]
     }
 
@@ -203,6 +225,7 @@ impl Refused {
     }
 }
 
+/// At a fair output the rank is a weight, 1 to 1,024, and the switch makes the rank of the cell.
 #[derive(Clone, Copy, Debug, PartialEq, Eq)]
 pub struct Arrival {
     pub input: u32,
@@ -263,10 +286,10 @@ pub struct Switch {
 }
 
 impl Switch {
-    /// A fresh switch of 1 to 16 ports.
-    pub fn start(ports: u32, first: u32) -> Result<Switch, Refusal> {
+    /// A fresh switch of 1 to 16 ports. Bit o of `fair` marks output o; 0 for none.
+    pub fn start(ports: u32, first: u32, fair: u32) -> Result<Switch, Refusal> {
         let mut table = vec![0; TABLE_BYTES];
-        Refusal::of(start_bytes(ports, first, &mut table))?;
+        Refusal::of(start_bytes(ports, first, fair, &mut table))?;
         Ok(Switch { table, tally: [0; TALLY_BYTES] })
     }
 
@@ -276,16 +299,23 @@ impl Switch {
         Ok(Switch { table, tally: [0; TALLY_BYTES] })
     }
 
+    /// The switch of a table that a version before 3.0.0 kept, if it is sound. No output is fair.
+    pub fn from_old_table(old: &[u8]) -> Result<Switch, Refusal> {
+        let mut table = vec![0; TABLE_BYTES];
+        Refusal::of(convert_bytes(old, &mut table))?;
+        Ok(Switch { table, tally: [0; TALLY_BYTES] })
+    }
+
     pub fn table(&self) -> &[u8] {
         &self.table
     }
 
     pub fn ports(&self) -> usize {
-        word(&self.table, 4) as usize
+        word(&self.table, 8) as usize
     }
 
     pub fn clock(&self) -> u32 {
-        word(&self.table, 8)
+        word(&self.table, 12)
     }
 
     pub fn tally(&self) -> Tally {
@@ -316,6 +346,13 @@ impl Cues {
     /// The cues of a store that was kept, if it is sound.
     pub fn from_store(store: Vec<u8>) -> Result<Cues, Refusal> {
         Refusal::of(cue_check_bytes(&store))?;
+        Ok(Cues { store })
+    }
+
+    /// The cues of a store that a version before 3.0.0 kept, if it is sound.
+    pub fn from_old_store(old: &[u8]) -> Result<Cues, Refusal> {
+        let mut store = vec![0; STORE_BYTES];
+        Refusal::of(convert_cues_bytes(old, &mut store))?;
         Ok(Cues { store })
     }
 
@@ -353,16 +390,23 @@ pub struct Oq {
 }
 
 impl Oq {
-    /// A fresh switch of 1 to 16 ports.
-    pub fn start(ports: u32, first: u32) -> Result<Oq, Refusal> {
+    /// A fresh switch of 1 to 16 ports. Bit o of `fair` marks output o; 0 for none.
+    pub fn start(ports: u32, first: u32, fair: u32) -> Result<Oq, Refusal> {
         let mut table = vec![0; OQ_TABLE_BYTES];
-        Refusal::of(oq_start_bytes(ports, first, &mut table))?;
+        Refusal::of(oq_start_bytes(ports, first, fair, &mut table))?;
         Ok(Oq { table, tally: [0; TALLY_BYTES] })
     }
 
     /// The switch of a table that was kept, if it is sound. The crossbar's tables are not.
     pub fn from_table(table: Vec<u8>) -> Result<Oq, Refusal> {
         Refusal::of(oq_check_bytes(&table))?;
+        Ok(Oq { table, tally: [0; TALLY_BYTES] })
+    }
+
+    /// The switch of a table that a version before 3.0.0 kept, if it is sound. No output is fair.
+    pub fn from_old_table(old: &[u8]) -> Result<Oq, Refusal> {
+        let mut table = vec![0; OQ_TABLE_BYTES];
+        Refusal::of(oq_convert_bytes(old, &mut table))?;
         Ok(Oq { table, tally: [0; TALLY_BYTES] })
     }
 

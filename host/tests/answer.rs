@@ -14,7 +14,7 @@ fn sends(cell: Cell, proposals: [u32; 2], [first, second]: [u32; 2]) -> Answer {
 
 #[test]
 fn the_show_of_scope_9_3() {
-    let mut switch = Switch::start(3, 0).unwrap();
+    let mut switch = Switch::start(3, 0, 0).unwrap();
     let cell = |input, flow, rank, tag, slot| Cell { input, output: 0, flow, rank, tag, slot };
     let got = switch.slot(&[arrival(0, 0, 9, 1), arrival(1, 0, 1, 2), arrival(2, 0, 2, 3)]);
     assert_eq!(got, Ok(sends(cell(1, 0, 1, 2, 0), [0, 0], [3, 2])));
@@ -44,7 +44,7 @@ fn occupancies_in_their_places() {
 /// The same show on the output-queued switch, whose table is kept and taken up again in the middle.
 #[test]
 fn the_show_on_the_output_queued_switch() {
-    let mut oq = Oq::start(3, 0).unwrap();
+    let mut oq = Oq::start(3, 0, 0).unwrap();
     let sends = |input, flow, rank, tag, slot| Ok(vec![Some(Cell { input, output: 0, flow, rank, tag, slot }), None, None]);
     assert_eq!(oq.slot(&[arrival(0, 0, 9, 1), arrival(1, 0, 1, 2), arrival(2, 0, 2, 3)]), sends(1, 0, 1, 2, 0));
     let refused = Err(Refused { refusal: Refusal::RankOrder, place: 2 });
@@ -57,8 +57,8 @@ fn the_show_on_the_output_queued_switch() {
     assert_eq!(oq.slot(&[]), sends(0, 0, 9, 1, 0));
     assert_eq!(oq.slot(&[]), Ok(vec![None; 3]));
 
-    assert_eq!(Oq::start(17, 0).err(), Some(Refusal::BadSize));
-    let crossbar = Switch::start(3, 0).unwrap();
+    assert_eq!(Oq::start(17, 0, 0).err(), Some(Refusal::BadSize));
+    let crossbar = Switch::start(3, 0, 0).unwrap();
     assert_eq!(Oq::from_table(crossbar.table().to_vec()).err(), Some(Refusal::BrokenTable));
     assert_eq!(Switch::from_table(oq.table().to_vec()).err(), Some(Refusal::BrokenTable));
 }

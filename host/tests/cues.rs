@@ -16,8 +16,8 @@ use random::{setting, Random};
 use reference::cues::{is_name, Call, Rehearsal};
 use reference::{raised, record_bytes, Crossbar, Pifo, Record, CLOCK_END};
 use std::collections::HashMap;
-use store::{fresh_store, fresh_table, is_store, names_of, place, store_of, PLACE_BYTES};
-use traffic::{any_state, Traffic};
+use store::{fresh_store, fresh_table, is_store, marked_table, names_of, place, store_of, PLACE_BYTES};
+use traffic::{any_state, marks, Traffic};
 
 /// Plays a slot and gives its result and its answer.
 fn played(table: &mut [u8], records: &[Record], tally: &mut [u8]) -> (u64, Vec<u8>) {
@@ -29,19 +29,19 @@ fn played(table: &mut [u8], records: &[Record], tally: &mut [u8]) -> (u64, Vec<u
 /// Slots that were played from a fresh switch on, with what came of each.
 #[derive(Clone)]
 struct Played {
-    ports: u32,
-    first: u32,
+    start: (u32, u32, u32),
     slots: Vec<(Vec<Record>, (u64, Vec<u8>))>,
 }
 
 impl Played {
-    fn fresh(ports: u32, first: u32) -> Played {
-        Played { ports, first, slots: Vec::new() }
+    fn fresh(ports: u32, first: u32, fair: u32) -> Played {
+        Played { start: (ports, first, fair), slots: Vec::new() }
     }
 
     /// The table after the same slots on a fresh switch; each must come out as it did.
     fn again(&self) -> Vec<u8> {
-        let (mut table, mut tally) = (fresh_table(self.ports, self.first), [0; TALLY_BYTES]);
+        let (ports, first, fair) = self.start;
+        let (mut table, mut tally) = (marked_table(ports, first, fair), [0; TALLY_BYTES]);
         for (records, came) in &self.slots {
             assert!(played(&mut table, records, &mut tally) == *came, "played again, {records:?} comes out otherwise");
         }
@@ -63,15 +63,15 @@ struct Stage {
 }
 
 impl Stage {
-    fn fresh(ports: u32, first: u32) -> Stage {
+    fn fresh(ports: u32, first: u32, fair: u32) -> Stage {
         Stage {
-            table: fresh_table(ports, first),
+            table: marked_table(ports, first, fair),
             store: fresh_store(),
             tally: vec![0; TALLY_BYTES],
             want_tally: vec![0; TALLY_BYTES],
-            crossbar: Rehearsal::fresh(ports, first),
-            pifo: Rehearsal::fresh(ports, first),
-            played: Played::fresh(ports, first),
+            crossbar: Rehearsal::fresh(ports, first, fair),
+            pifo: Rehearsal::fresh(ports, first, fair),
+            played: Played::fresh(ports, first, fair),
             held: HashMap::new(),
         }
     }
@@ -79,9 +79,9 @@ impl Stage {
     /// One call on all three: the number of its refusal, or 0.
     fn call(&mut self, call: &Call) -> u32 {
         let result = match call {
-            Call::Start(ports, first) => {
-                self.table = fresh_table(*ports, *first);
-                self.played = Played::fresh(*ports, *first);
+            Call::Start(ports, first, fair) => {
+                self.table = marked_table(*ports, *first, *fair);
+                self.played = Played::fresh(*ports, *first, *fair);
                 0
             }
             Call::Slot(records) => self.slot(records),
@@ -147,6 +147,7 @@ impl Stage {
             0 => bytes.truncate(r.below(bytes.len() as u64) as usize),
             1 => bytes.truncate(bytes.len() - 1),
             2 => bytes.push(0),
+            _ if of_table => bytes[r.pick(&[0, 3, 4, 16, 19, 16423])] ^= 1 << r.below(8),
             _ => bytes[r.pick(&[0, 3, 12, 15])] ^= 1 << r.below(8),
         }
         let (old_table, old_store) = (table.clone(), store.clone());
@@ -164,11 +165,11 @@ impl Stage {
 fn random_lists() {
     let calls = setting("SLOTS", 500_000) / 5;
     let mut r = Random(setting("SEED", 1) * 2 + 2685821657736338717);
-    let (mut done, mut refused, mut returns, mut other_ports) = (0, [0u64; 14], 0, 0);
+    let (mut done, mut refused, mut returns, mut other_ports) = (0, [0u64; 16], 0, 0);
     while done < calls {
         let ports = 1 + r.below(16) as u32;
         let first = r.pick(&[0, 1, 77, 4_000_000_000, CLOCK_END - 40, CLOCK_END]);
-        let mut stage = Stage::fresh(ports, first);
+        let mut stage = Stage::fresh(ports, first, marks(&mut r, ports));
         let mut traffic = Traffic::new(&mut r, ports);
         let length = r.pick(&[10, 60, 200]);
         for _ in 0..length {
@@ -189,7 +190,7 @@ fn random_lists() {
     }
     println!("cues: {done} calls, {returns} returns, {other_ports} of them to another number of ports, refused {refused:?}");
     assert!(returns > 0 && other_ports > 0, "no return, or none to another number of ports");
-    assert!([3, 4, 5, 6, 7, 11, 12, 13].iter().all(|&n| refused[n] > 0), "some refusal never came: {refused:?}");
+    assert!([3, 4, 5, 6, 7, 11, 12, 13, 14].iter().all(|&n| refused[n] > 0), "some refusal never came: {refused:?}");
 }
 
 /// A cue holds any sound table, not only those that a fresh switch can reach.
@@ -269,15 +270,16 @@ fn names_of_every_byte_and_length() {
 fn order_of_refusals() {
     let sound = fresh_table(4, 40);
     let (mut broken, mut oq) = (sound.clone(), vec![0; OQ_TABLE_BYTES]);
-    broken[12] = 1;
-    assert_eq!(oq_start_bytes(4, 40, &mut oq), 0);
+    broken[16] = 1;
+    assert_eq!(oq_start_bytes(4, 40, 0, &mut oq), 0);
     let tables = [
         (&sound[..], true),
         (&broken[..], false),
         (&sound[..TABLE_BYTES - 1], false),
         (&[][..], false),
         (&oq[..], false),
-        (&oq[..TABLE_BYTES], false),
+        (&oq[4..], false),
+        (&sound[4..16420], false), // as an older version has it
     ];
     let four = store_of(&["one", "two", "three", "four"]);
     let mut damaged = four.clone();
@@ -406,7 +408,7 @@ fn returns_at_the_end_of_the_clock() {
 fn a_switch_and_its_cues() {
     let arrival = |input, flow, rank, tag| Arrival { input, output: 0, flow, rank, tag };
     let slots = [vec![arrival(0, 0, 9, 1), arrival(1, 0, 1, 2), arrival(2, 0, 2, 3)], vec![arrival(0, 1, 0, 4)], vec![]];
-    let (mut switch, mut cues) = (Switch::start(3, 0).unwrap(), Cues::start());
+    let (mut switch, mut cues) = (Switch::start(3, 0, 0).unwrap(), Cues::start());
     assert_eq!(cues.set("intro", &switch), Ok(()));
     let play = |switch: &mut Switch| slots.each_ref().map(|arrivals| switch.slot(arrivals).unwrap());
     let first = play(&mut switch);

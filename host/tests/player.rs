@@ -460,7 +460,7 @@ fn random_and_damaged_texts() {
 fn dense_trace(r: &mut Random, slots: u64) -> Vec<u8> {
     let highest = [[[0; 8]; 16]; 16];
     let mut traffic = Traffic { ports: 16, outputs: 16, flows: 8, ranks: 0, load: 100, faults: 1, highest };
-    let (mut text, mut pifo, mut waiting) = (Vec::new(), Pifo::fresh(16, 0), 0);
+    let (mut text, mut pifo, mut waiting) = (Vec::new(), Pifo::fresh(16, 0, 0), 0);
     put(&mut text, "ports", 16);
     put(&mut text, "first", 0);
     for slot in 0..slots {

@@ -1,6 +1,6 @@
 //! Long random lists of slot calls on the proved switch, every byte of table, answer and tally compared with the reference
-//! after every call, and the PIFO switch beside them where the list began with a fresh switch. Then departures and
-//! occupancies worked out by hand, and what a refused slot keeps.
+//! after every call, and the PIFO switch beside them where the list began with a fresh switch. In half of the lists outputs are
+//! fair. Then departures and occupancies worked out by hand, and what a refused slot keeps.
 //!
 //! SLOTS=n and SEED=n in the environment run longer or another list.
 
@@ -11,7 +11,7 @@ mod traffic;
 use crossbar_host::{check_bytes, slot_bytes, start_bytes, ANSWER_BYTES, TABLE_BYTES, TALLY_BYTES};
 use random::{setting, Random};
 use reference::{raised, record_bytes, Answer, Crossbar, Pifo, Record, CLOCK_END};
-use traffic::{any_state, Traffic};
+use traffic::{any_state, marks, Traffic};
 
 /// One call on the proved switch and on the reference: results and every byte lent.
 fn call(r: &mut Random, table: &mut Vec<u8>, s: &mut Crossbar, records: &[Record], what: &str) -> Result<Answer, (u32, u32)> {
@@ -69,22 +69,27 @@ struct Switches {
 }
 
 impl Switches {
-    fn fresh(ports: u32, first: u32) -> Switches {
+    fn fresh(ports: u32, first: u32, fair: u32) -> Switches {
         let mut table = vec![0; TABLE_BYTES];
-        assert_eq!(start_bytes(ports, first, &mut table), 0);
-        let crossbar = Crossbar::fresh(ports, first);
+        assert_eq!(start_bytes(ports, first, fair, &mut table), 0);
+        let crossbar = Crossbar::fresh(ports, first, fair);
         assert!(table == crossbar.table());
-        Switches { table, crossbar, pifo: Pifo::fresh(ports, first) }
+        Switches { table, crossbar, pifo: Pifo::fresh(ports, first, fair) }
     }
 
-    /// One call on all three; where it is refused for the bytes lent, with 2 or 10, the PIFO switch has no part in it.
+    /// One call on all three; where it is refused for the bytes lent, with 2 or 10, the PIFO switch has no part in it. At a
+    /// fair output no rank falls (scope 15.4).
     fn call(&mut self, r: &mut Random, records: &[Record]) -> Result<Answer, (u32, u32)> {
         let got = call(r, &mut self.table, &mut self.crossbar, records, "fresh");
+        if let Err((7, place)) = got {
+            assert!(!self.crossbar.memory.is_fair(records[place as usize - 1][1]), "7 at a fair output");
+        }
         match &got {
             Ok(a) => assert_eq!(Ok(a.departures.clone()), self.pifo.slot(records), "the PIFO switch parts"),
             Err((2 | 10, _)) => (),
             Err(refused) => assert_eq!(Err(*refused), self.pifo.slot(records), "the PIFO switch parts"),
         }
+        assert!(self.crossbar.memory == self.pifo.memory, "the PIFO switch remembers otherwise");
         got
     }
 }
@@ -96,7 +101,7 @@ fn damaged(r: &mut Random, table: &[u8]) {
         0 => t.truncate(r.below(TABLE_BYTES as u64) as usize),
         1 => t.push(0),
         _ => {
-            t[r.pick(&[0usize, 1, 4, 5, 12, 13, 31, 35])] ^= 1 << r.below(8);
+            t[r.pick(&[0usize, 1, 4, 5, 8, 9, 16, 17, 35, 39, 16420, 16421, 16422, 16423])] ^= 1 << r.below(8);
         }
     }
     let sound = check_bytes(&t) == 0;
@@ -113,11 +118,11 @@ fn damaged(r: &mut Random, table: &[u8]) {
 fn from_a_fresh_switch() {
     let slots = setting("SLOTS", 500_000);
     let mut r = Random(setting("SEED", 1) * 2 + 88172645463325252);
-    let (mut done, mut proposals, mut refused, mut crowd) = (0, 0u64, [0u64; 11], 0);
+    let (mut done, mut proposals, mut refused, mut crowd) = (0, 0u64, [0u64; 16], 0);
     while done < slots {
         let ports = 1 + r.below(16) as u32;
         let first = r.pick(&[0, 1, 77, 4_000_000_000, CLOCK_END - 40, CLOCK_END]);
-        let mut switches = Switches::fresh(ports, first);
+        let mut switches = Switches::fresh(ports, first, marks(&mut r, ports));
         let mut traffic = Traffic::new(&mut r, ports);
         let length = r.pick(&[10, 100, 400]);
         for _ in 0..length {
@@ -141,7 +146,7 @@ fn from_a_fresh_switch() {
     }
     println!("fresh: {done} slots, {proposals} proposals, at most {crowd} cells before an output, refused {refused:?}");
     assert!(proposals > 0 && crowd == 16, "nothing was matched, or no output had all its crosspoints filled");
-    assert!((2..=10).filter(|&n| n != 9).all(|n| refused[n] > 0), "some refusal never came: {refused:?}");
+    assert!([2, 3, 4, 5, 6, 7, 8, 10, 14].iter().all(|&n| refused[n] > 0), "some refusal never came: {refused:?}");
 }
 
 /// Sixteen ports and one rank, so that slot and turn alone decide: forty slots with arrivals, then until no cell waits or
@@ -154,7 +159,7 @@ fn equal_ranks() {
     let mut done = 0;
     while done < slots {
         for first in [0, 7, 15, near_end] {
-            let mut switches = Switches::fresh(16, first);
+            let mut switches = Switches::fresh(16, first, 0);
             let mut traffic = Traffic::of_one_rank(&mut r, 16);
             let mut ended = false;
             while !ended {
@@ -176,7 +181,7 @@ fn equal_ranks() {
 fn from_any_sound_table() {
     let slots = setting("SLOTS", 500_000);
     let mut r = Random(setting("SEED", 1) * 2 + 1442695040888963407);
-    let (mut done, mut proposals, mut crowd) = (0, 0u64, 0);
+    let (mut done, mut proposals, mut refused, mut crowd) = (0, 0u64, [0u64; 16], 0);
     while done < slots {
         let ports = 1 + r.below(16) as u32;
         let most = r.pick(&[3, 10, 30, 64]);
@@ -186,15 +191,19 @@ fn from_any_sound_table() {
         let mut traffic = Traffic::new(&mut r, ports);
         for _ in 0..12 {
             let records = traffic.records(&mut r, &s);
-            if let Ok(a) = call(&mut r, &mut table, &mut s, &records, "any") {
-                proposals += (a.proposals[0] + a.proposals[1]) as u64;
-                crowd = a.occupancies.iter().flatten().copied().fold(crowd, u32::max);
+            match call(&mut r, &mut table, &mut s, &records, "any") {
+                Ok(a) => {
+                    proposals += (a.proposals[0] + a.proposals[1]) as u64;
+                    crowd = a.occupancies.iter().flatten().copied().fold(crowd, u32::max);
+                }
+                Err((n, _)) => refused[n as usize] += 1,
             }
             done += 1;
         }
     }
-    println!("any sound table: {done} slots, {proposals} proposals, at most {crowd} cells before an output");
+    println!("any sound table: {done} slots, {proposals} proposals, at most {crowd} cells before an output, {refused:?}");
     assert!(proposals > 0 && crowd == 16, "nothing was matched, or no output had all its crosspoints filled");
+    assert!([2, 3, 4, 5, 6, 7, 8, 10, 14, 15].iter().all(|&n| refused[n] > 0), "some refusal never came: {refused:?}");
 }
 
 /// Plays a slot on the table and gives its answer.
@@ -208,14 +217,14 @@ fn played(table: &mut [u8], records: &[Record]) -> [u8; ANSWER_BYTES] {
 /// slot, round by round, and a round is their inputs.
 fn leave_in_turn(ports: u32, first: u32, rounds: &[&[u32]]) {
     let mut table = vec![0; TABLE_BYTES];
-    assert_eq!(start_bytes(ports, first, &mut table), 0);
+    assert_eq!(start_bytes(ports, first, 0, &mut table), 0);
     let all: Vec<Record> = (0..ports).map(|input| [input, 0, 0, 4, 0]).collect();
     for (k, input) in rounds.concat().into_iter().enumerate() {
         let answer = played(&mut table, if k < rounds.len() { &all } else { &[] });
         let departure: Vec<u32> = answer[..28].chunks(4).map(|w| u32::from_le_bytes(w.try_into().unwrap())).collect();
         assert_eq!(departure, [1, input, 0, 0, 4, 0, first + k as u32 / ports], "departure {k} of {ports} ports from {first}");
     }
-    assert_eq!(table[16..32], [0; 16], "cells are left");
+    assert_eq!(table[20..36], [0; 16], "cells are left");
 }
 
 #[test]
@@ -251,13 +260,13 @@ fn occupancies_by_hand() {
     let mut table = vec![0; TABLE_BYTES];
 
     // The show of scope 9.3. In slot 1 rank 0 goes straight while rank 9 stays, so that none is read before phase two.
-    assert_eq!(start_bytes(3, 0, &mut table), 0);
+    assert_eq!(start_bytes(3, 0, 0, &mut table), 0);
     occupied(&mut table, &[[0, 0, 0, 9, 1], [1, 0, 0, 1, 2], [2, 0, 0, 2, 3]], &[(0, [3, 2])]);
     occupied(&mut table, &[[0, 0, 1, 0, 4]], &[(0, [1, 1])]);
     occupied(&mut table, &[], &[]);
 
     // All inputs send to one output, which then takes two cells a slot.
-    assert_eq!(start_bytes(16, 7, &mut table), 0);
+    assert_eq!(start_bytes(16, 7, 0, &mut table), 0);
     let all: Vec<Record> = (0..16).map(|input| [input, 15, 0, 0, 0]).collect();
     occupied(&mut table, &all, &[(15, [16, 15])]);
     for slot in 1..8 {
@@ -266,7 +275,7 @@ fn occupancies_by_hand() {
     occupied(&mut table, &[], &[]);
 
     // Each output has its own: three inputs send to output 3, input 1 and then input 0 to output 1.
-    assert_eq!(start_bytes(4, 0, &mut table), 0);
+    assert_eq!(start_bytes(4, 0, 0, &mut table), 0);
     let records = [[0, 3, 0, 5, 0], [1, 1, 0, 5, 0], [2, 3, 0, 5, 0], [3, 3, 0, 5, 0]];
     occupied(&mut table, &records, &[(1, [1, 0]), (3, [3, 2])]);
     occupied(&mut table, &[[0, 1, 0, 5, 0]], &[(1, [1, 0]), (3, [1, 0])]);
@@ -284,7 +293,7 @@ fn refused(table: &[u8], records: &[Record], answer_room: usize, number: u64, pl
 #[test]
 fn a_refused_slot_keeps_its_bytes() {
     let mut table = vec![0; TABLE_BYTES];
-    assert_eq!(start_bytes(3, CLOCK_END - 2, &mut table), 0);
+    assert_eq!(start_bytes(3, CLOCK_END - 2, 0, &mut table), 0);
     occupied(&mut table, &[[0, 0, 0, 9, 1], [1, 0, 0, 1, 2], [2, 0, 0, 2, 3]], &[(0, [3, 2])]);
     refused(&table, &[], ANSWER_BYTES - 1, 10, 0);
     refused(&table, &[], 456, 10, 0);
@@ -295,6 +304,6 @@ fn a_refused_slot_keeps_its_bytes() {
     refused(&table, &[[0, 0, 0, 8, 4]], ANSWER_BYTES, 7, 1);
     occupied(&mut table, &[[0, 0, 1, 0, 4]], &[(0, [1, 1])]);
     refused(&table, &[], ANSWER_BYTES, 3, 0);
-    table[12] = 1;
+    table[16] = 1;
     refused(&table, &[], ANSWER_BYTES, 2, 0);
 }

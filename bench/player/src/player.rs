@@ -2,18 +2,18 @@
 
 mod play;
 
-use plain_switch::{start, trusted_slot, ANSWER_BYTES, DEPARTURE_BYTES, PORTS, TABLE_BYTES, TALLY_BYTES};
+use plain_switch::{start_cells, trusted_slot, Table, ANSWER_BYTES, CELL_TABLE_BYTES, DEPARTURE_BYTES, PORTS, TALLY_BYTES};
 
 struct Crossbar {
-    table: [u8; TABLE_BYTES],
+    table: Table,
     answer: [u8; ANSWER_BYTES],
     tally: [u8; TALLY_BYTES],
 }
 
 impl play::Switch for Crossbar {
     fn fresh(ports: u32, first: u32) -> Option<Crossbar> {
-        let mut table = [0; TABLE_BYTES];
-        let done = start(ports, first, &mut table) == 0;
+        let mut table = [0; CELL_TABLE_BYTES];
+        let done = start_cells(ports, first, &mut table) == 0;
         done.then_some(Crossbar { table, answer: [0; ANSWER_BYTES], tally: [0; TALLY_BYTES] })
     }
 

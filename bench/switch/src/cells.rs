@@ -41,12 +41,13 @@ impl Turn {
     }
 }
 
-/// A new cell joins its input's section as this entry, in this place.
-pub fn write_cell(table: &mut Table, entry: usize, r: &Arrival, place: u8) {
+/// A new cell of this rank joins its input's section as this entry, in this place.
+pub fn write_cell(table: &mut Table, entry: usize, r: &Arrival, rank: u32, place: u8) {
     let (from, slot) = (offset(entry), clock(table).to_le_bytes());
     let e = &mut table[from..from + RECORD_BYTES];
     e[..4].copy_from_slice(&[r[4], r[8], place, 0]);
-    e[4..12].copy_from_slice(&r[12..20]);
+    e[4..8].copy_from_slice(&rank.to_le_bytes());
+    e[8..12].copy_from_slice(&r[16..20]);
     e[12..].copy_from_slice(&slot);
     table[16 + entry / CELLS] += 1;
 }

@@ -58,12 +58,12 @@ impl<'a> Fabric<'a> {
     }
 
     /// A new cell joins its input's section, at the front or right after the last cell of its flow in the list.
-    pub fn arrive(&mut self, r: &Arrival, at: usize) {
+    pub fn arrive(&mut self, r: &Arrival, rank: u32, at: usize) {
         let input = r[0] as usize % PORTS;
         let from = offset(CELLS * input + at);
         let end = offset(CELLS * input) + RECORD_BYTES * count(self.table, input);
         self.table.copy_within(from..end, from + RECORD_BYTES);
-        cells::write_cell(self.table, CELLS * input + at, r, LISTED);
+        cells::write_cell(self.table, CELLS * input + at, r, rank, LISTED);
         self.rows[input].open(at);
     }
 

@@ -7,7 +7,7 @@
 //!
 //! Or they starve: a cell goes to any output, and its rank is its flow number, so that cells of the last flows wait for
 //! hundreds of slots while others come. Or they tie: a cell goes to any output, and every rank is 0, so that the turn
-//! decides among cells of one slot.
+//! decides among cells of one slot. Or every output is fair, and a flow has the weight of its number.
 
 use crate::table::{clock, count, Table, CELLS, PORTS};
 
@@ -18,7 +18,9 @@ pub struct Load {
     most: usize,
     burst: u32,
     any_output: bool,
-    /// A cell's rank by the clock and its flow number.
+    /// The marks of the outputs.
+    pub fair: u32,
+    /// A cell's rank, or its weight, by the clock and its flow number.
     rank: fn(u32, u32) -> u32,
     random: Random,
 }
@@ -29,7 +31,7 @@ impl Load {
         let burst = (cells as u32 / 5).max(2);
         let most = (cells + cells / 16 + 1).min(CELLS);
         let rank = |clock, flow| clock + DELAY * flow;
-        Load { most, burst, any_output: false, rank, random: Random(88172645463325252) }
+        Load { most, burst, any_output: false, fair: 0, rank, random: Random(88172645463325252) }
     }
 
     pub fn starving(cells: usize) -> Load {
@@ -38,6 +40,11 @@ impl Load {
 
     pub fn ties(cells: usize) -> Load {
         Load { any_output: true, rank: |_, _| 0, ..Load::new(cells) }
+    }
+
+    /// Weights are 64 to 960, so that no list gets to the end of ranks.
+    pub fn fair(cells: usize) -> Load {
+        Load { fair: (1 << PORTS) - 1, rank: |_, flow| 64 + 128 * flow, ..Load::new(cells) }
     }
 
     /// The arrivals of the next slot: a cell of every input that has room, one in ten (or each) to any output.

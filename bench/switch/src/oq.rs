@@ -2,34 +2,27 @@
 //! cells join, a second pass finds the best cell of each output, and these depart.
 
 use crate::cells::{depart, offer, write_cell, Best, Turn, NONE};
+use crate::fair::{framed, framed_mut, marks, remember, start_framed, TABLE_BYTES};
 use crate::table::{
     self, all_zero, clock, count, entries, output, ports, section, share_slot, slot, word, Record, Table, BUFFERED, CELLS,
-    PORTS, TABLE_BYTES, UNUSED_BITS,
+    PORTS, UNUSED_BITS,
 };
-use crate::{accept, counted, start, Arrival, Refused, BAD_SIZE, BROKEN_TABLE, CLOCK_END, DEPARTURE_BYTES, SHORT_BUFFER};
+use crate::{accept, counted, Accepted, Arrival, Refused, BROKEN_TABLE, CLOCK_END, DEPARTURE_BYTES, SHORT_BUFFER};
 
-const NUMBER: [u8; 4] = 101u32.to_le_bytes();
+const NUMBER: u32 = 102;
 
-pub const OQ_TABLE_BYTES: usize = NUMBER.len() + TABLE_BYTES;
+pub const OQ_TABLE_BYTES: usize = TABLE_BYTES;
 pub const OQ_ANSWER_BYTES: usize = PORTS * DEPARTURE_BYTES;
 
-/// Writes the table of a fresh switch into the first bytes of the buffer: 0, or the refusal.
-pub fn oq_start(ports: u32, first: u32, buffer: &mut [u8]) -> u32 {
-    if ports == 0 || ports as usize > PORTS {
-        return BAD_SIZE;
-    }
-    let Some(table) = buffer.first_chunk_mut::<OQ_TABLE_BYTES>() else {
-        return SHORT_BUFFER;
-    };
-    let (number, table) = table.split_at_mut(NUMBER.len());
-    number.copy_from_slice(&NUMBER);
-    start(ports, first, table)
+/// Writes the table of a fresh switch with these fair outputs into the first bytes of the buffer: 0, or the refusal.
+pub fn oq_start(ports: u32, first: u32, fair: u32, buffer: &mut [u8]) -> u32 {
+    start_framed(NUMBER, ports, first, fair, buffer)
 }
 
 /// 0 for the table of a sound state, 2 for any other bytes.
 pub fn oq_check(table: &[u8]) -> u32 {
-    match table.strip_prefix(&NUMBER).and_then(|table| table.try_into().ok()) {
-        Some(table) if sound(table) => 0,
+    match framed(NUMBER, table) {
+        Some((cells, _)) if sound(cells) => 0,
         _ => BROKEN_TABLE,
     }
 }
@@ -41,11 +34,11 @@ pub fn oq_slot(table: &mut [u8], arrivals: &[u8], answer: &mut [u8], tally: &mut
 
 /// Runs one slot on table and answer: the numbers of cells in and out. A refusal changes nothing.
 fn run(table: &mut [u8], arrivals: &[u8], answer: &mut [u8]) -> Result<(u64, u64), Refused> {
-    let (number, table) = table.split_at_mut_checked(NUMBER.len()).ok_or((BROKEN_TABLE, 0))?;
-    let table: &mut Table = table.try_into().or(Err((BROKEN_TABLE, 0)))?;
-    if number != NUMBER || !sound(table) {
+    let (table, memory) = framed_mut(NUMBER, table).ok_or((BROKEN_TABLE, 0))?;
+    if !sound(table) {
         return Err((BROKEN_TABLE, 0));
     }
+    let memory = (marks(memory) != 0).then_some(memory);
     let (records, []) = arrivals.as_chunks() else {
         return Err((BROKEN_TABLE, 0));
     };
@@ -53,18 +46,22 @@ fn run(table: &mut [u8], arrivals: &[u8], answer: &mut [u8]) -> Result<(u64, u64
     if clock(table) == u32::MAX {
         return Err((CLOCK_END, 0));
     }
-    let positions = accept(table, records, |input, r| position(table, input, r))?;
-    for (r, at) in records.iter().zip(positions) {
-        write_cell(table, CELLS * (r[0] as usize % PORTS) + at, r, BUFFERED);
+    let position = |input: usize, r: &Arrival, rank| position(table, input, r, rank);
+    let Accepted { ranks, positions } = accept(table, memory.as_deref(), records, position)?;
+    for ((r, rank), at) in records.iter().zip(ranks).zip(positions) {
+        write_cell(table, CELLS * (r[0] as usize % PORTS) + at, r, rank, BUFFERED);
     }
     answer.fill(0);
     let departed = depart(table, &best(table), answer.as_chunks_mut().0);
+    if let Some(memory) = memory {
+        remember(memory, records, &ranks, answer.as_chunks().0);
+    }
     Ok((records.len() as u64, departed))
 }
 
 /// Behind the last cell of the section; none if a cell of the record's flow has a higher rank.
-fn position(table: &Table, input: usize, r: &Arrival) -> Option<usize> {
-    let (flow, rank) = (u16::from_le_bytes([r[4], r[8]]), word(r, 12));
+fn position(table: &Table, input: usize, r: &Arrival, rank: u32) -> Option<usize> {
+    let flow = u16::from_le_bytes([r[4], r[8]]);
     let higher = |e: &Record| (table::flow(e) == flow) & (table::rank(e) > rank);
     let falls = entries(table, input).iter().fold(false, |falls, e| falls | higher(e));
     (!falls).then_some(count(table, input))

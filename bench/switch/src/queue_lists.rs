@@ -38,7 +38,7 @@ fn random_lists() {
     while done < slots {
         let ports = 1 + r.below(16) as u32;
         let first = r.pick(&[0, 1, 77, 4_000_000_000, CLOCK_END - 40, CLOCK_END]);
-        let (mut queues, mut pifo) = (Queues::fresh(ports, first).unwrap(), Pifo::fresh(ports, first));
+        let (mut queues, mut pifo) = (Queues::fresh(ports, first).unwrap(), Pifo::fresh(ports, first, 0));
         let mut traffic = Traffic::new(&mut r, ports);
         let length = r.pick(&[10, 100, 400]);
         for _ in 0..length {

@@ -8,7 +8,7 @@
 mod proved;
 
 use plain_switch::load::{Load, Random};
-use plain_switch::{ANSWER_BYTES, ARRIVAL_BYTES, DEPARTURE_BYTES, PORTS, TABLE_BYTES, TALLY_BYTES};
+use plain_switch::{Table, ANSWER_BYTES, ARRIVAL_BYTES, DEPARTURE_BYTES, PORTS, TABLE_BYTES, TALLY_BYTES};
 use plain_switch::{OQ_ANSWER_BYTES, OQ_TABLE_BYTES};
 use std::hint::black_box;
 use std::ops::Range;
@@ -26,7 +26,7 @@ type Check = fn(&[u8]) -> u32;
 
 /// The calls of a switch, the proved ones and the plain ones, and its sizes.
 struct Engine {
-    start: fn(u32, u32, &mut [u8]) -> u32,
+    start: fn(u32, u32, u32, &mut [u8]) -> u32,
     slot: [Slot; 2],
     check: [Check; 2],
     table_bytes: usize,
@@ -66,9 +66,9 @@ impl Lent {
         slot(&mut self.table, arrivals, &mut self.answer, &mut self.tally)
     }
 
-    /// The bytes that are laid out alike in both tables.
-    fn shared(&self) -> &[u8; TABLE_BYTES] {
-        self.table.last_chunk().unwrap()
+    /// The cells, behind the number of the layout.
+    fn shared(&self) -> &Table {
+        self.table[4..].first_chunk().unwrap()
     }
 
     fn cells(&self) -> usize {
@@ -93,7 +93,7 @@ struct List {
 impl List {
     fn new(engine: &'static Engine, mut load: Load) -> List {
         let mut lent = Lent::new(engine, &vec![0; engine.table_bytes]);
-        assert_eq!((engine.start)(PORTS as u32, 0, &mut lent.table), 0);
+        assert_eq!((engine.start)(PORTS as u32, 0, load.fair, &mut lent.table), 0);
         let mut next = |lent: &mut Lent| {
             let arrivals = load.arrivals(lent.shared());
             assert_eq!(lent.call(engine.slot[1], &arrivals), 0);
@@ -291,11 +291,13 @@ fn main() {
     let mut measured = LOADS.map(|cells| Both::new(|| Load::new(cells)));
     let mut starving = Both::new(|| Load::starving(LOADS[LOADS.len() - 1]));
     let mut ties = Both::new(|| Load::ties(LOADS[LOADS.len() / 2]));
+    let mut fair = LOADS.map(|cells| Both::new(|| Load::fair(cells)));
     // Round by round, so that a slow spell of the machine spoils no line.
     for round in 0..ROUNDS {
         measured.iter_mut().for_each(|m| m.measure(round));
         starving.measure(round);
         ties.measure(round);
+        fair.iter_mut().for_each(|m| m.measure(round));
     }
     let crossbar = || measured.iter().map(|m| &m.crossbar);
     let oq = || measured.iter().map(|m| &m.oq);
@@ -314,6 +316,8 @@ fn main() {
     println!("# Both where all ranks are equal: slots and turns alone decide.");
     ties.crossbar.print_slot("ties slot");
     ties.crossbar.print_check("ties check");
+    println!("# A slot where every output is fair: ranks are made of weights.");
+    fair.iter().for_each(|m| m.crossbar.print_slot("fair slot"));
     println!("# The output-queued switch on the same lists; beside it the proved crossbar, and the ratio to that.");
     println!("#\tload\tproved\tplain\tratio\tcrossbar\tratio");
     measured.iter().for_each(|m| m.print_oq("oq slot", |m| &m.slot));
@@ -324,4 +328,5 @@ fn main() {
     starving.print_oq("starving oq check", |m| &m.check);
     ties.print_oq("ties oq slot", |m| &m.slot);
     ties.print_oq("ties oq check", |m| &m.check);
+    fair.iter().for_each(|m| m.print_oq("fair oq slot", |m| &m.slot));
 }

@@ -2,8 +2,8 @@
 //! tables.
 
 use crate::load::{Load, Random};
-use crate::table::{word, Table, RECORD_BYTES, TABLE_BYTES};
-use crate::{check, oq_check, slot, start, ANSWER_BYTES, TALLY_BYTES};
+use crate::table::{word, Table, CELL_TABLE_BYTES, RECORD_BYTES};
+use crate::{check, oq_check, start_cells, trusted_slot, ANSWER_BYTES, TABLE_BYTES, TALLY_BYTES};
 
 struct Entry {
     output: u8,
@@ -65,23 +65,35 @@ fn records(t: &Table) -> impl Iterator<Item = usize> {
     (0..16).flat_map(move |input| (0..counts[input].min(64) as usize).map(move |at| 32 + 1024 * input + RECORD_BYTES * at))
 }
 
-/// Whether the table is sound, by both. With a number before it, it is one of the output-queued switch if all cells are in
-/// buffers; so is it once they all are.
+/// A table with this number, these cells, and this memory, filled up.
+fn framed(number: u8, cells: &Table, memory: &[u8]) -> Vec<u8> {
+    let mut table = [&[number, 0, 0, 0], &cells[..], memory].concat();
+    table.resize(TABLE_BYTES, 9);
+    table
+}
+
+/// Whether the cells are sound, by both. They are those of the output-queued switch if all are in buffers; so are they once
+/// they all are. No mark may be at an output that the switch does not have.
 fn agreed(t: &Table) -> bool {
     let sound = |t: &Table| if sound(t) { 0 } else { 2 };
-    let numbered = |number: u8, t: &Table| oq_check(&[&[number, 0, 0, 0], &t[..]].concat());
-    assert_eq!(check(t), sound(t));
-    assert_eq!(numbered(101, t), if records(t).all(|at| t[at + 2] == 3) { sound(t) } else { 2 });
+    let marked = |marks: u32| framed(2, t, &marks.to_le_bytes());
+    let numbered = |number: u8, t: &Table| oq_check(&framed(number, t, &[0; 4]));
+    assert_eq!(check(&marked(0)), sound(t));
+    for bit in 0..32 {
+        assert_eq!(check(&marked(1 << bit)), if bit < word(t, 4) { sound(t) } else { 2 });
+    }
+    assert_eq!(check(&framed(1, t, &[0; 4])), 2);
+    assert_eq!(numbered(102, t), if records(t).all(|at| t[at + 2] == 3) { sound(t) } else { 2 });
     let mut buffered = *t;
     records(t).for_each(|at| buffered[at + 2] = 3);
-    assert_eq!(numbered(101, &buffered), sound(&buffered));
-    assert_eq!(numbered(1, &buffered), 2);
-    check(t) == 0
+    assert_eq!(numbered(102, &buffered), sound(&buffered));
+    assert_eq!(numbered(2, &buffered), 2);
+    check(&marked(0)) == 0
 }
 
 /// A few entries with few values, so that every rule is kept often and broken often.
 fn small_table(r: &mut Random) -> Table {
-    let mut t = [0; TABLE_BYTES];
+    let mut t = [0; CELL_TABLE_BYTES];
     t[0] = 1;
     t[4] = 1 + r.below(3) as u8;
     t[8] = 6;
@@ -101,12 +113,12 @@ fn small_table(r: &mut Random) -> Table {
 
 /// A table under load.
 fn loaded_table(cells: usize) -> Table {
-    let mut t = [0; TABLE_BYTES];
-    start(16, 4_000_000_000, &mut t);
+    let mut t = [0; CELL_TABLE_BYTES];
+    start_cells(16, 4_000_000_000, &mut t);
     let mut load = Load::new(cells);
     for _ in 0..500 {
         let arrivals = load.arrivals(&t);
-        assert_eq!(slot(&mut t, &arrivals, &mut [0; ANSWER_BYTES], &mut [0; TALLY_BYTES]), 0);
+        assert_eq!(trusted_slot(&mut t, &arrivals, &mut [0; ANSWER_BYTES], &mut [0; TALLY_BYTES]), 0);
     }
     t
 }
@@ -114,7 +126,7 @@ fn loaded_table(cells: usize) -> Table {
 /// Gives a byte another value, or copies some bytes of an entry to another entry of its input.
 fn change(r: &mut Random, t: &mut Table) {
     if r.below(2) == 0 {
-        let at = if r.below(3) == 0 { r.below(32) } else { r.below(TABLE_BYTES as u32) } as usize;
+        let at = if r.below(3) == 0 { r.below(32) } else { r.below(CELL_TABLE_BYTES as u32) } as usize;
         let byte = t[at];
         t[at] = [0, 1, 2, 3, 16, 65, byte.wrapping_add(1), byte.wrapping_sub(1), byte ^ 128][r.below(9) as usize];
     } else {
@@ -152,11 +164,12 @@ fn changed_tables() {
 
 #[test]
 fn other_lengths() {
-    let mut t = [0; TABLE_BYTES + 1];
-    start(16, 0, &mut t);
-    for bytes in [0, 1, 32, TABLE_BYTES - 1, TABLE_BYTES, TABLE_BYTES + 1] {
-        assert_eq!(check(&t[..bytes]), if bytes == TABLE_BYTES { 0 } else { 2 });
-        let numbered = [&[101, 0, 0, 0], &t[..bytes]].concat();
-        assert_eq!(oq_check(&numbered), if bytes == TABLE_BYTES { 0 } else { 2 });
+    let mut cells = [0; CELL_TABLE_BYTES];
+    start_cells(16, 0, &mut cells);
+    for (number, check) in [(2, check as fn(&[u8]) -> u32), (102, oq_check)] {
+        let table = [framed(number, &cells, &[0; 4]), vec![0]].concat();
+        for bytes in [0, 1, 32, CELL_TABLE_BYTES, TABLE_BYTES - 1, TABLE_BYTES, TABLE_BYTES + 1] {
+            assert_eq!(check(&table[..bytes]), if bytes == TABLE_BYTES { 0 } else { 2 });
+        }
     }
 }

@@ -1,4 +1,4 @@
-//! The table's bytes, by docs/LAYOUT.md: how to read them, and the pass that tells whether they are sound and where
+//! The bytes of a table's cells, by docs/LAYOUT.md: how to read them, and the pass that tells whether they are sound and where
 //! each cell waits.
 
 pub const PORTS: usize = 16;
@@ -6,11 +6,11 @@ pub const CELLS: usize = 64;
 pub const ENTRIES: usize = PORTS * CELLS;
 const FLOWS: usize = 8;
 pub const RECORD_BYTES: usize = 16;
-pub const TABLE_BYTES: usize = HEADER_BYTES + ENTRIES * RECORD_BYTES;
+pub const CELL_TABLE_BYTES: usize = HEADER_BYTES + ENTRIES * RECORD_BYTES;
 
 const HEADER_BYTES: usize = 32;
 
-pub type Table = [u8; TABLE_BYTES];
+pub type Table = [u8; CELL_TABLE_BYTES];
 pub type Record = [u8; RECORD_BYTES];
 
 pub const LISTED: u8 = 1;

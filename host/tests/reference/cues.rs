@@ -1,7 +1,7 @@
 //! Cues, by docs/SCOPE.md 13: a plain list of four places, each free or with a name and a whole switch. One text for the
 //! crossbar and the PIFO switch, each of which keeps cues of its own.
 
-use super::{Cell, Crossbar, Fault, Pifo, Record};
+use super::{Cell, Crossbar, Fault, Memory, Pifo, Record};
 
 /// A name is 1 to 8 lower-case letters (scope 13.1).
 pub fn is_name(name: &[u8]) -> bool {
@@ -10,14 +10,15 @@ pub fn is_name(name: &[u8]) -> bool {
 
 /// What a cue can hold.
 pub trait Switch: Clone {
-    fn fresh(ports: u32, first: u32) -> Self;
+    fn fresh(ports: u32, first: u32, fair: u32) -> Self;
     fn departures(&mut self, records: &[Record]) -> Result<Vec<Option<Cell>>, (u32, u32)>;
     fn clock(&mut self) -> &mut u32;
+    fn memory(&mut self) -> &mut Memory;
 }
 
 impl Switch for Crossbar {
-    fn fresh(ports: u32, first: u32) -> Crossbar {
-        Crossbar::fresh(ports, first)
+    fn fresh(ports: u32, first: u32, fair: u32) -> Crossbar {
+        Crossbar::fresh(ports, first, fair)
     }
 
     fn departures(&mut self, records: &[Record]) -> Result<Vec<Option<Cell>>, (u32, u32)> {
@@ -27,11 +28,15 @@ impl Switch for Crossbar {
     fn clock(&mut self) -> &mut u32 {
         &mut self.clock
     }
+
+    fn memory(&mut self) -> &mut Memory {
+        &mut self.memory
+    }
 }
 
 impl Switch for Pifo {
-    fn fresh(ports: u32, first: u32) -> Pifo {
-        Pifo::fresh(ports, first)
+    fn fresh(ports: u32, first: u32, fair: u32) -> Pifo {
+        Pifo::fresh(ports, first, fair)
     }
 
     fn departures(&mut self, records: &[Record]) -> Result<Vec<Option<Cell>>, (u32, u32)> {
@@ -40,6 +45,10 @@ impl Switch for Pifo {
 
     fn clock(&mut self) -> &mut u32 {
         &mut self.clock
+    }
+
+    fn memory(&mut self) -> &mut Memory {
+        &mut self.memory
     }
 }
 
@@ -113,12 +122,15 @@ impl<S: Switch> Cues<S> {
         let Some(place) = self.held(name) else {
             return 13;
         };
-        let clock = *switch.clock();
+        let (clock, memory) = (*switch.clock(), switch.memory().clone());
         if !self.has(Fault::PifoKeptOnReturn) {
             *switch = self.places[place].clone().unwrap().1;
         }
         if self.has(Fault::ClockKeptOnReturn) {
             *switch.clock() = clock;
+        }
+        if self.has(Fault::MemoryKeptOnReturn) {
+            *switch.memory() = memory;
         }
         if self.has(Fault::ReturnDropsTheCue) {
             self.places[place] = None;
@@ -130,9 +142,9 @@ impl<S: Switch> Cues<S> {
 impl Cues<Crossbar> {
     /// The store's bytes, by docs/LAYOUT.md.
     pub fn store(&self) -> Vec<u8> {
-        let mut store = vec![0; 65712];
-        store[0] = 1;
-        for (place, cue) in store[16..].chunks_mut(16424).zip(&self.places) {
+        let mut store = vec![0; 98768];
+        store[0] = 2;
+        for (place, cue) in store[16..].chunks_mut(24688).zip(&self.places) {
             if let Some((name, switch)) = cue {
                 place[..name.len()].copy_from_slice(name);
                 place[8..].copy_from_slice(&switch.table());
@@ -142,11 +154,11 @@ impl Cues<Crossbar> {
     }
 }
 
-/// A call of a rehearsal: a fresh switch of so many ports and with this first slot, a slot, or a cue set, dropped or
-/// returned to.
+/// A call of a rehearsal: a fresh switch of so many ports, with this first slot and these outputs fair, a slot, or a cue
+/// set, dropped or returned to.
 #[derive(Clone, Debug)]
 pub enum Call {
-    Start(u32, u32),
+    Start(u32, u32, u32),
     Slot(Vec<Record>),
     Set(Vec<u8>),
     Drop(Vec<u8>),
@@ -161,8 +173,8 @@ pub struct Rehearsal<S> {
 }
 
 impl<S: Switch> Rehearsal<S> {
-    pub fn fresh(ports: u32, first: u32) -> Rehearsal<S> {
-        Rehearsal { switch: S::fresh(ports, first), cues: Cues::none() }
+    pub fn fresh(ports: u32, first: u32, fair: u32) -> Rehearsal<S> {
+        Rehearsal { switch: S::fresh(ports, first, fair), cues: Cues::none() }
     }
 
     pub fn with_fault(mut self, fault: Fault) -> Rehearsal<S> {
@@ -174,8 +186,8 @@ impl<S: Switch> Rehearsal<S> {
     pub fn call(&mut self, call: &Call) -> Result<Vec<Option<Cell>>, (u32, u32)> {
         let refused = match call {
             Call::Slot(records) => return self.switch.departures(records),
-            Call::Start(ports, first) => {
-                self.switch = S::fresh(*ports, *first);
+            Call::Start(ports, first, fair) => {
+                self.switch = S::fresh(*ports, *first, *fair);
                 0
             }
             Call::Set(name) => self.cues.set(name, &self.switch),

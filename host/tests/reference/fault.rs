@@ -68,4 +68,18 @@ pub enum Fault {
     ClockKeptOnReturn,
     /// 13.9: the PIFO switch is not brought back.
     PifoKeptOnReturn,
+    /// 13.5, 15.3: a return keeps the ranks that the switch remembers.
+    MemoryKeptOnReturn,
+    /// 15.2: a rank is made from the last one that left alone.
+    GivenRankForgotten,
+    /// 15.2: a rank is made from the last one given to the flow alone.
+    LeftRankForgotten,
+    /// 15.2: the stride is rounded up.
+    StrideRoundedUp,
+    /// 15.3: a pair of ports has one rank given for all its flows.
+    OneMemoryPerPairOfPorts,
+    /// 15.3: the records before the one at fault are remembered.
+    RefusedSlotRemembers,
+    /// 15.4: at a fair output 7 goes by the weight.
+    FallingRankByWeight,
 }

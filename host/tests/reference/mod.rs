@@ -1,15 +1,17 @@
-//! A crossbar and a PIFO switch written from docs/SCOPE.md alone, clear rather than clever. They share the cell, its order
-//! and the checks of a record, as the scope says, and nothing with the proved code. `player` plays a trace on either, and
+//! A crossbar and a PIFO switch written from docs/SCOPE.md alone, clear rather than clever. They share the cell, its order,
+//! the checks of a record and how a rank is made, as the scope says, and nothing with the proved code. `player` plays a trace on either, and
 //! either keeps cues. `oq` is the PIFO switch on the sections of a table. Each can be given one wrong rule, so that a test
 //! can show that it is noticed.
 #![allow(dead_code)] // each test uses a part of it
 
 pub mod cues;
 mod fault;
+pub mod memory;
 pub mod oq;
 pub mod player;
 
 pub use fault::Fault;
+pub use memory::Memory;
 
 #[derive(Clone, Copy, Debug, PartialEq, Eq)]
 pub struct Cell {
@@ -51,29 +53,34 @@ pub struct Entry {
 
 pub const CLOCK_END: u32 = u32::MAX;
 
-/// The first refusal of the records 4 to 8 and the record's place, with the cells that wait before the slot.
-fn fault(ports: u32, waiting: &[Cell], records: &[Record]) -> Option<(u32, u32)> {
+/// The records with the ranks of their cells, or the first refusal and the record's place: 4, 5, 6, then 14 and 15, then 7
+/// and 8, with the cells that wait before the slot and the ranks remembered then.
+fn made(ports: u32, waiting: &[Cell], memory: &Memory, records: &[Record]) -> Result<Vec<Record>, (u32, u32)> {
     let mut before: Option<u32> = None;
-    for (k, &[input, output, flow, rank, _]) in records.iter().enumerate() {
-        let place = k as u32 + 1;
+    let mut out = Vec::new();
+    for (k, record) in records.iter().enumerate() {
+        let (place, &[input, output, flow, weight, _]) = (k as u32 + 1, record);
         if input >= ports || output >= ports {
-            return Some((4, place));
+            return Err((4, place));
         }
         if flow > 7 {
-            return Some((5, place));
+            return Err((5, place));
         }
         if before.is_some_and(|b| input <= b) {
-            return Some((6, place));
+            return Err((6, place));
         }
+        let cell = memory.made(record).map_err(|n| (n, place))?;
+        let rank = if memory.fault == Some(Fault::FallingRankByWeight) { weight } else { cell[3] };
         if waiting.iter().any(|c| c.flow_of() == (input, output, flow) && c.rank > rank) {
-            return Some((7, place));
+            return Err((7, place));
         }
         if waiting.iter().filter(|c| c.input == input).count() >= 64 {
-            return Some((8, place));
+            return Err((8, place));
         }
         before = Some(input);
+        out.push(cell);
     }
-    None
+    Ok(out)
 }
 
 fn accepted(record: &Record, slot: u32) -> Cell {
@@ -81,11 +88,12 @@ fn accepted(record: &Record, slot: u32) -> Cell {
     Cell { input, output, flow, rank, tag, slot }
 }
 
-/// What arrivals are drawn by: the size of a switch, its clock, and the cells that wait in it.
+/// What arrivals are drawn by: the size of a switch, its clock, the cells that wait in it, and which outputs are fair.
 pub trait Waiting {
     fn ports(&self) -> u32;
     fn clock(&self) -> u32;
     fn cells(&self) -> Vec<Cell>;
+    fn memory(&self) -> &Memory;
 }
 
 /// What departs in a slot, or the number of the refusal and the record's place.
@@ -104,8 +112,8 @@ pub fn departure_bytes(departures: &[Option<Cell>]) -> Vec<u8> {
     out
 }
 
-/// A table's bytes, by docs/LAYOUT.md.
-fn table_bytes(ports: u32, clock: u32, sections: &[Vec<Entry>]) -> Vec<u8> {
+/// The bytes of a table of the older layout, by docs/LAYOUT.md.
+fn older_table_bytes(ports: u32, clock: u32, sections: &[Vec<Entry>]) -> Vec<u8> {
     let mut t = vec![0; 16416];
     t[0] = 1;
     t[4..8].copy_from_slice(&ports.to_le_bytes());
@@ -125,11 +133,16 @@ fn table_bytes(ports: u32, clock: u32, sections: &[Vec<Entry>]) -> Vec<u8> {
     t
 }
 
-/// The bytes of an output-queued switch's table, by docs/LAYOUT.md: a number of its own, and every cell in a buffer.
-fn oq_table_bytes(ports: u32, clock: u32, sections: &[Vec<Cell>]) -> Vec<u8> {
+/// The bytes of a table, by docs/LAYOUT.md: the number of its layout, the cells as the older layout has them, the memory.
+fn table_bytes(number: u32, older: Vec<u8>, memory: &Memory) -> Vec<u8> {
+    [number.to_le_bytes().to_vec(), older, memory.bytes()].concat()
+}
+
+/// The bytes of an output-queued switch's table: a number of its own, and every cell in a buffer.
+fn oq_table_bytes(ports: u32, clock: u32, sections: &[Vec<Cell>], memory: &Memory) -> Vec<u8> {
     let buffered = |cells: &Vec<Cell>| cells.iter().map(|&cell| Entry { cell, place: Place::Buffer }).collect();
     let entries: Vec<Vec<Entry>> = sections.iter().map(buffered).collect();
-    [101u32.to_le_bytes().to_vec(), table_bytes(ports, clock, &entries)].concat()
+    table_bytes(102, older_table_bytes(ports, clock, &entries), memory)
 }
 
 /// Proposals and occupancies are those of the first phase and of the second.
@@ -175,6 +188,7 @@ pub struct Crossbar {
     pub ports: u32,
     pub clock: u32,
     pub sections: Vec<Vec<Entry>>,
+    pub memory: Memory,
     fault: Option<Fault>,
 }
 
@@ -188,12 +202,16 @@ struct Choice {
 type Matching = Vec<Option<(usize, usize)>>;
 
 impl Crossbar {
-    pub fn fresh(ports: u32, first: u32) -> Crossbar {
-        Crossbar { ports, clock: first, sections: vec![Vec::new(); ports as usize], fault: None }
+    /// Fresh, with the outputs fair whose bits are set.
+    pub fn fresh(ports: u32, first: u32, fair: u32) -> Crossbar {
+        let sections = vec![Vec::new(); ports as usize];
+        Crossbar { ports, clock: first, sections, memory: Memory::marked(fair), fault: None }
     }
 
-    pub fn with_fault(self, fault: Fault) -> Crossbar {
-        Crossbar { fault: Some(fault), ..self }
+    pub fn with_fault(mut self, fault: Fault) -> Crossbar {
+        self.fault = Some(fault);
+        self.memory.fault = Some(fault);
+        self
     }
 
     fn has(&self, fault: Fault) -> bool {
@@ -230,16 +248,22 @@ impl Crossbar {
         if self.clock == CLOCK_END {
             return Err((3, 0));
         }
-        if let Some(f) = fault(self.ports, &self.checked(), records) {
-            return Err(f);
-        }
-        for r in records {
+        let records = made(self.ports, &self.checked(), &self.memory, records).map_err(|(n, place)| {
+            if self.has(Fault::RefusedSlotRemembers) {
+                let before = made(self.ports, &[], &self.memory, &records[..place as usize - 1]).unwrap();
+                self.memory.gives(&before);
+            }
+            (n, place)
+        })?;
+        for r in &records {
             self.arrive(accepted(r, self.clock));
         }
         let first = self.phase();
         let second = if self.has(Fault::PhaseTwoLeftOut) { (0, self.filled()) } else { self.phase() };
-        let departures = (0..self.ports).map(|o| self.depart(o)).collect();
+        let departures: Vec<Option<Cell>> = (0..self.ports).map(|o| self.depart(o)).collect();
         self.clock += 1;
+        self.memory.gives(&records);
+        self.memory.leave(&departures);
         Ok(Answer { departures, proposals: [first.0, second.0], occupancies: [first.1, second.1] })
     }
 
@@ -427,9 +451,14 @@ impl Crossbar {
         Some(best)
     }
 
+    /// The bytes of its cells alone, as the older layout has them.
+    pub fn older_table(&self) -> Vec<u8> {
+        older_table_bytes(self.ports, self.clock, &self.sections)
+    }
+
     /// The table's bytes, by docs/LAYOUT.md.
     pub fn table(&self) -> Vec<u8> {
-        table_bytes(self.ports, self.clock, &self.sections)
+        table_bytes(2, self.older_table(), &self.memory)
     }
 }
 
@@ -445,6 +474,10 @@ impl Waiting for Crossbar {
     fn cells(&self) -> Vec<Cell> {
         Crossbar::cells(self)
     }
+
+    fn memory(&self) -> &Memory {
+        &self.memory
+    }
 }
 
 #[derive(Clone, Debug)]
@@ -452,12 +485,15 @@ pub struct Pifo {
     pub ports: u32,
     pub clock: u32,
     pub queues: Vec<Vec<Cell>>,
+    pub memory: Memory,
     fault: Option<Fault>,
 }
 
 impl Pifo {
-    pub fn fresh(ports: u32, first: u32) -> Pifo {
-        Pifo { ports, clock: first, queues: vec![Vec::new(); ports as usize], fault: None }
+    /// Fresh, with the outputs fair whose bits are set.
+    pub fn fresh(ports: u32, first: u32, fair: u32) -> Pifo {
+        let queues = vec![Vec::new(); ports as usize];
+        Pifo { ports, clock: first, queues, memory: Memory::marked(fair), fault: None }
     }
 
     pub fn with_fault(self, fault: Fault) -> Pifo {
@@ -482,15 +518,16 @@ impl Pifo {
         if self.clock == CLOCK_END {
             return Err((3, 0));
         }
-        if let Some(f) = fault(self.ports, &self.cells(), records) {
-            return Err(f);
-        }
+        let records = made(self.ports, &self.cells(), &self.memory, records)?;
         let early = self.has(Fault::PifoSendsBeforeTheArrivalsJoin).then(|| self.depart());
-        for r in records {
+        for r in &records {
             self.queues[r[1] as usize].push(accepted(r, self.clock));
         }
         self.clock += 1;
-        Ok(early.unwrap_or_else(|| self.depart()))
+        let departures = early.unwrap_or_else(|| self.depart());
+        self.memory.gives(&records);
+        self.memory.leave(&departures);
+        Ok(departures)
     }
 
     /// What each output sends.
@@ -516,7 +553,7 @@ impl Pifo {
             sections[cell.input as usize].push(cell);
         }
         sections.iter_mut().for_each(|cells| cells.sort_by_key(|c| c.slot));
-        oq_table_bytes(self.ports, self.clock, &sections)
+        oq_table_bytes(self.ports, self.clock, &sections, &self.memory)
     }
 }
 
@@ -531,5 +568,9 @@ impl Waiting for Pifo {
 
     fn cells(&self) -> Vec<Cell> {
         self.queues.concat()
+    }
+
+    fn memory(&self) -> &Memory {
+        &self.memory
     }
 }

@@ -1,19 +1,22 @@
 //! The PIFO switch on the sections of a table, by docs/SCOPE.md 4 and docs/LAYOUT.md: the cells of each input stand in the
 //! order in which the table has them, so that it can begin with any sound table of the output-queued switch.
 
-use super::{accepted, fault, oq_table_bytes, Cell, Fault, Record, Sent, Waiting, CLOCK_END};
+use super::{accepted, made, oq_table_bytes, Cell, Fault, Memory, Record, Sent, Waiting, CLOCK_END};
 
 #[derive(Clone, Debug)]
 pub struct OutputQueued {
     pub ports: u32,
     pub clock: u32,
     pub sections: Vec<Vec<Cell>>,
+    pub memory: Memory,
     fault: Option<Fault>,
 }
 
 impl OutputQueued {
-    pub fn fresh(ports: u32, first: u32) -> OutputQueued {
-        OutputQueued { ports, clock: first, sections: vec![Vec::new(); ports as usize], fault: None }
+    /// Fresh, with the outputs fair whose bits are set.
+    pub fn fresh(ports: u32, first: u32, fair: u32) -> OutputQueued {
+        let sections = vec![Vec::new(); ports as usize];
+        OutputQueued { ports, clock: first, sections, memory: Memory::marked(fair), fault: None }
     }
 
     pub fn with_fault(self, fault: Fault) -> OutputQueued {
@@ -28,14 +31,15 @@ impl OutputQueued {
         if self.clock == CLOCK_END {
             return Err((3, 0));
         }
-        if let Some(f) = fault(self.ports, &self.cells(), records) {
-            return Err(f);
-        }
-        for r in records {
+        let records = made(self.ports, &self.cells(), &self.memory, records)?;
+        for r in &records {
             self.join(accepted(r, self.clock));
         }
         self.clock += 1;
-        Ok((0..self.ports).map(|output| self.send(output)).collect())
+        let departures: Vec<Option<Cell>> = (0..self.ports).map(|output| self.send(output)).collect();
+        self.memory.gives(&records);
+        self.memory.leave(&departures);
+        Ok(departures)
     }
 
     /// A new cell stands last in the section of its input.
@@ -55,7 +59,7 @@ impl OutputQueued {
     }
 
     pub fn table(&self) -> Vec<u8> {
-        oq_table_bytes(self.ports, self.clock, &self.sections)
+        oq_table_bytes(self.ports, self.clock, &self.sections, &self.memory)
     }
 }
 
@@ -70,5 +74,9 @@ impl Waiting for OutputQueued {
 
     fn cells(&self) -> Vec<Cell> {
         self.sections.concat()
+    }
+
+    fn memory(&self) -> &Memory {
+        &self.memory
     }
 }

@@ -3,7 +3,7 @@
 use super::{Cell, Crossbar, Pifo, Record};
 use std::fmt::Display;
 
-/// A switch that a trace can be played on.
+/// A switch that a trace can be played on. No output is fair.
 pub trait Switch {
     fn fresh(ports: u32, first: u32) -> Self;
 
@@ -13,7 +13,7 @@ pub trait Switch {
 
 impl Switch for Crossbar {
     fn fresh(ports: u32, first: u32) -> Crossbar {
-        Crossbar::fresh(ports, first)
+        Crossbar::fresh(ports, first, 0)
     }
 
     fn departures(&mut self, records: &[Record]) -> Result<Vec<Option<Cell>>, (u32, u32)> {
@@ -23,7 +23,7 @@ impl Switch for Crossbar {
 
 impl Switch for Pifo {
     fn fresh(ports: u32, first: u32) -> Pifo {
-        Pifo::fresh(ports, first)
+        Pifo::fresh(ports, first, 0)
     }
 
     fn departures(&mut self, records: &[Record]) -> Result<Vec<Option<Cell>>, (u32, u32)> {

@@ -11,9 +11,14 @@ pub fn place(k: usize) -> usize {
     16 + PLACE_BYTES * k
 }
 
+/// A fresh table without fair outputs.
 pub fn fresh_table(ports: u32, first: u32) -> Vec<u8> {
+    marked_table(ports, first, 0)
+}
+
+pub fn marked_table(ports: u32, first: u32, fair: u32) -> Vec<u8> {
     let mut table = vec![0; TABLE_BYTES];
-    assert_eq!(start_bytes(ports, first, &mut table), 0);
+    assert_eq!(start_bytes(ports, first, fair, &mut table), 0);
     table
 }
 
@@ -47,7 +52,7 @@ pub fn is_store(store: &[u8]) -> bool {
         let free = place.iter().all(|&b| b == 0);
         free || is_name(&name[..size]) && name[size..].iter().all(|&b| b == 0) && check_bytes(table) == 0
     };
-    if store.len() != STORE_BYTES || store[..16] != [1, 0, 0, 0, 0, 0, 0, 0, 0, 0, 0, 0, 0, 0, 0, 0] {
+    if store.len() != STORE_BYTES || store[..16] != [2, 0, 0, 0, 0, 0, 0, 0, 0, 0, 0, 0, 0, 0, 0, 0] {
         return false;
     }
     let places: Vec<&[u8]> = store[16..].chunks(PLACE_BYTES).collect();

@@ -1,11 +1,11 @@
-//! Random arrivals for the tests of slots, mostly such that the slot runs, some spoiled; random calls of a rehearsal, and
-//! random states of either switch.
+//! Random arrivals for the tests of slots, mostly such that the slot runs, some spoiled; random marks of fair outputs, where
+//! weights arrive; random calls of a rehearsal, and random states of either switch.
 #![allow(dead_code)] // each test uses a part of it
 
 use super::random::Random;
 use super::reference::cues::Call;
 use super::reference::oq::OutputQueued;
-use super::reference::{Cell, Crossbar, Entry, Place, Record, Waiting, CLOCK_END};
+use super::reference::{Cell, Crossbar, Entry, Memory, Place, Record, Waiting, CLOCK_END};
 
 /// Names of cues: more than a store has places, some alike but for their ends.
 const NAMES: [&str; 7] = ["a", "z", "intro", "intros", "prologue", "prologus", "finale"];
@@ -13,11 +13,31 @@ const NAMES: [&str; 7] = ["a", "z", "intro", "intros", "prologue", "prologus", "
 /// What is no name.
 const NO_NAMES: [&str; 4] = ["", "Intro", "act one", "interlude"];
 
+/// Marks of fair outputs: in half of the cases none, else some or all of the switch's.
+pub fn marks(r: &mut Random, ports: u32) -> u32 {
+    let all = (1u32 << ports) - 1;
+    match r.below(4) {
+        0 | 1 => 0,
+        2 => r.next() as u32 & all,
+        _ => all,
+    }
+}
+
+/// A weight at a fair output, now and then one out of range.
+fn weight(r: &mut Random, most: u64) -> u32 {
+    if r.one_in(200) {
+        return r.pick(&[0, 1025, 2000, 65536, u32::MAX]);
+    }
+    let any = 1 + r.below(most);
+    r.pick(&[any, any, most, 1]) as u32
+}
+
 /// How a list of arrivals is drawn.
 pub struct Traffic {
     outputs: u64,
     flows: u64,
     ranks: u64,
+    weights: u64,
     load: u64,
     falling: bool,
     faults: u64,
@@ -29,6 +49,7 @@ impl Traffic {
             outputs: r.pick(&[1, 1, 2, 3, ports as u64]).min(ports as u64),
             flows: r.pick(&[1, 2, 4, 8]),
             ranks: r.pick(&[1, 2, 5, 20, 1000, 1 << 32]),
+            weights: r.pick(&[1, 2, 8, 1024]),
             load: r.pick(&[5, 30, 60, 95]),
             falling: r.one_in(2),
             faults: r.pick(&[3, 30, 1000]),
@@ -55,6 +76,11 @@ impl Traffic {
             if self.falling && output != 0 {
                 rank = (1u64 << 20).saturating_sub(10 * (s.clock() as u64 & 0xffff)) + r.below(10);
             }
+            if s.memory().is_fair(output as u32) {
+                let weight = weight(r, self.weights);
+                out.push([input as u32, output as u32, flow as u32, weight, r.next() as u32]);
+                continue;
+            }
             let highest = |flow: u64| {
                 let same = |c: &&Cell| (c.input as u64, c.output as u64, c.flow as u64) == (input, output, flow);
                 cells.iter().filter(same).map(|c| c.rank as u64).max()
@@ -80,7 +106,10 @@ impl Traffic {
             0 | 1 => Call::Set(name),
             2 => Call::Drop(name),
             3 => Call::Return(name),
-            _ if r.one_in(60) => Call::Start(1 + r.below(16) as u32, s.clock),
+            _ if r.one_in(60) => {
+                let ports = 1 + r.below(16) as u32;
+                Call::Start(ports, s.clock, marks(r, ports))
+            }
             _ => Call::Slot(self.records(r, s)),
         }
     }
@@ -107,10 +136,29 @@ impl Traffic {
     }
 }
 
+/// Any ranks that a switch of any size may remember, at outputs that are not fair and at ports that it does not have too;
+/// in half of the cases next to none.
+fn any_memory(r: &mut Random, ports: u32) -> Memory {
+    let mut memory = Memory::marked(marks(r, ports));
+    let (words, ranks) = (r.pick(&[0, 3, 100, 2048]), r.pick(&[10, 1 << 21, 1 << 32]));
+    // close to the end, so that a stride passes it
+    let rank = |r: &mut Random| if r.one_in(3) { (u32::MAX as u64 - r.below(1 << 21)) as u32 } else { r.below(ranks) as u32 };
+    for _ in 0..words {
+        memory.given.insert((r.below(16) as u32, r.below(16) as u32, r.below(8) as u32), rank(r));
+    }
+    for output in 0..words.min(16) {
+        if r.one_in(2) {
+            memory.left.insert(output as u32, rank(r));
+        }
+    }
+    memory
+}
+
 /// A sound state with so many cells an input at most, not only those that a fresh switch can reach.
 pub fn any_state(r: &mut Random, ports: u32, most: u64) -> Crossbar {
     let clock = r.pick(&[5000, 1 << 20, CLOCK_END, CLOCK_END - 1]);
-    let mut s = Crossbar::fresh(ports, clock);
+    let mut s = Crossbar::fresh(ports, clock, 0);
+    s.memory = any_memory(r, ports);
     let outputs = r.pick(&[1, 2, ports as u64]).min(ports as u64);
     let ranks = r.pick(&[2, 10, 1 << 32]);
     for input in 0..ports {
@@ -166,7 +214,8 @@ pub fn any_state(r: &mut Random, ports: u32, most: u64) -> Crossbar {
 /// and those of one flow have any ranks.
 pub fn any_queues(r: &mut Random, ports: u32, most: u64) -> OutputQueued {
     let clock = r.pick(&[5000, 5001, 1 << 20, 1 << 31, CLOCK_END - 5, CLOCK_END]);
-    let mut s = OutputQueued::fresh(ports, clock);
+    let mut s = OutputQueued::fresh(ports, clock, 0);
+    s.memory = any_memory(r, ports);
     let outputs = r.pick(&[1, 2, ports as u64]).min(ports as u64);
     let ranks = r.pick(&[1, 2, 10, 1 << 32]);
     // With no gap between the slots of an input, many cells of one slot wait at an output, and their turns decide.
