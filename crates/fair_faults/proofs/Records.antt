@@ -189,7 +189,8 @@ module _ (s : Switch) (m : Memory) (records : List Arrival) where
           omega (arith, port-input (s .ports) _ (faultless (s .ports) [] (p .before) _ passes .port))
 
   -- behind the last record
-  pub passed-all : (n turn : ℕ) → n ≡ length records → Passed s m records n turn → Clear ≡ faultOf (firstFair s m records)
+  pub passed-all : (n turn : ℕ) → n ≡ length records → Passed s m records n turn
+      → Clear ≡ faultOf (firstFair s m records)
   unfolding recordFaultFrom faultOf
   passed-all n turn whole p =
       let past : length records ≤ n = omega arith in

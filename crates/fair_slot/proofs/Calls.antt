@@ -125,7 +125,8 @@ module _ (table arrivals answer : List ℕ) (clear : Lent table arrivals (length
 
       -- all records are looked at, or the slot is refused
       whole-runs : (fault : Fault) (table′ answer′ : List ℕ)
-          → RanLeaves (fairSlot x (some (take heldLimit every))) (take heldLimit every) table answer fault table′ answer′
+          → RanLeaves (fairSlot x (some (take heldLimit every))) (take heldLimit every) table answer
+          fault table′ answer′
           → LentLeaves (fairSlot x (some every)) table arrivals answer fault table′ answer′
       unfolding refusalOf tableRan tableAfter answerAfter
       whole-runs fault table′ answer′ (f, (n, a)) =

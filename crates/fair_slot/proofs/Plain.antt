@@ -140,7 +140,8 @@ module _ (table arrivals : List ℕ) (b : bytes? table ≡ true) (plain : isPlai
       let (records, whole) = ran-records (decodeFair table) (recordsOf arrivals) room c e in
       ap (λ l. take coreStart table ++ (encode (c .switch) ++ l)) (drop-drop tableSize coreStart table)
       ∙ framed-with fairNumber table framed b (c .switch)
-      ∙ sym (ap (λ a. fairBytes fairNumber (afterOf (λ d. d .departures) (λ d. d .switch) (fairOf table) a (done c))) whole
+      ∙ sym
+      (ap (λ a. fairBytes fairNumber (afterOf (λ d. d .departures) (λ d. d .switch) (fairOf table) a (done c))) whole
       ∙ kept c records)
 
   pub plain-leaves : (answer tally : List ℕ) (fault : Fault) (core answer′ tally′ : List ℕ)

@@ -67,7 +67,8 @@ fn is_plain(table: &[u8]) -> bool
 // The slot, but for the tally.
 fn take_slot(table: &mut [u8], arrivals: &[u8], answer: &mut [u8]) -> Fault
     ensures { λ r. ⌜ LentLeaves (lentSlot (now (table .entry)) (now (arrivals .entry)) (length (now (answer .entry))))
-        (now (table .entry)) (now (arrivals .entry)) (now (answer .entry)) r (now (table .exit)) (now (answer .exit)) ⌝ }
+        (now (table .entry)) (now (arrivals .entry)) (now (answer .entry))
+        r (now (table .exit)) (now (answer .exit)) ⌝ }
 {
     let fault = lent_fault(table, arrivals, answer.len());
     let Fault::Clear = fault else {

@@ -286,8 +286,8 @@ module _ (ports : ℕ) (waiting : List Cell) (turn place : ℕ) (c : Cell) (foun
       go : (o : Option Refusal) → fault ports [] before c ≡ o → found ≡ faultAt place (fault ports waiting before c)
       go none q = absurd (clear-not (sym (says before e ∙ ap (faultAt place) q) ∙ bad))
       go (some r) q =
-          says before e
-          ∙ ap (faultAt place) (q ∙ sym (fault-parts ports waiting before c ∙ ap (λ o. thenBy o (waitingFault waiting c)) q))
+          let all = fault-parts ports waiting before c ∙ ap (λ o. thenBy o (waitingFault waiting c)) q in
+          says before e ∙ ap (faultAt place) (q ∙ sym all)
 
   module _ (clear : found ≡ Clear) where
     none-found : (before : Option Cell) → turnAfter before ≡ turn → fault ports [] before c ≡ none
@@ -307,4 +307,5 @@ module _ (ports : ℕ) (waiting : List Cell) (turn place : ℕ) (c : Cell) (foun
     -- and the waiting cells decide
     pub port-passed : (before : Option Cell) → turnAfter before ≡ turn
         → fault ports waiting before c ≡ waitingFault waiting c
-    port-passed before e = fault-parts ports waiting before c ∙ ap (λ o. thenBy o (waitingFault waiting c)) (none-found before e)
+    port-passed before e =
+        fault-parts ports waiting before c ∙ ap (λ o. thenBy o (waitingFault waiting c)) (none-found before e)

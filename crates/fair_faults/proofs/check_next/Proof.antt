@@ -83,8 +83,8 @@ returns-2 c =
     let rank = c .before .before in
     let told = rank .before in
     let looked = told .before .before in
-    next-rank (s looked) (m looked) _ _ (a looked) _ (says looked) (told .enum-told .given .1) _ (rank .rank-fault .ensures)
-    (c .enum-told4 .given .1)
+    next-rank (s looked) (m looked) _ _ (a looked) _ (says looked) (told .enum-told .given .1) _
+    (rank .rank-fault .ensures) (c .enum-told4 .given .1)
 
 make-requires : tie.Need-make-requires
 make-requires c κs = start-of (c .before .before .before .before .before) .pre .1 .0
@@ -112,8 +112,8 @@ cell-is c =
     c .cell-of2 .ensures
     ∙ ap₂ accepted (clock-is at)
     (c .before .make .ensures
-    (next-rankable (s at) (m at) _ _ (a at) _ (says at) (told past .enum-told .given .1) _ (rank past .rank-fault .ensures)
-    (past .enum-told3 .given .1)))
+    (next-rankable (s at) (m at) _ _ (a at) _ (says at) (told past .enum-told .given .1) _
+    (rank past .rank-fault .ensures) (past .enum-told3 .given .1)))
 
 waiting-fault-requires : tie.Need-waiting-fault-requires
 waiting-fault-requires c κs =

@@ -1,5 +1,4 @@
--- `fair_slot::counted_by` meets its contract: a refused slot counts itself, one that ran its records and departures too.
--- Assumes nothing.
+-- A refused slot counts itself, one that ran its records and departures too.
 use borrow.Author.Needs.{needs}
 use Rattle.fair_slot.proofs.Calls.{counted-refused, counted-ran}
 use Rattle.fair_slot.proofs.counted_by.Statement.{statement}

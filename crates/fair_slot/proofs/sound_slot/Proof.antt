@@ -47,7 +47,7 @@ module _ (c : tie.After-fault-of) where
   memory-is = ap memoryOf (memory-part table)
 
 fault-of-requires : tie.Need-fault-of-requires
-fault-of-requires c κs = let pre = c .before .before .before .pre in (pre .0, pre .1 .1 .0)
+fault-of-requires c κs = let pre = c .before .before .before .pre in (pre .0, omega (arith, pre .1 .1 .0))
 
 enum-told : tie.Need-enum-told
 enum-told c = search needs
@@ -123,7 +123,8 @@ cells-many c = omega (arith, known (looked (c .before)) .cells)
 halfway-size : (c : tie.After-table2) → length (halfway (c .before)) ≡ fairSize
 halfway-size c =
     let at = looked (c .before) in
-    same-len-mid coreStart tableSize (table at) (core (c .before)) (cells-many c ∙ sym (known at .cells)) ∙ known at .size
+    same-len-mid coreStart tableSize (table at) (core (c .before)) (cells-many c ∙ sym (known at .cells))
+    ∙ known at .size
 
 sub-remember : tie.Need-sub-remember
 sub-remember c = let size = halfway-size (c .before .before .before) in omega arith
@@ -156,7 +157,7 @@ remember-requires c κs =
     let lent = c .before .before .before .before .before in
     let at = looked (lent .before) in (
       ap length (memory-then lent) ∙ known at .remembers,
-      start-of at .pre .1 .1 .0,
+      omega (arith, start-of at .pre .1 .1 .0),
       omega (arith, start-of at .pre .1 .0),
     )
 
@@ -170,10 +171,12 @@ same-length-2 : tie.Need-same-length-2
 same-length-2 c =
     let wrote = c .before .before in
     let lent = wrote .before .before .before .before .before .before in
-    same-len-mid memoryStart (length (halfway (lent .before)) - memoryStart) (halfway (lent .before))
-    (wrote .remember .last .0) (memory-many c ∙ sym (ap length (memory-then lent) ∙ known (looked (lent .before)) .remembers))
+    let now = halfway (lent .before) in
+    let at = looked (lent .before) in
+    same-len-mid memoryStart (length now - memoryStart) now (wrote .remember .last .0)
+    (memory-many c ∙ sym (ap length (memory-then lent) ∙ known at .remembers))
     ∙ halfway-size lent
-    ∙ sym (known (looked (lent .before)) .size)
+    ∙ sym (known at .size)
 
 same-length-3 : tie.Need-same-length-3
 same-length-3 c = search needs
