@@ -1,6 +1,6 @@
--- The bytes of the table: a layout number, N, the clock, four bytes of zero, the number of entries of each input, one
--- byte each, and sixteen sections of 64 records of 16 bytes. Unused records are zero. A table is the bytes of one sound
--- state, and each sound state has one table.
+-- The bytes of the cells' table, which stands in the table of a host (Fair) and was all of an older one: a layout number, N,
+-- the clock, four bytes of zero, the number of entries of each input, one byte each, and sixteen sections of 64 records of 16
+-- bytes. Unused records are zero. A table is the bytes of one sound state, and each sound state has one table.
 use Prim.Native.Nat.{ℕ, zero, suc, _+_, _*_, _-_}
 use mathlib.Core.Bool.{Bool, true, false, _&&_}
 use mathlib.Core.List.{List, [], _∷_, _++_}

@@ -1,5 +1,6 @@
 -- Scope 6: the checks of a record, 4 to 8, in their order. All three switches use them, each fed
--- the cells that wait in it before the slot. A record is looked at as the cell that it would become.
+-- the cells that wait in it before the slot. A record is looked at as the cell that it would become. 14 and 15, which come
+-- among them at fair outputs, are in Fair.
 use Prim.Native.Nat.{ℕ, _+_}
 use mathlib.Core.Bool.{Bool, false, cond, not, _&&_, _||_}
 use mathlib.Core.List.{List, [], _∷_}

@@ -119,8 +119,8 @@ unfoldable pub slotAnswer : ℕ → Outcome Course → Answer
 slotAnswer ports (done c) = answerOf c
 slotAnswer ports (refused r place) = refusedAnswer ports
 
--- One slot. The arrivals are lent as records, or are no whole number of records. For 7 and 8 the cells in the switch
--- are those before the slot.
+-- One slot of records whose ranks stand; where outputs may be fair it is `fairSlot` (Fair). The arrivals are lent as
+-- records, or are no whole number of records. For 7 and 8 the cells in the switch are those before the slot.
 unfoldable pub slot : Switch → Option (List Arrival) → Outcome Course
 slot s none = refused BrokenTable 0
 slot s (some records) =

@@ -1,5 +1,5 @@
 -- Scope 4, the PIFO switch: no lists, crosspoints or phases. Its state is N, a clock and a
--- queue of cells for each output.
+-- queue of cells for each output; what it remembers of fair outputs is in Fair.
 use Prim.Native.Nat.{ℕ, _+_}
 use mathlib.Core.Bool.{true, false}
 use mathlib.Core.List.{List, [], _∷_, _++_, map, flatten}
