@@ -1,6 +1,6 @@
 /* How fast the proved reader goes through a whole valid trace, beside a reader written here for speed, in one run. The two are
-   first compared on damaged texts of both forms. A time is processor time, the best of many rounds in which both read the
-   text, which is in memory, one after the other. Prints a line a figure, its fields parted by tabs. */
+   first compared on damaged texts. A time is processor time, the best of many rounds in which both read the text, which is in
+   memory, one after the other. Prints a line a figure, its fields parted by tabs. */
 #include <stdbool.h>
 #include <stdint.h>
 #include <stdio.h>
@@ -42,32 +42,24 @@ static const uint8_t *read_number(const uint8_t *at, const uint8_t *end, uint32_
     return NULL;
 }
 
-/* The first line of a text of the second form. */
-#define FORM "form=2\n"
-
 #define BEGINS(key) begins(at, end, key, sizeof key - 1)
 #define LINE(key, number) (BEGINS(key) && (at = read_number(at + sizeof key - 1, end, number)) != NULL)
 
-/* The slots of a text behind the line of its form; the second form has classes. */
-static inline uint64_t slots_of_form(const uint8_t *at, const uint8_t *end, bool classed) {
+/* The plain one. */
+static uint64_t plain_slots(const uint8_t *at, size_t bytes) {
+    const uint8_t *end = at + bytes;
     uint32_t ports, first, number;
     if (!LINE("ports=", &ports) || ports < 1 || ports > 16 || !LINE("first=", &first)) return NOT_VALID;
     for (uint64_t clock = first;; clock++) {
         if (BEGINS("end=")) return LINE("end=", &number) && number == clock && at == end ? clock - first : NOT_VALID;
         if (!LINE("slot=", &number) || number != clock) return NOT_VALID;
         for (int k = 0; k < 16 && BEGINS("in="); k++) {
-            uint32_t cell[6] = {0};
-            if (!LINE("in=", cell) || !LINE("out=", cell + 1) || !LINE("flow=", cell + 2) ||
-                (classed && !LINE("class=", cell + 3)) || !LINE("rank=", cell + 4) || !LINE("tag=", cell + 5))
+            uint32_t cell[5];
+            if (!LINE("in=", cell) || !LINE("out=", cell + 1) || !LINE("flow=", cell + 2) || !LINE("rank=", cell + 3) ||
+                !LINE("tag=", cell + 4))
                 return NOT_VALID;
         }
     }
-}
-
-/* The plain one. */
-static uint64_t plain_slots(const uint8_t *at, size_t bytes) {
-    const uint8_t *end = at + bytes;
-    return BEGINS(FORM) ? slots_of_form(at + sizeof FORM - 1, end, true) : slots_of_form(at, end, false);
 }
 
 static uint32_t random_below(uint32_t n) {
@@ -79,16 +71,14 @@ static uint32_t random_below(uint32_t n) {
 }
 
 /* Makes a valid text with so many arrivals a slot, rank and tag below a bound; a block has less than 2,048 bytes. */
-static size_t make(uint8_t *text, size_t most, int arrivals, uint32_t bound, bool classed) {
-    size_t at = (size_t)sprintf((char *)text, "%sports=16\nfirst=0\n", classed ? FORM : "");
+static size_t make(uint8_t *text, size_t most, int arrivals, uint32_t bound) {
+    size_t at = (size_t)sprintf((char *)text, "ports=16\nfirst=0\n");
     uint32_t clock = 0;
     for (; at + 2048 < most; clock++) {
         at += (size_t)sprintf((char *)text + at, "slot=%u\n", clock);
-        for (int i = 0; i < arrivals; i++) {
-            at += (size_t)sprintf((char *)text + at, "in=%d\nout=%u\nflow=%u\n", i, random_below(16), random_below(8));
-            if (classed) at += (size_t)sprintf((char *)text + at, "class=%u\n", random_below(4));
-            at += (size_t)sprintf((char *)text + at, "rank=%u\ntag=%u\n", random_below(bound), random_below(bound));
-        }
+        for (int i = 0; i < arrivals; i++)
+            at += (size_t)sprintf((char *)text + at, "in=%d\nout=%u\nflow=%u\nrank=%u\ntag=%u\n", i, random_below(16),
+                                  random_below(8), random_below(bound), random_below(bound));
     }
     return at + (size_t)sprintf((char *)text + at, "end=%u\n", clock);
 }
@@ -103,11 +93,9 @@ static void expect_same(const uint8_t *text, size_t bytes) {
 /* Compares the two on short texts in which a byte was changed, left out or put twice, or whose end is lost. */
 static void compare_damaged(void) {
     static uint8_t text[SHORT_TEXT_BYTES + 1];
-    static const char bytes_of_lines[] = "0123456789=\ninoutflowclassranktagslotendform ";
+    static const char bytes_of_lines[] = "0123456789=\ninoutflowranktagslotend ";
     for (int k = 0; k < DAMAGED_TEXTS; k++) {
-        size_t bytes = make(text, SHORT_TEXT_BYTES, k % 18, k % 2 ? 3 : UINT32_MAX, k / 18 % 2);
-        /* one in four in the first lines */
-        size_t at = random_below(k % 4 ? (uint32_t)bytes : 30);
+        size_t bytes = make(text, SHORT_TEXT_BYTES, k % 18, k % 2 ? 3 : UINT32_MAX), at = random_below((uint32_t)bytes);
         expect_same(text, bytes);
         switch (random_below(4)) {
         case 0: text[at] = (uint8_t)bytes_of_lines[random_below(sizeof bytes_of_lines - 1)]; break;
@@ -136,11 +124,10 @@ static void improve(double *best, reader *read, const uint8_t *text, size_t byte
     if (took < *best) *best = took;
 }
 
-/* A text to be timed: its arrivals a slot, the bound of their ranks and tags, its form, and the best times so far. */
+/* A text to be timed: its arrivals a slot, the bound of their ranks and tags, and the best times so far. */
 struct timed {
     int arrivals;
     uint32_t bound;
-    bool classed;
     uint8_t *text;
     size_t bytes;
     double proved, plain;
@@ -149,12 +136,11 @@ struct timed {
 static double megabytes_a_second(const struct timed *t, double seconds) { return 1e-6 * (double)t->bytes / seconds; }
 
 int main(void) {
-    struct timed texts[] = {
-        {.bound = 1}, {1, .bound = 100000}, {16, .bound = 100}, {16, .bound = UINT32_MAX}, {16, .bound = 100, .classed = true}};
+    struct timed texts[] = {{.bound = 1}, {1, .bound = 100000}, {16, .bound = 100}, {16, .bound = UINT32_MAX}};
     const struct timed *end = texts + sizeof texts / sizeof *texts;
     for (struct timed *t = texts; t != end; t++) {
         t->text = malloc(TEXT_BYTES);
-        t->bytes = make(t->text, TEXT_BYTES, t->arrivals, t->bound, t->classed);
+        t->bytes = make(t->text, TEXT_BYTES, t->arrivals, t->bound);
         t->proved = t->plain = 1e9;
     }
     compare_damaged();
@@ -165,10 +151,9 @@ int main(void) {
             improve(&t->plain, plain_slots, t->text, t->bytes);
         }
     printf("# The trace reader, megabytes a second and the ratio of the times, best of %d.\n", ROUNDS);
-    printf("# A text has so many arrivals a slot, their rank and tag below a bound; in a classed one they have classes.\n");
-    printf("#\tarrived\tproved\tplain C\tratio\tbound\n");
+    printf("# A text has so many arrivals a slot, their rank and tag below a bound.\n#\tarrived\tproved\tplain C\tratio\tbound\n");
     for (const struct timed *t = texts; t != end; t++)
-        printf("%sreader\t%d\t%.0f\t%.0f\t%.2f\t%u\n", t->classed ? "classed " : "", t->arrivals,
-               megabytes_a_second(t, t->proved), megabytes_a_second(t, t->plain), t->proved / t->plain, t->bound);
+        printf("reader\t%d\t%.0f\t%.0f\t%.2f\t%u\n", t->arrivals, megabytes_a_second(t, t->proved),
+               megabytes_a_second(t, t->plain), t->proved / t->plain, t->bound);
     return 0;
 }

@@ -2,35 +2,30 @@
 
      cc -Iinclude examples/host.c target/staticlib/libcrossbar.a -o target/host && target/host
 
-   Three stage boxes play to desk 0, and give each cell its rank. In slot 1 box 2 asks for something that the switch
-   turns back. From slot 2 on boxes 0 and 1 play to desk 1, which is fair: they send weights, and the switch makes the
-   ranks. In slot 4 box 2 has a safety call for desk 1, and it passes all music. */
+   Three stage boxes play to desk 0, and give each cell its rank. In slot 1 box 2 asks for something that the switch turns
+   back. From slot 2 on boxes 0 and 1 play to desk 1, which is fair: they send weights, and the switch makes the ranks. */
 #include <inttypes.h>
 #include <stdio.h>
 #include <string.h>
 
 #include "crossbar.h"
 
-/* The classes of this show. An output sends music only where no safety call waits. */
-enum { SAFETY, MUSIC };
-
 /* The show: each arrival with its slot, and within a slot the inputs rising. */
 static const struct {
-    uint32_t slot, input, output, flow, class, rank, tag;
+    uint32_t slot, input, output, flow, rank, tag;
 } show[] = {
-    {0, 0, 0, 0, MUSIC, 9, 1},   /* box 0 can wait, */
-    {0, 1, 0, 0, MUSIC, 1, 2},   /* box 1 goes first, */
-    {0, 2, 0, 0, MUSIC, 2, 3},   /* box 2 next. */
-    {1, 0, 0, 1, MUSIC, 0, 4},   /* Box 0 has something urgent, in a flow of its own; */
-    {1, 2, 0, 0, MUSIC, 1, 5},   /* box 2 lets its rank fall below that of tag 3, which still waits in the same flow. */
-    {2, 0, 1, 0, MUSIC, 2, 6},   /* At desk 1 box 0 has twice the weight */
-    {2, 1, 1, 0, MUSIC, 1, 7},   /* of box 1; */
-    {2, 2, 1, 0, MUSIC, 0, 8},   /* box 2 sends no weight. */
-    {3, 0, 1, 0, MUSIC, 2, 9},   /* As long as both have cells waiting, */
-    {3, 1, 1, 0, MUSIC, 1, 10},  /* box 0 gets two slots of three. */
-    {4, 0, 1, 0, MUSIC, 2, 11},
-    {4, 2, 1, 0, SAFETY, 1, 12}, /* The call goes at once, although tag 9 has waited and has no higher rank. */
-    {5, 0, 1, 0, MUSIC, 2, 13},  /* The ranks of music go on as if there had been no call. */
+    {0, 0, 0, 0, 9, 1},  /* box 0 can wait, */
+    {0, 1, 0, 0, 1, 2},  /* box 1 goes first, */
+    {0, 2, 0, 0, 2, 3},  /* box 2 next. */
+    {1, 0, 0, 1, 0, 4},  /* Box 0 has something urgent, in a flow of its own; */
+    {1, 2, 0, 0, 1, 5},  /* box 2 lets its rank fall below that of tag 3, which still waits in the same flow. */
+    {2, 0, 1, 0, 2, 6},  /* At desk 1 box 0 has twice the weight */
+    {2, 1, 1, 0, 1, 7},  /* of box 1; */
+    {2, 2, 1, 0, 0, 8},  /* box 2 sends no weight. */
+    {3, 0, 1, 0, 2, 9},  /* As long as both have cells waiting, */
+    {3, 1, 1, 0, 1, 10}, /* box 0 gets two slots of three. */
+    {4, 0, 1, 0, 2, 11},
+    {5, 0, 1, 0, 2, 12},
 };
 
 static const char *const words[] = {
@@ -39,11 +34,10 @@ static const char *const words[] = {
     [CROSSBAR_INPUT_ORDER] = "out of turn",   [CROSSBAR_RANK_ORDER] = "falling rank",
     [CROSSBAR_FULL] = "full",                 [CROSSBAR_SHORT_BUFFER] = "short tray",
     [CROSSBAR_BAD_WEIGHT] = "bad weight",     [CROSSBAR_RANK_END] = "rank end",
-    [CROSSBAR_NO_SUCH_CLASS] = "no such class",
 };
 
 #define SHOW_LENGTH (sizeof show / sizeof *show)
-#define SLOTS 9
+#define SLOTS 8
 
 /* All numbers are little-endian, whatever the machine. */
 static void put32(uint8_t *bytes, uint32_t n) {
@@ -66,9 +60,8 @@ static size_t write_arrivals(uint32_t number, uint8_t *arrivals) {
         put32(at, show[k].input);
         put32(at + 4, show[k].output);
         put32(at + 8, show[k].flow);
-        put32(at + 12, show[k].class);
-        put32(at + 16, show[k].rank);
-        put32(at + 20, show[k].tag);
+        put32(at + 12, show[k].rank);
+        put32(at + 16, show[k].tag);
         at += CROSSBAR_ARRIVAL_BYTES;
     }
     return (size_t)(at - arrivals);
@@ -86,11 +79,11 @@ static void print_answer(uint32_t number, const uint8_t *answer) {
     for (uint32_t output = 0; output < CROSSBAR_PORTS; output++) {
         const uint8_t *d = answer + CROSSBAR_DEPARTURE_AT(output);
         if (get32(d) == 0) continue; /* this output sends none, and its crosspoints were empty */
-        uint32_t input = get32(d + 4), class = get32(d + 16), rank = get32(d + 20), tag = get32(d + 24);
+        uint32_t input = get32(d + 4), rank = get32(d + 16), tag = get32(d + 20);
         uint32_t first = get32(answer + CROSSBAR_OCCUPANCY_AT(0, output));
         uint32_t second = get32(answer + CROSSBAR_OCCUPANCY_AT(1, output));
-        printf(" output %" PRIu32 " sends tag %" PRIu32 " of input %" PRIu32 ", ", output, tag, input);
-        printf("class %" PRIu32 ", rank %" PRIu32 ", ", class, rank);
+        printf(" output %" PRIu32 " sends tag %" PRIu32 " of input %" PRIu32 ", rank %" PRIu32 ", ", output, tag, input,
+               rank);
         printf("occupancies %" PRIu32 " and %" PRIu32 ";", first, second);
     }
     uint32_t first = get32(answer + CROSSBAR_PROPOSALS_AT(0)), second = get32(answer + CROSSBAR_PROPOSALS_AT(1));

@@ -29,7 +29,6 @@ static const char *const words[] = {
     [OQ_INPUT_ORDER] = "out of turn",   [OQ_RANK_ORDER] = "falling rank",
     [OQ_FULL] = "full",                 [OQ_SHORT_BUFFER] = "short tray",
     [OQ_BAD_WEIGHT] = "bad weight",     [OQ_RANK_END] = "rank end",
-    [OQ_NO_SUCH_CLASS] = "no such class",
 };
 
 #define SHOW_LENGTH (sizeof show / sizeof *show)
@@ -57,9 +56,8 @@ static size_t write_arrivals(uint32_t number, uint8_t *arrivals) {
         put32(at, show[k].input);
         put32(at + 4, show[k].output);
         put32(at + 8, show[k].flow);
-        put32(at + 12, 0); /* the class, of which this show has one */
-        put32(at + 16, show[k].rank);
-        put32(at + 20, show[k].tag);
+        put32(at + 12, show[k].rank);
+        put32(at + 16, show[k].tag);
         at += OQ_ARRIVAL_BYTES;
     }
     return (size_t)(at - arrivals);
@@ -104,7 +102,7 @@ static void print_desk(uint32_t desk) {
         if (get32(d) == 0)
             printf(" slot %" PRIu32 " nothing;", number);
         else
-            printf(" slot %" PRIu32 " tag %" PRIu32 " of box %" PRIu32 ";", number, get32(d + 24), get32(d + 4));
+            printf(" slot %" PRIu32 " tag %" PRIu32 " of box %" PRIu32 ";", number, get32(d + 20), get32(d + 4));
     }
     printf("\n");
 }

@@ -50,16 +50,15 @@ static int play(uint8_t *answer) {
         put32(at, show[k].input);
         put32(at + 4, show[k].output);
         put32(at + 8, show[k].flow);
-        put32(at + 12, 0); /* the class, of which this show has one */
-        put32(at + 16, show[k].rank);
-        put32(at + 20, show[k].tag);
+        put32(at + 12, show[k].rank);
+        put32(at + 16, show[k].tag);
         at += CROSSBAR_ARRIVAL_BYTES;
     }
     if (slot(table, sizeof table, arrivals, (size_t)(at - arrivals), answer, CROSSBAR_ANSWER_BYTES, tally, sizeof tally))
         return 1;
     const uint8_t *d = answer + CROSSBAR_DEPARTURE_AT(0);
     printf("slot %" PRIu32 ": output 0 sends tag %" PRIu32 " of input %" PRIu32 ", rank %" PRIu32 "\n", number,
-           get32(d + 24), get32(d + 4), get32(d + 20));
+           get32(d + 20), get32(d + 4), get32(d + 16));
     return 0;
 }
 

@@ -2,14 +2,14 @@
    example of it, and examples/rehearsal.c one of its cues.
 
    The switch is a table of bytes that the host keeps and lends to every call: start makes one, slot runs it for one
-   slot, check says whether bytes are one. Each cell has a class, and no cell waits for one of a later class: safety
-   calls are sent in class 0, music behind them. At start each output may be set fair: there the host sends weights, and
-   the switch makes the ranks. Up to four cues hold the whole switch, each under a name, to come back to; they are kept
-   in a cue store, bytes of the host as well. convert and convert_cues write what an older version kept in the layout of
-   this one. No call asks anything of the values that it is lent: a bad one is a refusal. A call keeps nothing,
-   allocates nothing and has no state of its own, so any number of threads may call, each with bytes of its own. A
-   pointer to no bytes may be null: an empty slot is lent NULL, 0. Any other pointer is to as many bytes as the number
-   behind it says, and what one call is lent does not overlap. docs/LAYOUT.md has every byte. */
+   slot, check says whether bytes are one. At start each output may be set fair: there the host sends weights, and the
+   switch makes the ranks. Up to four cues hold the whole switch, each under a name, to come back to; they are kept in a
+   cue store, bytes of the host as well. convert and convert_cues write what an older version kept in the layout of this
+   one. No call asks anything of the values that it is lent: a bad
+   one is a refusal. A call keeps nothing, allocates nothing and has no state of its own, so any number of threads may
+   call, each with bytes of its own. A pointer to no bytes may be null: an empty slot is lent NULL, 0. Any other pointer
+   is to as many bytes as the number behind it says, and what one call is lent does not overlap. docs/LAYOUT.md has
+   every byte. */
 #ifndef CROSSBAR_H
 #define CROSSBAR_H
 
@@ -22,43 +22,41 @@ extern "C" {
 
 /* The version of this header and of the library that it describes, and the number of the layout, with which every table
    and every cue store begins. */
-#define CROSSBAR_VERSION "4.0.0"
-#define CROSSBAR_LAYOUT 3u
+#define CROSSBAR_VERSION "3.0.0"
+#define CROSSBAR_LAYOUT 2u
 
 /* Limits. */
 #define CROSSBAR_PORTS 16u    /* ports at most */
-#define CROSSBAR_FLOWS 8u     /* flows of an input, an output and a class */
-#define CROSSBAR_CLASSES 4u   /* classes, 0 before 1 before 2 before 3 */
+#define CROSSBAR_FLOWS 8u     /* flows of an input and output */
 #define CROSSBAR_CELLS 64u    /* cells of an input in the switch at most */
 #define CROSSBAR_CUES 4u      /* cues in a store at most */
 #define CROSSBAR_WEIGHT 1024u /* weight at a fair output at most, and 1 at least */
 
 /* Sizes in bytes. */
-#define CROSSBAR_TABLE_BYTES 49448u
-#define CROSSBAR_ARRIVAL_BYTES 24u    /* input, output, flow, class, rank or weight, tag: 32 bits each */
-#define CROSSBAR_DEPARTURE_BYTES 32u  /* 1 and input, output, flow, class, rank, tag, slot; or zeros */
-#define CROSSBAR_ANSWER_BYTES 648u    /* 16 departures, then the proposals and the occupancies of both phases */
+#define CROSSBAR_TABLE_BYTES 24680u
+#define CROSSBAR_ARRIVAL_BYTES 20u    /* input, output, flow, rank or weight, tag: 32 bits each */
+#define CROSSBAR_DEPARTURE_BYTES 28u  /* 1 and input, output, flow, rank, tag, slot; or zeros */
+#define CROSSBAR_ANSWER_BYTES 584u    /* 16 departures, then the proposals and the occupancies of both phases */
 #define CROSSBAR_TALLY_BYTES 32u      /* slots run, slots refused, cells in, cells out: 64 bits each */
 #define CROSSBAR_NAME_BYTES 8u        /* a cue's name at most */
-#define CROSSBAR_STORE_BYTES 197840u  /* 16 bytes, then four places, a name and a table each */
+#define CROSSBAR_STORE_BYTES 98768u   /* 16 bytes, then four places, a name and a table each */
 
 /* Refusals. 0 is done. */
-#define CROSSBAR_BAD_SIZE 1u       /* bad size: the number of ports is not 1 to 16 */
-#define CROSSBAR_BROKEN_TABLE 2u   /* broken table: the lent table or cue store is not sound, or its length is wrong */
-#define CROSSBAR_CLOCK_END 3u      /* clock end: the clock is at 4,294,967,295 */
-#define CROSSBAR_NO_SUCH_PORT 4u   /* no such port: an input or an output is not below the number of ports */
-#define CROSSBAR_NO_SUCH_FLOW 5u   /* no such flow: a flow is above 7 */
-#define CROSSBAR_INPUT_ORDER 6u    /* out of turn: an input is not above the one of the record before */
-#define CROSSBAR_RANK_ORDER 7u     /* falling rank: a cell of higher rank of the same flow is in the switch */
-#define CROSSBAR_FULL 8u           /* full: 64 cells of this input are in the switch */
-#define CROSSBAR_BAD_LINE 9u       /* bad line: the text breaks the grammar */
-#define CROSSBAR_SHORT_BUFFER 10u  /* short tray: the buffer for an answer is too short */
-#define CROSSBAR_BAD_NAME 11u      /* bad name: the name of a cue is not 1 to 8 lower-case letters */
-#define CROSSBAR_CUES_FULL 12u     /* cues full: four cues are held, and none of this name */
-#define CROSSBAR_NO_SUCH_CUE 13u   /* no such cue: no cue of this name is held */
-#define CROSSBAR_BAD_WEIGHT 14u    /* bad weight: at a fair output the rank is not 1 to 1,024 */
-#define CROSSBAR_RANK_END 15u      /* rank end: at a fair output the rank made passes 4,294,967,295 */
-#define CROSSBAR_NO_SUCH_CLASS 16u /* no such class: a class is above 3 */
+#define CROSSBAR_BAD_SIZE 1u      /* bad size: the number of ports is not 1 to 16 */
+#define CROSSBAR_BROKEN_TABLE 2u  /* broken table: the lent table or cue store is not sound, or its length is wrong */
+#define CROSSBAR_CLOCK_END 3u     /* clock end: the clock is at 4,294,967,295 */
+#define CROSSBAR_NO_SUCH_PORT 4u  /* no such port: an input or an output is not below the number of ports */
+#define CROSSBAR_NO_SUCH_FLOW 5u  /* no such flow: a flow is above 7 */
+#define CROSSBAR_INPUT_ORDER 6u   /* out of turn: an input is not above the one of the record before */
+#define CROSSBAR_RANK_ORDER 7u    /* falling rank: a cell of higher rank of the same flow is in the switch */
+#define CROSSBAR_FULL 8u          /* full: 64 cells of this input are in the switch */
+#define CROSSBAR_BAD_LINE 9u      /* bad line: the text breaks the grammar */
+#define CROSSBAR_SHORT_BUFFER 10u /* short tray: the buffer for an answer is too short */
+#define CROSSBAR_BAD_NAME 11u     /* bad name: the name of a cue is not 1 to 8 lower-case letters */
+#define CROSSBAR_CUES_FULL 12u    /* cues full: four cues are held, and none of this name */
+#define CROSSBAR_NO_SUCH_CUE 13u  /* no such cue: no cue of this name is held */
+#define CROSSBAR_BAD_WEIGHT 14u   /* bad weight: at a fair output the rank is not 1 to 1,024 */
+#define CROSSBAR_RANK_END 15u     /* rank end: at a fair output the rank made passes 4,294,967,295 */
 
 /* The result of slot, taken apart. */
 #define CROSSBAR_REFUSAL(result) ((uint32_t)((result) & 255u)) /* 0, or a refusal */
@@ -67,8 +65,8 @@ extern "C" {
 /* An answer, taken apart: the byte at which each part begins. The first phase is 0, the second 1. A count has 32
    bits. */
 #define CROSSBAR_DEPARTURE_AT(output) (CROSSBAR_DEPARTURE_BYTES * (output))
-#define CROSSBAR_PROPOSALS_AT(phase) (512u + 4u * (phase))
-#define CROSSBAR_OCCUPANCY_AT(phase, output) (520u + 64u * (phase) + 4u * (output))
+#define CROSSBAR_PROPOSALS_AT(phase) (448u + 4u * (phase))
+#define CROSSBAR_OCCUPANCY_AT(phase, output) (456u + 64u * (phase) + 4u * (output))
 
 /* The bit of fair that marks an output, to be joined by |. */
 #define CROSSBAR_FAIR(output) (1u << (output))
@@ -84,25 +82,20 @@ uint32_t check(const uint8_t *table, size_t table_bytes);
 
 /* Runs one slot. arrivals are records of CROSSBAR_ARRIVAL_BYTES, a cell each; an empty slot has none.
 
-   A flow is the cells of one input, one output, one class and one flow number. In each class an input has flows of its
-   own for each output: the same number in another class is another flow.
-
    At a fair output the rank of a record is a weight, 1 to CROSSBAR_WEIGHT. The rank of its cell is the larger of two,
-   the last rank given to its flow and the rank of the last cell of its class that left this output (each 0 where there
-   was none), plus 1,048,576 / weight, rounded down. Both are of earlier slots. So flows of one class that always have
-   cells waiting share what the classes before it leave of the output as their weights do, and one that was silent saves
-   up no turns. The switch remembers these ranks in its table until the next start; a refused slot remembers nothing. At
-   any other output the rank is the record's own.
+   the last rank given to its flow and the rank of the last cell that left this output (each 0 where there was none),
+   plus 1,048,576 / weight, rounded down. Both are of earlier slots. So flows that always have cells waiting share the
+   output as their weights do, and one that was silent saves up no turns. The switch remembers these ranks in its table
+   until the next start; a refused slot remembers nothing. At any other output the rank is the record's own.
 
    Done, the result is 0. table is the switch after the slot, its clock one up. The first CROSSBAR_ANSWER_BYTES of
    answer are the departures, output 0 first, then the proposals of both phases, then for each phase the occupancies,
    output 0 first; bytes past them are kept. tally counts one slot run, the cells that arrived and those that departed;
    a count at its top stays there. On a table that came from start by slot calls and by returns to cues of such tables
    alone, the departures are those of a PIFO output-queued switch with the same marks, which makes its own ranks: each
-   output sends, of all cells for it in the switch, the one of the smallest class; within a class that of the smallest
-   rank; for equal ranks that of the smaller slot. Among cells of equal class, rank and slot s, that of input s mod N
-   goes first, then the next, round to the start; N is the number of ports, and s the slot in which the cells were
-   accepted, not the clock.
+   output sends, of all cells for it in the switch, the one of the smallest rank; for equal ranks that of the smaller
+   slot. Among cells of equal rank and slot s, that of input s mod N goes first, then the next, round to the start; N is
+   the number of ports, and s the slot in which the cells were accepted, not the clock.
 
    An occupancy says how crowded an output is: how many of its crosspoints hold a cell when it chooses among them, from
    0 to the number of ports. Cells just sent there are counted, and so is the cell that it takes. Where a cell came to
@@ -114,10 +107,9 @@ uint32_t check(const uint8_t *table, size_t table_bytes);
                             CROSSBAR_ARRIVAL_BYTES, or tally_bytes is not CROSSBAR_TALLY_BYTES
      CROSSBAR_SHORT_BUFFER  answer_bytes is below CROSSBAR_ANSWER_BYTES
      CROSSBAR_CLOCK_END
-     record by record: CROSSBAR_NO_SUCH_PORT, CROSSBAR_NO_SUCH_FLOW, CROSSBAR_NO_SUCH_CLASS, CROSSBAR_INPUT_ORDER, at
-                       a fair output CROSSBAR_BAD_WEIGHT and CROSSBAR_RANK_END, then CROSSBAR_RANK_ORDER,
-                       CROSSBAR_FULL, the last three by the cells in the switch and the ranks remembered before the
-                       slot
+     record by record: CROSSBAR_NO_SUCH_PORT, CROSSBAR_NO_SUCH_FLOW, CROSSBAR_INPUT_ORDER, at a fair output
+                       CROSSBAR_BAD_WEIGHT and CROSSBAR_RANK_END, then CROSSBAR_RANK_ORDER, CROSSBAR_FULL, the last
+                       three by the cells in the switch and the ranks remembered before the slot
    At a fair output CROSSBAR_RANK_ORDER goes by the rank made, and never comes on a table that came from start by slot
    calls and by returns to cues of such tables alone.
 
@@ -128,19 +120,14 @@ uint32_t check(const uint8_t *table, size_t table_bytes);
 uint64_t slot(uint8_t *table, size_t table_bytes, const uint8_t *arrivals, size_t arrivals_bytes, uint8_t *answer,
               size_t answer_bytes, uint8_t *tally, size_t tally_bytes);
 
-/* Older tables and cue stores, by the layout number with which they begin. Versions before 3.0.0 kept those of layout
-   1, which has no fair outputs, version 3.0.0 those of layout 2; neither has classes. Every call but these two refuses
-   them with CROSSBAR_BROKEN_TABLE. */
-#define CROSSBAR_TABLE_1_BYTES 16416u
-#define CROSSBAR_TABLE_2_BYTES 24680u
-#define CROSSBAR_STORE_1_BYTES 65712u
-#define CROSSBAR_STORE_2_BYTES 98768u
+/* Older tables. Versions before 3.0.0 kept tables of CROSSBAR_OLD_TABLE_BYTES and cue stores of
+   CROSSBAR_OLD_STORE_BYTES, with the layout number 1. Every other call refuses them with CROSSBAR_BROKEN_TABLE. */
+#define CROSSBAR_OLD_TABLE_BYTES 16416u
+#define CROSSBAR_OLD_STORE_BYTES 65712u
 
-/* Writes the switch of an older table into the first CROSSBAR_TABLE_BYTES of table: its ports, its clock, its cells,
-   its fair outputs and the ranks that it remembers, all of class 0; bytes past it are kept. Of other classes nothing is
-   remembered. From a table of layout 1 no output is fair and nothing is remembered. Returns 0, or, changing nothing,
-   CROSSBAR_BROKEN_TABLE where old is not the table of a sound state in layout 1 or 2, then CROSSBAR_SHORT_BUFFER. So a
-   table that convert wrote is not converted again.
+/* Writes the switch of an older table into the first CROSSBAR_TABLE_BYTES of table: its ports, its clock and its cells,
+   no output fair and no rank remembered; bytes past it are kept. Returns 0, or, changing nothing, CROSSBAR_BROKEN_TABLE
+   where old is not the table of a sound state in that layout, then CROSSBAR_SHORT_BUFFER.
 
    In a table kept from version 2.0.0 the smaller input went first; now its ties go by the order above. If cells of
    equal rank and slot waited in it for one output, its departures are sure to be those of a PIFO switch only once it
@@ -149,7 +136,7 @@ uint32_t convert(const uint8_t *old, size_t old_bytes, uint8_t *table, size_t ta
 
 /* Writes the cues of an older store into the first CROSSBAR_STORE_BYTES of store, each under its name, in its place and
    with its switch as convert writes it; bytes past it are kept. Returns 0, or, changing nothing, CROSSBAR_BROKEN_TABLE
-   where old is no sound cue store in layout 1 or 2, then CROSSBAR_SHORT_BUFFER. */
+   where old is no sound cue store in that layout, then CROSSBAR_SHORT_BUFFER. */
 uint32_t convert_cues(const uint8_t *old, size_t old_bytes, uint8_t *store, size_t store_bytes);
 
 /* Cues. A cue holds the whole switch as it was when the cue was set, clock and remembered ranks included, under a name

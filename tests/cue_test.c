@@ -5,6 +5,7 @@
 
 #define PLACES CROSSBAR_CUES
 #define PLACE_BYTES (CROSSBAR_NAME_BYTES + CROSSBAR_TABLE_BYTES)
+#define OLD_PLACE_BYTES (CROSSBAR_NAME_BYTES + CROSSBAR_OLD_TABLE_BYTES)
 
 static uint8_t *place_at(uint8_t *store, uint32_t k) { return store + 16 + PLACE_BYTES * k; }
 
@@ -43,12 +44,11 @@ static int sound_places(const uint8_t *store, uint32_t number, size_t table_byte
 }
 
 static int sound_store(const uint8_t *store, size_t n) {
-    return n == CROSSBAR_STORE_BYTES && sound_places(store, 3, CROSSBAR_TABLE_BYTES, sound);
+    return n == CROSSBAR_STORE_BYTES && sound_places(store, 2, CROSSBAR_TABLE_BYTES, sound);
 }
 
 static int sound_old_store(const uint8_t *store, size_t n) {
-    if (n == CROSSBAR_STORE_1_BYTES) return sound_places(store, 1, CROSSBAR_TABLE_1_BYTES, sound_older);
-    return n == CROSSBAR_STORE_2_BYTES && sound_places(store, 2, CROSSBAR_TABLE_2_BYTES, sound_older);
+    return n == CROSSBAR_OLD_STORE_BYTES && sound_places(store, 1, CROSSBAR_OLD_TABLE_BYTES, sound_cells);
 }
 
 static void same_store(uint8_t *store, size_t n, const char *what, long where) {
@@ -64,7 +64,7 @@ static void test_start(void) {
         expect(result == (sizes[s] < CROSSBAR_STORE_BYTES ? 10u : 0u), "start's result", (long)s);
         if (result == 0) {
             memset(old, 0, CROSSBAR_STORE_BYTES);
-            old[0] = 3;
+            old[0] = 2;
         }
         expect(memcmp(buffer, old, sizeof buffer) == 0, "start's buffer", (long)s);
     }
@@ -75,27 +75,20 @@ static void put_cue(uint8_t *store, uint32_t k, const char *name, uint32_t ports
     fill(place_at(store, k) + CROSSBAR_NAME_BYTES, ports, most);
 }
 
-/* Whether a byte of a store is one of the ranks that a table remembers, or stands there where its place is free. */
-static int in_ranks(size_t i) {
-    size_t at = (i - 16) % PLACE_BYTES;
-    return i >= 16 && at >= CROSSBAR_NAME_BYTES + MEMORY_AT + 4 && at < PLACE_BYTES - 5;
-}
-
-/* Stores with one, three and four cues: every length near its own, and every byte changed; of the ranks remembered,
-   which are any, one in five. */
+/* Stores with one, three and four cues: every length near its own, and every byte changed. */
 static void test_check(void) {
     static const uint8_t held[] = {1, 11, 15}; /* a bit for each place */
     static const char *const names[] = {"a", "prologue", "zz", "prologus"};
     static uint8_t store[CROSSBAR_STORE_BYTES + 1];
     for (size_t s = 0; s < sizeof held; s++) {
         memset(store, 0, sizeof store);
-        store[0] = 3;
+        store[0] = 2;
         for (uint32_t k = 0; k < PLACES; k++)
             if (held[s] >> k & 1) put_cue(store, k, names[k], 1 + 5 * k, 3);
         if (!sound_store(store, CROSSBAR_STORE_BYTES)) fail("a store made here is not sound", (long)s);
         for (size_t n = 0; n <= sizeof store; n += n < 40 || n > sizeof store - 1100 ? 1 : 1009)
             same_store(store, n, "length", (long)n);
-        for (size_t i = 0; i < CROSSBAR_STORE_BYTES; i += in_ranks(i) ? 5 : 1) {
+        for (size_t i = 0; i < CROSSBAR_STORE_BYTES; i++) {
             uint8_t kept = store[i], other = (uint8_t)(kept + 1 + pick(255));
             store[i] = other;
             same_store(store, CROSSBAR_STORE_BYTES, "one byte changed", (long)i);
@@ -115,52 +108,52 @@ static void test_check(void) {
     }
 }
 
-/* An older store in the new layout, each table as convert writes it. */
-static void convert_here(const uint8_t *old, size_t table_bytes, uint8_t *store) {
-    size_t place_bytes = CROSSBAR_NAME_BYTES + table_bytes;
+/* An older store in the new layout, each table with its number before it and without marks and ranks behind it. */
+static void convert_here(const uint8_t *old, uint8_t *store) {
     memset(store, 0, CROSSBAR_STORE_BYTES);
-    store[0] = 3;
+    store[0] = 2;
     for (uint32_t k = 0; k < PLACES; k++) {
-        const uint8_t *from = old + 16 + place_bytes * k;
-        if (zeros(from, place_bytes)) continue;
-        memcpy(place_at(store, k), from, CROSSBAR_NAME_BYTES);
-        convert_table(place_at(store, k) + CROSSBAR_NAME_BYTES, from + CROSSBAR_NAME_BYTES, table_bytes);
+        const uint8_t *from = old + 16 + OLD_PLACE_BYTES * k;
+        uint8_t *place = place_at(store, k);
+        if (zeros(from, OLD_PLACE_BYTES)) continue;
+        memcpy(place, from, CROSSBAR_NAME_BYTES);
+        put32(place + CROSSBAR_NAME_BYTES, 2);
+        memcpy(place + CROSSBAR_NAME_BYTES + 4, from + CROSSBAR_NAME_BYTES, CROSSBAR_OLD_TABLE_BYTES);
     }
 }
 
-/* Older stores of this number with none to four cues, sound and with bytes changed: they are written in the new layout,
-   or refused, as the check says; every other call refuses them. */
-static void test_convert(uint8_t number, size_t size, size_t table_bytes) {
+/* Older stores with none to four cues, sound and with bytes changed: they are written in the new layout, or refused, as
+   the check says; every other call refuses them. */
+static void test_convert(void) {
     static const uint8_t held[] = {0, 1, 11, 15}; /* a bit for each place */
     static const char *const names[] = {"a", "prologue", "zz", "prologus"};
-    static uint8_t old[CROSSBAR_STORE_2_BYTES + 1], want[CROSSBAR_STORE_BYTES], table[CROSSBAR_TABLE_BYTES];
-    size_t place_bytes = CROSSBAR_NAME_BYTES + table_bytes;
+    static uint8_t old[CROSSBAR_OLD_STORE_BYTES + 1], want[CROSSBAR_STORE_BYTES], table[CROSSBAR_TABLE_BYTES];
     fill(table, 3, 9);
     for (size_t s = 0; s < sizeof held; s++) {
         memset(old, 0, sizeof old);
-        old[0] = number;
+        old[0] = 1;
         for (uint32_t k = 0; k < PLACES; k++) {
             if (!(held[s] >> k & 1)) continue;
-            memcpy(old + 16 + place_bytes * k, names[k], strlen(names[k]));
-            fill_older(old + 16 + place_bytes * k + CROSSBAR_NAME_BYTES, table_bytes, 1 + 5 * k, 3);
+            memcpy(old + 16 + OLD_PLACE_BYTES * k, names[k], strlen(names[k]));
+            fill_cells(old + 16 + OLD_PLACE_BYTES * k + CROSSBAR_NAME_BYTES, 1 + 5 * k, 3);
         }
-        expect(sound_old_store(old, size), "a store made here is not sound", (long)s);
-        for (size_t i = 0; i < size; i++) {
-            /* the header, the names, the first bytes of each table, its marks, and some of the others */
-            size_t at = (i - 16) % place_bytes, marks = CROSSBAR_NAME_BYTES + MEMORY_AT;
-            if (i >= 16 && at >= 64 && (at < marks || at >= marks + 4) && i % 127 != 0) continue;
+        expect(sound_old_store(old, CROSSBAR_OLD_STORE_BYTES), "a store made here is not sound", (long)s);
+        for (size_t i = 0; i < CROSSBAR_OLD_STORE_BYTES; i++) {
+            /* the header, the names, the first bytes of each table, and some of the others */
+            if (i >= 16 && (i - 16) % OLD_PLACE_BYTES >= 64 && i % 61 != 0) continue;
             uint8_t kept = old[i];
             if (i > 0) old[i] = (uint8_t)(pick(3) ? kept + 1 + pick(255) : 'a' + pick(26));
-            int is_sound = sound_old_store(old, size);
-            convert_here(old, table_bytes, want);
-            test_converter(convert_cues, sizeof want, old, size, is_sound ? want : NULL, (long)i);
+            int is_sound = sound_old_store(old, CROSSBAR_OLD_STORE_BYTES);
+            convert_here(old, want);
+            test_converter(convert_cues, sizeof want, old, CROSSBAR_OLD_STORE_BYTES, is_sound ? want : NULL, (long)i);
             old[i] = kept;
         }
-        for (size_t n = 0; n <= size + 1; n += n < 40 || n > size - 40 ? 1 : 10007)
-            if (n != size) test_converter(convert_cues, sizeof want, old, n, NULL, (long)n);
-        convert_here(old, table_bytes, want);
+        for (size_t n = 0; n <= sizeof old; n += n < 40 || n > sizeof old - 40 ? 1 : 10007)
+            if (n != CROSSBAR_OLD_STORE_BYTES) test_converter(convert_cues, sizeof want, old, n, NULL, (long)n);
+        convert_here(old, want);
         test_converter(convert_cues, sizeof want, want, sizeof want, NULL, 0);
         const uint8_t *name = (const uint8_t *)"a";
+        size_t size = CROSSBAR_OLD_STORE_BYTES;
         expect(cue_check(old, size) == CROSSBAR_BROKEN_TABLE, "an older store", (long)s);
         expect(cue_set(table, sizeof table, old, size, name, 1) == CROSSBAR_BROKEN_TABLE, "set in it", (long)s);
         expect(cue_drop(old, size, name, 1) == CROSSBAR_BROKEN_TABLE, "drop in it", (long)s);
@@ -249,8 +242,7 @@ int main(void) {
     test_start();
     test_check();
     test_calls();
-    test_convert(1, CROSSBAR_STORE_1_BYTES, CROSSBAR_TABLE_1_BYTES);
-    test_convert(2, CROSSBAR_STORE_2_BYTES, CROSSBAR_TABLE_2_BYTES);
+    test_convert();
     test_null();
     printf("cues: %lu cases agree\n", cases);
     return 0;

@@ -4,7 +4,7 @@
 
 #include "oq.h"
 
-/* Whether every cell is in a buffer, in a table of any layout. */
+/* Whether every cell is in a buffer, in a table or an older one. */
 static int buffered(const uint8_t *t) {
     for (int input = 0; input < 16; input++)
         for (int at = 0; at < t[20 + input]; at++)
@@ -12,55 +12,39 @@ static int buffered(const uint8_t *t) {
     return 1;
 }
 
-/* The independent checks: the number, sound cells behind it, every cell in a buffer, and the marks. */
-static int sound_oq(const uint8_t *t, size_t n) {
-    return n == OQ_TABLE_BYTES && sound_numbered(t, 103, OQ_CLASSES) && buffered(t);
-}
+/* The independent checks: the number, sound cells behind it, and every cell in a buffer. */
+static int sound_oq(const uint8_t *t, size_t n) { return sound_numbered(t, n, 102) && buffered(t); }
 
 static int sound_old(const uint8_t *t, size_t n) {
-    if (n == OQ_TABLE_101_BYTES) return get32(t) == 101 && sound_cells(t + 4, 1) && buffered(t);
-    return n == OQ_TABLE_102_BYTES && sound_numbered(t, 102, 1) && buffered(t);
+    return n == OQ_OLD_TABLE_BYTES && get32(t) == 101 && sound_cells(t + 4, n - 4) && buffered(t);
 }
 
-/* Sound cells behind the number, so many an input at most and of so many classes, each in a buffer. */
-static void fill_buffers(uint8_t *t, uint32_t ports, uint32_t most, uint32_t classes) {
-    fill_cells(t + 4, ports, most, classes);
+/* A sound older table with so many cells an input at most. */
+static void fill_old(uint8_t *t, uint32_t ports, uint32_t most) {
+    put32(t, 101);
+    fill_cells(t + 4, ports, most);
     for (uint32_t input = 0; input < ports; input++)
         for (int at = 0; at < t[20 + input]; at++) record_at(t + 4, (int)input, at)[2] = 3;
 }
 
-/* A sound older table with so many cells an input at most, by its length. */
-static void fill_old(uint8_t *t, size_t n, uint32_t ports, uint32_t most) {
-    fill_buffers(t, ports, most, 1);
-    put32(t, 101);
-    if (n == OQ_TABLE_102_BYTES) fill_memory(t, n, 102, ports);
-}
-
 /* A sound table with so many cells an input at most, and any marks and ranks. */
 static void fill_oq(uint8_t *t, uint32_t ports, uint32_t most) {
-    fill_buffers(t, ports, most, OQ_CLASSES);
-    fill_memory(t, OQ_TABLE_BYTES, 103, ports);
-}
-
-/* What oq_convert is to write of an older table, by its length. */
-static void convert_oq(uint8_t *t, const uint8_t *old, size_t n) {
-    widen(t, 103, old + 4, n == OQ_TABLE_101_BYTES ? NULL : old + MEMORY_AT);
+    fill_old(t, ports, most);
+    fill_memory(t, 102, ports);
 }
 
 static void test_start(void) {
     static const uint32_t firsts[] = {0, 1, 255, 256, 65535, 16777216, 4294967294u, 4294967295u};
-    static const size_t sizes[] = {0, 7, OQ_TABLE_102_BYTES, OQ_TABLE_BYTES - 1, OQ_TABLE_BYTES, OQ_TABLE_BYTES + 64};
-    static uint8_t buffer[OQ_TABLE_BYTES + 64], old[sizeof buffer], noise[sizeof buffer];
-    for (size_t i = 0; i < sizeof noise; i++) noise[i] = (uint8_t)pick(256);
+    static const size_t sizes[] = {0, 7, OQ_OLD_TABLE_BYTES, OQ_TABLE_BYTES - 1, OQ_TABLE_BYTES, OQ_TABLE_BYTES + 64};
+    static uint8_t buffer[OQ_TABLE_BYTES + 64], old[OQ_TABLE_BYTES + 64];
     for (uint32_t ports = 0; ports <= 17; ports++)
         for (int k = 0; k < MARKS; k++)
             for (size_t s = 0; s < sizeof sizes / sizeof *sizes; s++) {
                 uint32_t first = firsts[pick(sizeof firsts / sizeof *firsts)], fair = marks_at(k);
-                memcpy(buffer, noise, sizeof noise);
-                memcpy(old, noise, sizeof noise);
+                for (size_t i = 0; i < sizeof buffer; i++) buffer[i] = old[i] = (uint8_t)pick(256);
                 uint32_t r = oq_start(ports, first, fair, buffer, sizes[s]);
                 expect(r == start_refusal(ports, fair, sizes[s]), "the result of oq_start", (long)ports);
-                if (r == 0) fresh(old, 103, ports, first, fair);
+                if (r == 0) fresh(old, 102, ports, first, fair);
                 expect(memcmp(buffer, old, sizeof buffer) == 0, "the buffer of oq_start", (long)ports);
             }
 }
@@ -77,10 +61,10 @@ static void test_check(void) {
         expect(sound_oq(table, OQ_TABLE_BYTES), "a table made here is not sound", (long)s);
         for (size_t n = 0; n <= sizeof table; n += n < 40 || n > sizeof table - 1100 ? 1 : 1009)
             same(table, n, "length", (long)n);
-        /* Every byte changed to several values, one at a time; of the ranks remembered, which are any, one in five. */
-        for (size_t i = 0; i < OQ_TABLE_BYTES; i += i < MEMORY_AT + 4 ? 1 : 5) {
+        /* Every byte changed to several values, one at a time; of the ranks remembered, which are any, to one. */
+        for (size_t i = 0; i < OQ_TABLE_BYTES; i++) {
             uint8_t kept = table[i];
-            uint8_t values[] = {(uint8_t)(kept + 1), (uint8_t)(kept - 1), 0, 1, 2, 3, 4, 16, 64, 255};
+            uint8_t values[] = {(uint8_t)(kept + 1), (uint8_t)(kept - 1), 0, 1, 2, 16, 64, 255};
             for (size_t v = 0; v < (i < MEMORY_AT + 4 ? sizeof values : 1); v++) {
                 table[i] = values[v];
                 same(table, OQ_TABLE_BYTES, "one byte changed", (long)i);
@@ -96,45 +80,47 @@ static void test_check(void) {
         for (int k = 0; k < 200; k++) {
             fill(copy, sizes[s][0], pick(1 + sizes[s][1]));
             expect(oq_check(copy, CROSSBAR_TABLE_BYTES) == OQ_BROKEN_TABLE, "a table of the crossbar", k);
-            put32(copy, 103);
+            put32(copy, 102);
             same(copy, OQ_TABLE_BYTES, "a table of the crossbar with another number", k);
         }
     }
 }
 
-/* Older tables of so many bytes, sound and with a byte changed: they are written in the new layout, all of it class 0,
-   or refused, as the check says; every other call refuses them. */
-static void test_convert(size_t size) {
-    static uint8_t old[OQ_TABLE_102_BYTES + 1], want[OQ_TABLE_BYTES], new[OQ_TABLE_BYTES];
+/* Older tables, sound and with a byte changed: they are written in the new layout, no output fair, or refused, as the
+   check says; every other call refuses them. */
+static void test_convert(void) {
+    static uint8_t old[OQ_OLD_TABLE_BYTES + 1], want[OQ_TABLE_BYTES], new[OQ_TABLE_BYTES];
     static uint8_t answer[OQ_ANSWER_BYTES], tally[OQ_TALLY_BYTES];
     static const uint32_t sizes[][2] = {{1, 64}, {2, 5}, {5, 17}, {16, 64}};
     for (size_t s = 0; s < sizeof sizes / sizeof *sizes; s++) {
-        fill_old(old, size, sizes[s][0], sizes[s][1]);
-        old[size] = 0;
-        for (size_t i = 0; i < size; i += i < 64 || (i >= MEMORY_AT && i < MEMORY_AT + 4) ? 1 : 13) {
+        fill_old(old, sizes[s][0], sizes[s][1]);
+        for (size_t i = 0; i < OQ_OLD_TABLE_BYTES; i += i < 64 ? 1 : 13) {
             uint8_t kept = old[i];
             if (i > 0) old[i] = (uint8_t)(kept + 1 + pick(255));
-            convert_oq(want, old, size);
-            test_converter(oq_convert, sizeof want, old, size, sound_old(old, size) ? want : NULL, (long)i);
+            memset(want, 0, sizeof want);
+            memcpy(want, old, OQ_OLD_TABLE_BYTES);
+            put32(want, 102);
+            int is_sound = sound_old(old, OQ_OLD_TABLE_BYTES);
+            test_converter(oq_convert, sizeof want, old, OQ_OLD_TABLE_BYTES, is_sound ? want : NULL, (long)i);
             old[i] = kept;
         }
-        for (size_t n = 0; n <= size + 1; n += n < 40 || n > size - 40 ? 1 : 1009)
-            if (n != size) test_converter(oq_convert, sizeof want, old, n, NULL, (long)n);
+        for (size_t n = 0; n <= sizeof old; n += n < 40 || n > sizeof old - 40 ? 1 : 1009)
+            if (n != OQ_OLD_TABLE_BYTES) test_converter(oq_convert, sizeof want, old, n, NULL, (long)n);
         fill_oq(new, sizes[s][0], sizes[s][1]);
         test_converter(oq_convert, sizeof want, new, sizeof new, NULL, 0);
-        same(old, size, "an older table", (long)s);
-        uint64_t r = oq_slot(old, size, NULL, 0, answer, sizeof answer, tally, sizeof tally);
+        same(old, OQ_OLD_TABLE_BYTES, "an older table", (long)s);
+        uint64_t r = oq_slot(old, OQ_OLD_TABLE_BYTES, NULL, 0, answer, sizeof answer, tally, sizeof tally);
         expect(r == OQ_BROKEN_TABLE, "a slot of an older table", (long)s);
-        /* Cells in lists and at crosspoints, cells of later classes, and the crossbar's older tables. */
+        /* The crossbar's older tables, and those with this switch's older number before them. */
         for (int k = 0; k < 100; k++) {
-            uint32_t number = get32(old);
-            fill_cells(old + 4, sizes[s][0], pick(1 + sizes[s][1]), 1 + (uint32_t)k % 2);
-            convert_oq(want, old, size);
-            test_converter(oq_convert, sizeof want, old, size, sound_old(old, size) ? want : NULL, k);
-            test_converter(oq_convert, sizeof want, old + 4, CROSSBAR_TABLE_1_BYTES, NULL, k);
-            put32(old, 2);
-            test_converter(oq_convert, sizeof want, old, size, NULL, k);
-            put32(old, number);
+            put32(old, 101);
+            fill_cells(old + 4, sizes[s][0], pick(1 + sizes[s][1]));
+            test_converter(oq_convert, sizeof want, old + 4, CROSSBAR_OLD_TABLE_BYTES, NULL, k);
+            memset(want, 0, sizeof want);
+            memcpy(want, old, OQ_OLD_TABLE_BYTES);
+            put32(want, 102);
+            int is_sound = sound_old(old, OQ_OLD_TABLE_BYTES);
+            test_converter(oq_convert, sizeof want, old, OQ_OLD_TABLE_BYTES, is_sound ? want : NULL, k);
         }
     }
 }
@@ -150,10 +136,10 @@ static void test_null(void) {
     expect(oq_start(2, 0, OQ_FAIR(2), NULL, 0) == OQ_NO_SUCH_PORT, "start with a mark at a third port", 0);
     expect(oq_check(NULL, 0) == OQ_BROKEN_TABLE, "check of null", 0);
     expect(oq_convert(NULL, 0, NULL, 0) == OQ_BROKEN_TABLE, "convert of null", 0);
-    fill_old(other, OQ_TABLE_101_BYTES, 2, 3);
-    expect(oq_convert(other, OQ_TABLE_101_BYTES, NULL, 0) == OQ_SHORT_BUFFER, "convert into null", 0);
+    fill_old(other, 2, 3);
+    expect(oq_convert(other, OQ_OLD_TABLE_BYTES, NULL, 0) == OQ_SHORT_BUFFER, "convert into null", 0);
     expect(oq_start(2, 7, 0, table, sizeof table) == 0, "start", 0);
-    put32(arrival + 16, 5);
+    put32(arrival + 12, 5);
     ran = oq_slot(table, sizeof table, arrival, sizeof arrival, answer, sizeof answer, tally, sizeof tally);
     expect(ran == 0, "slot", 0);
     for (int i = 0; i < 3; i++) {
@@ -180,8 +166,7 @@ static void test_null(void) {
 int main(void) {
     test_start();
     test_check();
-    test_convert(OQ_TABLE_101_BYTES);
-    test_convert(OQ_TABLE_102_BYTES);
+    test_convert();
     test_null();
     printf("oq_start, oq_check, oq_convert and null: %lu cases agree\n", cases);
     return 0;

@@ -1,21 +1,19 @@
-/* Tests start, check and convert through the static library, against the check of a table in tables.h; the classes of a
-   slot; and all four calls with null for no bytes. Prints one line and ends with 0 if all agree. */
+/* Tests start, check and convert through the static library, against the check of a table in tables.h; and all four calls
+   with null for no bytes. Prints one line and ends with 0 if all agree. */
 #include "tables.h"
 
 static void test_start(void) {
     static const uint32_t firsts[] = {0, 1, 255, 256, 65535, 16777216, 4294967294u, 4294967295u};
     static const size_t sizes[] = {0, 7, CROSSBAR_TABLE_BYTES - 1, CROSSBAR_TABLE_BYTES, CROSSBAR_TABLE_BYTES + 64};
-    static uint8_t buffer[CROSSBAR_TABLE_BYTES + 64], old[sizeof buffer], noise[sizeof buffer];
-    for (size_t i = 0; i < sizeof noise; i++) noise[i] = (uint8_t)pick(256);
+    static uint8_t buffer[CROSSBAR_TABLE_BYTES + 64], old[CROSSBAR_TABLE_BYTES + 64];
     for (uint32_t ports = 0; ports <= 17; ports++)
         for (int k = 0; k < MARKS; k++)
             for (size_t s = 0; s < sizeof sizes / sizeof *sizes; s++) {
                 uint32_t first = firsts[pick(sizeof firsts / sizeof *firsts)], fair = marks_at(k);
-                memcpy(buffer, noise, sizeof noise);
-                memcpy(old, noise, sizeof noise);
+                for (size_t i = 0; i < sizeof buffer; i++) buffer[i] = old[i] = (uint8_t)pick(256);
                 uint32_t r = start(ports, first, fair, buffer, sizes[s]);
                 expect(r == start_refusal(ports, fair, sizes[s]), "start's result", (long)ports);
-                if (r == 0) fresh(old, 3, ports, first, fair);
+                if (r == 0) fresh(old, 2, ports, first, fair);
                 expect(memcmp(buffer, old, sizeof buffer) == 0, "start's buffer", (long)ports);
             }
 }
@@ -34,10 +32,10 @@ static void test_check(void) {
         if (!sound(table, CROSSBAR_TABLE_BYTES)) fail("a table made here is not sound", (long)s);
         for (size_t n = 0; n <= sizeof table; n += n < 40 || n > sizeof table - 1100 ? 1 : 1009)
             same(table, n, "length", (long)n);
-        /* Every byte changed to several values, one at a time; of the ranks remembered, which are any, one in five. */
-        for (size_t i = 0; i < CROSSBAR_TABLE_BYTES; i += i < MEMORY_AT + 4 ? 1 : 5) {
+        /* Every byte changed to several values, one at a time; of the ranks remembered, which are any, to one. */
+        for (size_t i = 0; i < CROSSBAR_TABLE_BYTES; i++) {
             uint8_t kept = table[i];
-            uint8_t values[] = {(uint8_t)(kept + 1), (uint8_t)(kept - 1), 0, 1, 3, 4, 16, 64, 255};
+            uint8_t values[] = {(uint8_t)(kept + 1), (uint8_t)(kept - 1), 0, 1, 3, 16, 64, 255};
             for (size_t v = 0; v < (i < MEMORY_AT + 4 ? sizeof values : 1); v++) {
                 table[i] = values[v];
                 same(table, CROSSBAR_TABLE_BYTES, "one byte changed", (long)i);
@@ -53,61 +51,31 @@ static void test_check(void) {
     }
 }
 
-/* Older tables of so many bytes, sound and with a byte changed: they are written in the new layout, all of it class 0,
-   or refused, as the check says; every other call refuses them. */
-static void test_convert(size_t size) {
-    static uint8_t old[CROSSBAR_TABLE_2_BYTES + 1], want[CROSSBAR_TABLE_BYTES], new[CROSSBAR_TABLE_BYTES];
+/* Older tables, sound and with a byte changed: they are written in the new layout, no output fair, or refused, as the
+   check says; every other call refuses them. */
+static void test_convert(void) {
+    static uint8_t old[CROSSBAR_OLD_TABLE_BYTES + 1], want[CROSSBAR_TABLE_BYTES], new[CROSSBAR_TABLE_BYTES];
     static uint8_t answer[CROSSBAR_ANSWER_BYTES], tally[CROSSBAR_TALLY_BYTES];
     static const uint32_t sizes[][2] = {{1, 64}, {2, 5}, {5, 17}, {16, 64}};
     for (size_t s = 0; s < sizeof sizes / sizeof *sizes; s++) {
-        fill_older(old, size, sizes[s][0], sizes[s][1]);
-        old[size] = 0;
-        for (size_t i = 0; i < size; i += i < 64 || (i >= MEMORY_AT && i < MEMORY_AT + 4) ? 1 : 13) {
+        fill_cells(old, sizes[s][0], sizes[s][1]);
+        for (size_t i = 0; i < CROSSBAR_OLD_TABLE_BYTES; i += i < 64 ? 1 : 13) {
             uint8_t kept = old[i];
             if (i > 0) old[i] = (uint8_t)(kept + 1 + pick(255));
-            convert_table(want, old, size);
-            test_converter(convert, sizeof want, old, size, sound_older(old, size) ? want : NULL, (long)i);
+            memset(want, 0, sizeof want);
+            put32(want, 2);
+            memcpy(want + 4, old, CROSSBAR_OLD_TABLE_BYTES);
+            int is_sound = sound_cells(old, CROSSBAR_OLD_TABLE_BYTES);
+            test_converter(convert, sizeof want, old, CROSSBAR_OLD_TABLE_BYTES, is_sound ? want : NULL, (long)i);
             old[i] = kept;
         }
-        /* Every record with another class: none of them is of an older table. */
-        for (size_t input = 0; input < sizes[s][0]; input++)
-            for (int at = 0; at < 64; at++) {
-                uint8_t *class = record_at(size == CROSSBAR_TABLE_1_BYTES ? old : old + 4, (int)input, at) + 3;
-                *class = (uint8_t)(1 + pick(3));
-                test_converter(convert, sizeof want, old, size, NULL, at);
-                *class = 0;
-            }
-        for (size_t n = 0; n <= size + 1; n += n < 40 || n > size - 40 ? 1 : 1009)
-            if (n != size) test_converter(convert, sizeof want, old, n, NULL, (long)n);
+        for (size_t n = 0; n <= sizeof old; n += n < 40 || n > sizeof old - 40 ? 1 : 1009)
+            if (n != CROSSBAR_OLD_TABLE_BYTES) test_converter(convert, sizeof want, old, n, NULL, (long)n);
         fill(new, sizes[s][0], sizes[s][1]);
         test_converter(convert, sizeof want, new, sizeof new, NULL, 0);
-        same(old, size, "an older table", (long)s);
-        uint64_t r = slot(old, size, NULL, 0, answer, sizeof answer, tally, sizeof tally);
+        same(old, CROSSBAR_OLD_TABLE_BYTES, "an older table", (long)s);
+        uint64_t r = slot(old, CROSSBAR_OLD_TABLE_BYTES, NULL, 0, answer, sizeof answer, tally, sizeof tally);
         expect(r == CROSSBAR_BROKEN_TABLE, "a slot of an older table", (long)s);
-    }
-}
-
-/* Classes 0 to 3 are taken and 4 is not; cells of one flow number and different classes are of different flows. */
-static void test_classes(void) {
-    static uint8_t table[CROSSBAR_TABLE_BYTES], answer[CROSSBAR_ANSWER_BYTES], tally[CROSSBAR_TALLY_BYTES];
-    uint8_t arrivals[2 * CROSSBAR_ARRIVAL_BYTES] = {0}, *second = arrivals + CROSSBAR_ARRIVAL_BYTES;
-    expect(start(2, 0, 0, table, sizeof table) == 0, "start", 0);
-    put32(arrivals + 20, 9);
-    put32(second, 1);
-    for (uint32_t class = 0; class < 9; class++) {
-        /* Input 0 sends in class 0 and leaves at once; the ranks of input 1 fall from class to class. */
-        put32(second + 12, class);
-        put32(second + 16, 100 - class);
-        put32(second + 20, class);
-        uint64_t r = slot(table, sizeof table, arrivals, sizeof arrivals, answer, sizeof answer, tally, sizeof tally);
-        expect(r == (class < CROSSBAR_CLASSES ? 0 : CROSSBAR_NO_SUCH_CLASS + 2 * 256), "the result of a class", class);
-        expect(get32(answer + CROSSBAR_DEPARTURE_AT(0) + 24) == 9, "the tag of class 0", class);
-    }
-    for (uint32_t class = 0; class < CROSSBAR_CLASSES; class++) {
-        expect(table[20] == 0 && table[21] == 4 - class, "the cells that wait", class);
-        uint64_t r = slot(table, sizeof table, NULL, 0, answer, sizeof answer, tally, sizeof tally);
-        const uint8_t *d = answer + CROSSBAR_DEPARTURE_AT(0);
-        expect(r == 0 && get32(d + 4) == 1 && get32(d + 16) == class && get32(d + 20) == 100 - class, "a class", class);
     }
 }
 
@@ -123,8 +91,8 @@ static void test_null(void) {
     expect(convert(NULL, 0, NULL, 0) == CROSSBAR_BROKEN_TABLE, "convert of null", 0);
     expect(convert(NULL, 0, table, sizeof table) == CROSSBAR_BROKEN_TABLE, "convert of null into a table", 0);
     expect(start(2, 7, 0, table, sizeof table) == 0, "start", 0);
-    expect(convert(table + 4, CROSSBAR_TABLE_1_BYTES, NULL, 0) == CROSSBAR_SHORT_BUFFER, "convert into null", 0);
-    put32(arrival + 16, 5);
+    expect(convert(table + 4, CROSSBAR_OLD_TABLE_BYTES, NULL, 0) == CROSSBAR_SHORT_BUFFER, "convert into null", 0);
+    put32(arrival + 12, 5);
     expect(slot(table, sizeof table, arrival, sizeof arrival, answer, sizeof answer, tally, sizeof tally) == 0, "slot", 0);
     for (int i = 0; i < 3; i++) {
         memcpy(other, table, sizeof table);
@@ -148,10 +116,8 @@ static void test_null(void) {
 int main(void) {
     test_start();
     test_check();
-    test_convert(CROSSBAR_TABLE_1_BYTES);
-    test_convert(CROSSBAR_TABLE_2_BYTES);
-    test_classes();
+    test_convert();
     test_null();
-    printf("start, check, convert, classes and null: %lu cases agree\n", cases);
+    printf("start, check, convert and null: %lu cases agree\n", cases);
     return 0;
 }

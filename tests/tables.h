@@ -23,30 +23,22 @@ static inline void put32(uint8_t *p, uint32_t n) {
     for (int i = 0; i < 4; i++) p[i] = (uint8_t)(n >> (8 * i));
 }
 
-/* How many bytes the cells of a table have, which stand behind its number; a table of layout 1 is just that. */
-#define CELLS_BYTES CROSSBAR_TABLE_1_BYTES
+/* Where the memory of a table begins: the marks, then the ranks that left, then those given. */
+#define MEMORY_AT (4 + CROSSBAR_OLD_TABLE_BYTES)
 
-/* Where the memory of a table begins: the marks, then the ranks that left, then those given. Those of class 0 come
-   first; a table of layout 2 has no others. */
-#define MEMORY_AT (4 + CELLS_BYTES)
-#define LEFT_BYTES 64u   /* of a class */
-#define GIVEN_BYTES 8192u /* of a class */
-
-/* A record of a table's cells. */
+/* A record of an older table. */
 static inline uint8_t *record_at(uint8_t *t, int input, int at) { return t + 32 + 1024 * input + 16 * at; }
 
-/* Whether a leaves its output before b, both records of one flow. */
+/* Whether a leaves its output before b, both records of one input. */
 static inline int before(const uint8_t *a, const uint8_t *b) {
     if (get32(a + 4) != get32(b + 4)) return get32(a + 4) < get32(b + 4);
     return get32(a + 12) < get32(b + 12);
 }
 
-static inline int same_flow(const uint8_t *a, const uint8_t *b) {
-    return a[0] == b[0] && a[1] == b[1] && a[3] == b[3];
-}
-
-/* The independent check of a table's cells, of so many classes: every pair of entries is compared, nothing is kept. */
-static inline int sound_cells(const uint8_t *t, uint32_t classes) {
+/* The independent check of an older table, which is also that of a table's cells: every pair of entries is compared,
+   nothing is kept. */
+static inline int sound_cells(const uint8_t *t, size_t n) {
+    if (n != CROSSBAR_OLD_TABLE_BYTES) return 0;
     uint32_t ports = get32(t + 4), clock = get32(t + 8);
     if (get32(t) != 1 || ports < 1 || ports > 16 || get32(t + 12) != 0) return 0;
     for (uint32_t input = 0; input < 16; input++) {
@@ -57,18 +49,17 @@ static inline int sound_cells(const uint8_t *t, uint32_t classes) {
             if (section[i] != 0) return 0;
         for (uint32_t i = 0; i < count; i++) {
             const uint8_t *a = section + 16 * i;
-            if (a[0] >= ports || a[1] > 7 || a[2] < 1 || a[2] > 3 || a[3] >= classes) return 0;
-            if (get32(a + 12) >= clock) return 0;
+            if (a[0] >= ports || a[1] > 7 || a[2] < 1 || a[2] > 3 || a[3] != 0 || get32(a + 12) >= clock) return 0;
             for (uint32_t j = i + 1; j < count; j++) {
                 const uint8_t *b = section + 16 * j;
                 if (get32(a + 12) == get32(b + 12)) return 0;
                 if (a[2] == 2 && b[2] == 2 && a[0] == b[0]) return 0;
-                if (a[2] != 1 || b[2] != 1 || !same_flow(a, b)) continue;
+                if (a[2] != 1 || b[2] != 1 || a[0] != b[0] || a[1] != b[1]) continue;
                 /* Two cells of a flow in the list: in output priority, and nothing of another flow between. */
                 if (!before(a, b)) return 0;
                 for (uint32_t k = i + 1; k < j; k++) {
                     const uint8_t *c = section + 16 * k;
-                    if (c[2] == 1 && !same_flow(a, c)) return 0;
+                    if (c[2] == 1 && (c[0] != a[0] || c[1] != a[1])) return 0;
                 }
             }
         }
@@ -76,39 +67,32 @@ static inline int sound_cells(const uint8_t *t, uint32_t classes) {
     return 1;
 }
 
-/* The independent check of a table with a memory: this number, cells of so many classes, and marks only below the
-   number of ports. */
-static inline int sound_numbered(const uint8_t *t, uint32_t number, uint32_t classes) {
-    return get32(t) == number && sound_cells(t + 4, classes) && get32(t + MEMORY_AT) >> get32(t + 8) == 0;
+/* The independent check of a table with this number: the cells, and marks only below the number of ports. */
+static inline int sound_numbered(const uint8_t *t, size_t n, uint32_t number) {
+    return n == CROSSBAR_TABLE_BYTES && get32(t) == number && sound_cells(t + 4, CROSSBAR_OLD_TABLE_BYTES) &&
+           get32(t + MEMORY_AT) >> get32(t + 8) == 0;
 }
 
-static inline int sound(const uint8_t *t, size_t n) {
-    return n == CROSSBAR_TABLE_BYTES && sound_numbered(t, 3, CROSSBAR_CLASSES);
-}
+static inline int sound(const uint8_t *t, size_t n) { return sound_numbered(t, n, 2); }
 
-/* The same of a table of layout 1 or 2, all of which is class 0. */
-static inline int sound_older(const uint8_t *t, size_t n) {
-    return n == CROSSBAR_TABLE_1_BYTES ? sound_cells(t, 1) : n == CROSSBAR_TABLE_2_BYTES && sound_numbered(t, 2, 1);
-}
-
-/* Sound cells, so many an input at most and of so many classes, the bytes past them untouched. */
-static inline void fill_cells(uint8_t *t, uint32_t ports, uint32_t most, uint32_t classes) {
-    memset(t, 0, CELLS_BYTES);
+/* A sound older table with so many cells an input at most, the bytes past it untouched. */
+static inline void fill_cells(uint8_t *t, uint32_t ports, uint32_t most) {
+    memset(t, 0, CROSSBAR_OLD_TABLE_BYTES);
     put32(t, 1);
     put32(t + 4, ports);
     put32(t + 8, 100000 + pick(1000));
     for (uint32_t input = 0; input < ports; input++) {
-        uint32_t crossed[16] = {0}, used[16][8][4] = {{{0}}}, slot = pick(500), count = 0;
+        uint32_t crossed[16] = {0}, used[16][8] = {{0}}, slot = pick(500), count = 0;
         while (count < most) {
-            uint32_t place = 1 + pick(3), output = pick(ports), flow = pick(8), class = pick(classes), run = 1;
+            uint32_t place = 1 + pick(3), output = pick(ports), flow = pick(8), run = 1;
             if (place == 2 && crossed[output]) continue;
             if (place == 2) crossed[output] = 1;
             if (place == 1) {
-                if (used[output][flow][class]) {
+                if (used[output][flow]) {
                     if (count + 1 == most) break;
                     place = 3;
                 } else {
-                    used[output][flow][class] = 1;
+                    used[output][flow] = 1;
                     run = 1 + pick(4);
                 }
             }
@@ -119,7 +103,6 @@ static inline void fill_cells(uint8_t *t, uint32_t ports, uint32_t most, uint32_
                 r[0] = (uint8_t)output;
                 r[1] = (uint8_t)flow;
                 r[2] = (uint8_t)place;
-                r[3] = (uint8_t)class;
                 put32(r + 4, rank);
                 put32(r + 8, pick(1u << 31));
                 put32(r + 12, slot);
@@ -130,48 +113,26 @@ static inline void fill_cells(uint8_t *t, uint32_t ports, uint32_t most, uint32_
     }
 }
 
-/* A table of so many bytes with this number, these cells, and any marks and ranks. */
-static inline void fill_memory(uint8_t *t, size_t n, uint32_t number, uint32_t ports) {
+/* A table with this number, these cells, and any marks and ranks. */
+static inline void fill_memory(uint8_t *t, uint32_t number, uint32_t ports) {
     put32(t, number);
     put32(t + MEMORY_AT, pick(1u << ports));
-    for (size_t i = MEMORY_AT + 4; i < n; i++) t[i] = (uint8_t)(pick(4) ? 0 : pick(256));
+    for (size_t i = MEMORY_AT + 4; i < CROSSBAR_TABLE_BYTES; i++) t[i] = (uint8_t)(pick(4) ? 0 : pick(256));
 }
 
 /* A sound table with so many cells an input at most, the bytes past it untouched. */
 static inline void fill(uint8_t *t, uint32_t ports, uint32_t most) {
-    fill_cells(t + 4, ports, most, CROSSBAR_CLASSES);
-    fill_memory(t, CROSSBAR_TABLE_BYTES, 3, ports);
-}
-
-/* The same of a table of layout 1 or 2, by its length. */
-static inline void fill_older(uint8_t *t, size_t n, uint32_t ports, uint32_t most) {
-    fill_cells(n == CROSSBAR_TABLE_1_BYTES ? t : t + 4, ports, most, 1);
-    if (n == CROSSBAR_TABLE_2_BYTES) fill_memory(t, n, 2, ports);
-}
-
-/* A table with this number, these cells, and the memory of a table of layout 2 as that of class 0, or none. */
-static inline void widen(uint8_t *t, uint32_t number, const uint8_t *cells, const uint8_t *memory) {
-    memset(t, 0, CROSSBAR_TABLE_BYTES);
-    put32(t, number);
-    memcpy(t + 4, cells, CELLS_BYTES);
-    if (memory == NULL) return;
-    memcpy(t + MEMORY_AT, memory, 4 + LEFT_BYTES);
-    memcpy(t + MEMORY_AT + 4 + CROSSBAR_CLASSES * LEFT_BYTES, memory + 4 + LEFT_BYTES, GIVEN_BYTES);
-}
-
-/* What convert is to write of a table of layout 1 or 2, by its length. */
-static inline void convert_table(uint8_t *t, const uint8_t *old, size_t n) {
-    int first = n == CROSSBAR_TABLE_1_BYTES;
-    widen(t, 3, first ? old : old + 4, first ? NULL : old + MEMORY_AT);
+    fill_cells(t + 4, ports, most);
+    fill_memory(t, 2, ports);
 }
 
 /* Two entries of an input of a table made alike in one field or exchanged. */
 static inline void change_entries(uint8_t *t, uint32_t ports) {
-    static const int fields[][2] = {{0, 1}, {1, 1}, {2, 1}, {3, 1}, {4, 4}, {12, 4}, {0, 16}, {0, 2}, {0, 4}};
+    static const int fields[][2] = {{0, 1}, {1, 1}, {2, 1}, {4, 4}, {12, 4}, {0, 16}, {0, 2}};
     uint32_t input = pick(ports), count = t[20 + input];
     if (count == 0) return;
     uint8_t *a = record_at(t + 4, (int)input, (int)pick(count)), *b = record_at(t + 4, (int)input, (int)pick(count));
-    const int *f = fields[pick(9)];
+    const int *f = fields[pick(7)];
     uint8_t held[16];
     memcpy(held, a, 16);
     memcpy(a + f[0], b + f[0], (size_t)f[1]);
@@ -218,14 +179,14 @@ static inline void fresh(uint8_t *t, uint32_t number, uint32_t ports, uint32_t f
 static inline void test_converter(uint32_t (*converter)(const uint8_t *, size_t, uint8_t *, size_t), size_t size,
                                   const uint8_t *old, size_t old_bytes, const uint8_t *want, long where) {
     static uint8_t buffer[CROSSBAR_STORE_BYTES + 64], kept[CROSSBAR_STORE_BYTES + 64];
-    const size_t whole = size + 64, rooms[] = {size, size - 1, whole, 0};
-    memset(kept, 7, whole);
+    const size_t rooms[] = {size, size - 1, size + 64, 0};
+    memset(kept, 7, sizeof kept);
     for (size_t k = 0; k < sizeof rooms / sizeof *rooms; k++) {
-        memset(buffer, 7, whole);
+        memset(buffer, 7, sizeof buffer);
         uint32_t result = converter(old, old_bytes, buffer, rooms[k]);
         expect(result == (want == NULL ? 2 : rooms[k] < size ? 10u : 0u), "the result of a converter", where);
         int written = result == 0;
-        expect(memcmp(buffer, written ? want : kept, size) == 0, "what it writes", where);
-        expect(memcmp(buffer + size, kept, whole - size) == 0, "the bytes behind", where);
+        expect(memcmp(buffer, written ? want : kept, written ? size : sizeof buffer) == 0, "what it writes", where);
+        expect(memcmp(buffer + size, kept, sizeof buffer - size) == 0, "the bytes behind", where);
     }
 }

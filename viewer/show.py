@@ -2,8 +2,7 @@
 """Draws a show as one page: viewer/show.py TRACE OUTPUT > page.html
 
 TRACE is what the player read, OUTPUT what it wrote. The page has time across, the arrivals of each input above and the
-departures of each output below, with a line for as long as a cell waited. Where TRACE begins `form=2`, each cell has the
-number of its class beside it. It needs no network and no script.
+departures of each output below, with a line for as long as a cell waited. It needs no network and no script.
 """
 import re
 import sys
@@ -19,10 +18,7 @@ REFUSALS = {
     7: ("falling rank", "a cell of higher rank of the same flow is in the switch"),
     8: ("full", "64 cells of this input are in the switch"),
     9: ("bad line", "the text breaks the grammar"),
-    16: ("no such class", "a class is above 3"),
 }
-
-CLASSES = 4
 
 # Eight colours that stay apart for every common kind of colour vision. Inputs 8 to 15 take them again, drawn hollow.
 COLOURS = ["#3b5bdb", "#e8590c", "#66ccee", "#aa3377", "#f1c232", "#8ab17d", "#8d6e63", "#bbbbbb"]
@@ -42,10 +38,10 @@ class Cell:
 
     def __init__(self, line, arrived, fields):
         self.line, self.arrived, self.left = line, arrived, None
-        self.input, self.output, self.flow, self.of_class, self.rank, self.tag = fields
+        self.input, self.output, self.flow, self.rank, self.tag = fields
 
     def flow_of(self):
-        return self.input, self.output, self.flow, self.of_class
+        return self.input, self.output, self.flow
 
     def end(self, last):
         """The slot up to which it waited, in a show that ends before slot `last`."""
@@ -53,11 +49,10 @@ class Cell:
 
 
 class Show:
-    """What both texts say: whether cells have classes, the number of ports and the first slot (None if refused before), how
-    many slots were played, their cells, the cells of the refused block, and the refusal's number and line or None."""
+    """What both texts say: the number of ports and the first slot (None if refused before), how many slots were played,
+    their cells, the cells of the refused block, and the refusal's number and line or None."""
 
     def __init__(self):
-        self.classed = False
         self.ports = self.first = self.refusal = None
         self.played, self.cells, self.turned_back = 0, [], []
 
@@ -94,40 +89,25 @@ class Lines:
         return numbers
 
 
-def read_header(lines):
-    """Whether the text is of the second form, and ports and first slot or None."""
-    classed = lines.lines[:1] == ["form=2"]
-    lines.at += classed
-    return classed, lines.record(["ports", "first"])
-
-
-def read_cell(lines, ports, classed):
-    """The numbers of these two lines, flow, class, rank and tag of the next cell, or None. Without classes it is of class 0."""
-    fields = lines.record([*ports, "flow", *["class"] * classed, "rank", "tag"])
-    if fields is not None and not classed:
-        fields.insert(3, 0)
-    return fields
-
-
 def read_trace(trace):
-    """The header, and the arrivals of each block, as far as the trace keeps its grammar."""
+    """Ports and first slot, and the arrivals of each block, as far as the trace keeps its grammar."""
     lines, blocks = Lines(trace), []
-    classed, header = read_header(lines)
+    header = lines.record(["ports", "first"])
     while header is not None and lines.number("slot") is not None:
         block = []
         while len(block) < 16:
             line = lines.at + 1
-            fields = read_cell(lines, ["in", "out"], classed)
+            fields = lines.record(["in", "out", "flow", "rank", "tag"])
             if fields is None:
                 break
             block.append(Cell(line, len(blocks), fields))
         blocks.append(block)
-    return (classed, header), blocks
+    return header, blocks
 
 
-def read_departure(lines, classed):
-    """Input, output, flow, class, rank and tag of the next departure, or None."""
-    fields = read_cell(lines, ["out", "in"], classed)
+def read_departure(lines):
+    """Input, output, flow, rank and tag of the next departure, or None."""
+    fields = lines.record(["out", "in", "flow", "rank", "tag"])
     if fields is None:
         return None
     output, source, *rest = fields
@@ -150,8 +130,8 @@ def read_slots(show, lines, blocks):
         for cell in blocks[show.played]:
             show.cells.append(cell)
             waiting[cell.flow_of()].append(cell)
-        while (fields := read_departure(lines, show.classed)) is not None:
-            depart(show, waiting[fields[:4]], fields)
+        while (fields := read_departure(lines)) is not None:
+            depart(show, waiting[fields[:3]], fields)
         show.played += 1
 
 
@@ -166,13 +146,13 @@ def read_show(trace, output):
     """The show, or SystemExit if the two texts are not of one show."""
     show, lines = Show(), Lines(output)
     expected, blocks = read_trace(trace)
-    classed, header = read_header(lines)
+    header = lines.record(["ports", "first"])
     if header is None:
         show.refusal = read_refusal(lines)
         return show
-    if (classed, header) != expected:
-        sys.exit("show.py: form, ports or first of OUTPUT are not those of TRACE")
-    show.classed, (show.ports, show.first) = classed, header
+    if header != expected:
+        sys.exit("show.py: ports or first of OUTPUT are not those of TRACE")
+    show.ports, show.first = header
     read_slots(show, lines, blocks)
     if lines.number("end") is None:
         show.refusal = read_refusal(lines)
@@ -204,8 +184,7 @@ def fate(show, cell):
 
 def story(show, cell):
     """What is said of a cell under the pointer."""
-    of_class = f" class {cell.of_class}," if show.classed else ""
-    head = f"tag {cell.tag}: input {cell.input} to output {cell.output}, flow {cell.flow},{of_class} rank {cell.rank}"
+    head = f"tag {cell.tag}: input {cell.input} to output {cell.output}, flow {cell.flow}, rank {cell.rank}"
     return f"<title>{head}\n{fate(show, cell)}</title>"
 
 
@@ -313,13 +292,6 @@ def draw_arrival(x, y, look, output):
     return rect(x - 10, y - 9, 20, 18, f"mark {look}", 9) + text(x, y + 4, output, f"small {look}")
 
 
-def draw_class(x, y, of_class):
-    """The number of a class, in a circle."""
-    look = "first" if of_class == 0 else "later"
-    number = of_class if of_class < 10 else "…"
-    return f'<circle cx="{x}" cy="{y:g}" r="6.5" class="of-class {look}"/>' + text(x, y + 3, number, f"of-class {look}")
-
-
 def draw_block(x, y, look, source, slots, rank):
     """A departure's block: the input, the slots waited if any, and below the rank if it has room."""
     parts = [rect(x - BLOCK_WIDTH // 2, y, BLOCK_WIDTH, BLOCK, f"mark {look}")]
@@ -346,21 +318,13 @@ def draw_wait(layout, cell):
     return draw_line(layout.middle(cell.arrived), lane.row_height(cell), way, look)
 
 
-def draw_arrived(show, layout, cell, look, output):
-    """The arrival of a cell, and its class beside it."""
-    x, y = layout.arrival(cell)
-    return draw_arrival(x, y, look, output) + (draw_class(x + 14, y - 4, cell.of_class) if show.classed else "")
-
-
 def draw_cell(show, layout, cell):
-    parts = [draw_arrived(show, layout, cell, kind(cell.input), cell.output)]
+    parts = [draw_arrival(*layout.arrival(cell), kind(cell.input), cell.output)]
     if cell.left != cell.arrived:
         parts.append(draw_wait(layout, cell))
     if cell.left is not None:
-        x, y = layout.middle(cell.left), layout.lanes[cell.output].top + 6
-        parts.append(draw_block(x, y, kind(cell.input), cell.input, waited(cell), cell.rank))
-        if show.classed:
-            parts.append(draw_class(x - 20, y, cell.of_class))
+        y = layout.lanes[cell.output].top + 6
+        parts.append(draw_block(layout.middle(cell.left), y, kind(cell.input), cell.input, waited(cell), cell.rank))
     return f'<g class="cell">{story(show, cell)}{"".join(parts)}</g>'
 
 
@@ -378,7 +342,7 @@ def draw_lanes(show, layout):
 def draw_turned_back(show, layout, cell):
     """An arrival of the refused block, marked if the refusal names its line."""
     fault = "fault" if cell.line == show.refusal[1] else ""
-    mark = draw_arrived(show, layout, cell, f"refused {fault}", cell.output if cell.output < 100 else "…")
+    mark = draw_arrival(*layout.arrival(cell), f"refused {fault}", cell.output if cell.output < 100 else "…")
     return f"<g>{story(show, cell)}{mark}</g>"
 
 
@@ -429,21 +393,14 @@ def swatch(port):
     return key(28, 22, rect(1, 1, 26, 20, f"mark {look}") + text(14, 16, port, f"from {look}"), f"input {port}")
 
 
-def class_key(of_class):
-    words = f"class {of_class}, before all others" if of_class == 0 else f"class {of_class}"
-    return key(16, 22, draw_class(8, 11, of_class), words)
-
-
 def legend(show):
     inputs = "".join(swatch(port) for port in range(show.ports))
     arrival = key(24, 22, draw_arrival(12, 11, "plain", 1), "arrival for output 1")
     block = key(52, 40, draw_block(26, 2, "plain", 0, 2, 7), "departure from input 0 after 2 slots, rank 7")
     line = key(48, 22, draw_line(6, 16, "H42V2", "plain"), "the slots in which a cell waited")
-    classes = "".join(class_key(k) for k in range(CLASSES)) if show.classed else ""
-    told = "flow, class, rank and tag" if show.classed else "flow, rank and tag"
     return f"""<ul>{inputs}</ul>
-<ul>{arrival}{block}{line}{classes}</ul>
-<p class="hint">Point at a cell for its {told}.</p>"""
+<ul>{arrival}{block}{line}</ul>
+<p class="hint">Point at a cell for its flow, rank and tag.</p>"""
 
 
 def palette():
@@ -495,10 +452,6 @@ text.hollow, text.refused { fill: var(--ink) }
 .line.hollow { stroke-dasharray: 5 3 }
 .line.dense { stroke-width: 1.2 }
 .dot { fill: var(--colour) }
-.of-class.first { --colour: var(--fault); --letters: var(--page) }
-.of-class.later { --colour: var(--page); --letters: var(--ink) }
-circle.of-class { fill: var(--colour); stroke: var(--letters) }
-text.of-class { fill: var(--letters); font-size: 9px; font-weight: 700 }
 .plain { --colour: var(--rule); --letters: var(--ink) }
 .line.plain, .dot.plain { --colour: var(--quiet) }
 .cells:hover .cell:not(:hover) { opacity: 0.25 }

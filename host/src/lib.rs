@@ -1,27 +1,21 @@
 //! Safe calls of the crossbar: a switch, what a slot answers, the tally, cues to come back to, and refusals; and of the
-//! output-queued switch beside it. Either takes up the tables of older versions. The promises of the calls are in
-//! include/crossbar.h and include/oq.h, the layouts in docs/LAYOUT.md. It links target/staticlib/libcrossbar.a and liboq.a.
+//! output-queued switch beside it. Either takes up the tables of older versions. The promises of the calls are in include/crossbar.h and include/oq.h, the layouts in
+//! docs/LAYOUT.md. It links target/staticlib/libcrossbar.a and liboq.a.
 
 pub const PORTS: usize = 16;
-pub const CLASSES: usize = 4;
-pub const TABLE_BYTES: usize = 49448;
-pub const ARRIVAL_BYTES: usize = 24;
-pub const DEPARTURE_BYTES: usize = 32;
-pub const ANSWER_BYTES: usize = 648;
+pub const TABLE_BYTES: usize = 24680;
+pub const ARRIVAL_BYTES: usize = 20;
+pub const DEPARTURE_BYTES: usize = 28;
+pub const ANSWER_BYTES: usize = 584;
 pub const TALLY_BYTES: usize = 32;
 pub const CUES: usize = 4;
 pub const NAME_BYTES: usize = 8;
-pub const STORE_BYTES: usize = 197840;
-pub const OQ_TABLE_BYTES: usize = 49448;
-pub const OQ_ANSWER_BYTES: usize = 512;
-
-/// Sizes of older layouts, by their numbers.
-pub const TABLE_1_BYTES: usize = 16416;
-pub const TABLE_2_BYTES: usize = 24680;
-pub const STORE_1_BYTES: usize = 65712;
-pub const STORE_2_BYTES: usize = 98768;
-pub const OQ_TABLE_101_BYTES: usize = 16420;
-pub const OQ_TABLE_102_BYTES: usize = 24680;
+pub const STORE_BYTES: usize = 98768;
+pub const OQ_TABLE_BYTES: usize = 24680;
+pub const OQ_ANSWER_BYTES: usize = 448;
+pub const OLD_TABLE_BYTES: usize = 16416;
+pub const OLD_STORE_BYTES: usize = 65712;
+pub const OQ_OLD_TABLE_BYTES: usize = 16420;
 
 mod raw {
     extern "C" {
@@ -190,8 +184,6 @@ pub enum Refusal {
     BadWeight,
     /// rank end: at a fair output the rank made passes 4,294,967,295
     RankEnd,
-    /// no such class: a class is above 3
-    NoSuchClass,
 }
 
 impl Refusal {
@@ -203,7 +195,7 @@ impl Refusal {
         use Refusal::*;
         [
             BadSize, BrokenTable, ClockEnd, NoSuchPort, NoSuchFlow, InputOrder, RankOrder, Full, BadLine, ShortBuffer,
-            BadName, CuesFull, NoSuchCue, BadWeight, RankEnd, NoSuchClass,
+            BadName, CuesFull, NoSuchCue, BadWeight, RankEnd,
         ][n as usize - 1]
     }
 
@@ -233,14 +225,12 @@ impl Refused {
     }
 }
 
-/// The class is 0 to 3, and an output sends the smaller ones first. At a fair output the rank is a weight, 1 to 1,024, and the
-/// switch makes the rank of the cell.
+/// At a fair output the rank is a weight, 1 to 1,024, and the switch makes the rank of the cell.
 #[derive(Clone, Copy, Debug, PartialEq, Eq)]
 pub struct Arrival {
     pub input: u32,
     pub output: u32,
     pub flow: u32,
-    pub class: u32,
     pub rank: u32,
     pub tag: u32,
 }
@@ -248,7 +238,7 @@ pub struct Arrival {
 impl Arrival {
     pub fn bytes(&self) -> [u8; ARRIVAL_BYTES] {
         let mut out = [0; ARRIVAL_BYTES];
-        for (at, n) in [self.input, self.output, self.flow, self.class, self.rank, self.tag].iter().enumerate() {
+        for (at, n) in [self.input, self.output, self.flow, self.rank, self.tag].iter().enumerate() {
             out[4 * at..4 * at + 4].copy_from_slice(&n.to_le_bytes());
         }
         out
@@ -260,7 +250,6 @@ pub struct Cell {
     pub input: u32,
     pub output: u32,
     pub flow: u32,
-    pub class: u32,
     pub rank: u32,
     pub tag: u32,
     pub slot: u32,
@@ -310,7 +299,7 @@ impl Switch {
         Ok(Switch { table, tally: [0; TALLY_BYTES] })
     }
 
-    /// The switch of a table that a version before 4.0.0 kept, if it is sound. All of it is class 0.
+    /// The switch of a table that a version before 3.0.0 kept, if it is sound. No output is fair.
     pub fn from_old_table(old: &[u8]) -> Result<Switch, Refusal> {
         let mut table = vec![0; TABLE_BYTES];
         Refusal::of(convert_bytes(old, &mut table))?;
@@ -360,7 +349,7 @@ impl Cues {
         Ok(Cues { store })
     }
 
-    /// The cues of a store that a version before 4.0.0 kept, if it is sound. All of it is class 0.
+    /// The cues of a store that a version before 3.0.0 kept, if it is sound.
     pub fn from_old_store(old: &[u8]) -> Result<Cues, Refusal> {
         let mut store = vec![0; STORE_BYTES];
         Refusal::of(convert_cues_bytes(old, &mut store))?;
@@ -414,7 +403,7 @@ impl Oq {
         Ok(Oq { table, tally: [0; TALLY_BYTES] })
     }
 
-    /// The switch of a table that a version before 4.0.0 kept, if it is sound. All of it is class 0.
+    /// The switch of a table that a version before 3.0.0 kept, if it is sound. No output is fair.
     pub fn from_old_table(old: &[u8]) -> Result<Oq, Refusal> {
         let mut table = vec![0; OQ_TABLE_BYTES];
         Refusal::of(oq_convert_bytes(old, &mut table))?;
@@ -458,8 +447,7 @@ fn word(bytes: &[u8], at: usize) -> u32 {
 pub fn read_departures(bytes: &[u8], ports: usize) -> Vec<Option<Cell>> {
     let departure = |output: usize| {
         let at = |field: usize| word(bytes, DEPARTURE_BYTES * output + 4 * field);
-        let (input, output, flow, class) = (at(1), at(2), at(3), at(4));
-        (at(0) != 0).then(|| Cell { input, output, flow, class, rank: at(5), tag: at(6), slot: at(7) })
+        (at(0) != 0).then(|| Cell { input: at(1), output: at(2), flow: at(3), rank: at(4), tag: at(5), slot: at(6) })
     };
     (0..ports).map(departure).collect()
 }
@@ -469,7 +457,7 @@ pub fn read_answer(bytes: &[u8], ports: usize) -> Answer {
     let occupancies = |first: usize| (0..ports).map(|output| word(bytes, first + 4 * output)).collect();
     Answer {
         departures: read_departures(bytes, ports),
-        proposals: [word(bytes, 512), word(bytes, 516)],
-        occupancies: [occupancies(520), occupancies(584)],
+        proposals: [word(bytes, 448), word(bytes, 452)],
+        occupancies: [occupancies(456), occupancies(520)],
     }
 }

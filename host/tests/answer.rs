@@ -1,9 +1,9 @@
-//! What this crate reads out of an answer of either switch, on the show of scope 9.3, in class 2, worked out by hand.
+//! What this crate reads out of an answer of either switch, on the show of scope 9.3 worked out by hand.
 
 use crossbar_host::{read_answer, Answer, Arrival, Cell, Oq, Refusal, Refused, Switch, Tally, ANSWER_BYTES};
 
 fn arrival(input: u32, flow: u32, rank: u32, tag: u32) -> Arrival {
-    Arrival { input, output: 0, flow, class: 2, rank, tag }
+    Arrival { input, output: 0, flow, rank, tag }
 }
 
 /// The answer of a slot in which output 0 of three sends a cell, and the others nothing.
@@ -15,7 +15,7 @@ fn sends(cell: Cell, proposals: [u32; 2], [first, second]: [u32; 2]) -> Answer {
 #[test]
 fn the_show_of_scope_9_3() {
     let mut switch = Switch::start(3, 0, 0).unwrap();
-    let cell = |input, flow, rank, tag, slot| Cell { input, output: 0, flow, class: 2, rank, tag, slot };
+    let cell = |input, flow, rank, tag, slot| Cell { input, output: 0, flow, rank, tag, slot };
     let got = switch.slot(&[arrival(0, 0, 9, 1), arrival(1, 0, 1, 2), arrival(2, 0, 2, 3)]);
     assert_eq!(got, Ok(sends(cell(1, 0, 1, 2, 0), [0, 0], [3, 2])));
     let got = switch.slot(&[arrival(0, 1, 0, 4), arrival(2, 0, 1, 5)]);
@@ -26,23 +26,13 @@ fn the_show_of_scope_9_3() {
     assert_eq!(got, Ok(sends(cell(2, 0, 2, 3, 0), [0, 0], [0, 0])));
 }
 
-/// A class above 3 is refused by its name.
-#[test]
-fn a_fifth_class() {
-    let refused = Err(Refused { refusal: Refusal::NoSuchClass, place: 1 });
-    let arrivals = [Arrival { class: 4, ..arrival(0, 0, 9, 1) }];
-    assert_eq!(Switch::start(3, 0, 0).unwrap().slot(&arrivals), refused);
-    assert_eq!(Oq::start(3, 0, 0).unwrap().slot(&arrivals).err(), refused.err());
-    assert_eq!((Refusal::NoSuchClass.number(), Refusal::RankEnd.number()), (16, 15));
-}
-
 /// Each occupancy is read from its own place, and none for an output that the switch does not have.
 #[test]
 fn occupancies_in_their_places() {
     let mut bytes = [0; ANSWER_BYTES];
     for output in 0..16 {
-        bytes[520 + 4 * output] = 1 + output as u8;
-        bytes[584 + 4 * output] = 17 + output as u8;
+        bytes[456 + 4 * output] = 1 + output as u8;
+        bytes[520 + 4 * output] = 17 + output as u8;
     }
     for ports in 1..=16 {
         let last = ports as u32;
@@ -55,8 +45,7 @@ fn occupancies_in_their_places() {
 #[test]
 fn the_show_on_the_output_queued_switch() {
     let mut oq = Oq::start(3, 0, 0).unwrap();
-    let cell = |input, flow, rank, tag, slot| Cell { input, output: 0, flow, class: 2, rank, tag, slot };
-    let sends = |input, flow, rank, tag, slot| Ok(vec![Some(cell(input, flow, rank, tag, slot)), None, None]);
+    let sends = |input, flow, rank, tag, slot| Ok(vec![Some(Cell { input, output: 0, flow, rank, tag, slot }), None, None]);
     assert_eq!(oq.slot(&[arrival(0, 0, 9, 1), arrival(1, 0, 1, 2), arrival(2, 0, 2, 3)]), sends(1, 0, 1, 2, 0));
     let refused = Err(Refused { refusal: Refusal::RankOrder, place: 2 });
     assert_eq!(oq.slot(&[arrival(0, 1, 0, 4), arrival(2, 0, 1, 5)]), refused);

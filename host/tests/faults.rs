@@ -18,7 +18,7 @@ use traffic::{marks, Traffic};
 const MOST: u64 = 2_000_000;
 
 /// What demand 3 finds out: departures or refusals other than the PIFO switch's, or a limit passed.
-const AGAINST_DEMAND_3: [Fault; 23] = [
+const AGAINST_DEMAND_3: [Fault; 17] = [
     Fault::ArrivalsAtTheEnd,
     Fault::OneUrgentCellPerPairOfPorts,
     Fault::UrgentWithoutTheOutputsCrosspoints,
@@ -27,12 +27,6 @@ const AGAINST_DEMAND_3: [Fault; 23] = [
     Fault::UrgentAndScheduledBothSent,
     Fault::PhaseTwoLeftOut,
     Fault::Checks7And8OnTheListAlone,
-    Fault::FlowWithoutClass,
-    Fault::RankBeforeClass,
-    Fault::LargerClassFirst,
-    Fault::TwoClassesAsOne,
-    Fault::PifoByRankBeforeClass,
-    Fault::FallingRankAcrossClasses,
     Fault::PifoBySlotBeforeRank,
     Fault::CrossbarTieToSmallerInput,
     Fault::PifoTieToSmallerInput,
@@ -53,12 +47,11 @@ const AGAINST_THE_ANSWER: [Fault; 4] = [
     Fault::NoOccupancyWhereACellCameStraight,
 ];
 
-/// What answers or table of the output-queued switch find out, the first six of the PIFO switch that it is held to.
-const AGAINST_THE_OUTPUT_QUEUED: [Fault; 8] = [
+/// What answers or table of the output-queued switch find out, the first five of the PIFO switch that it is held to.
+const AGAINST_THE_OUTPUT_QUEUED: [Fault; 7] = [
     Fault::PifoSendsTheOldest,
     Fault::PifoKeepsADepartedCell,
     Fault::PifoSendsBeforeTheArrivalsJoin,
-    Fault::PifoByRankBeforeClass,
     Fault::PifoBySlotBeforeRank,
     Fault::PifoTieToSmallerInput,
     Fault::NewCellStandsFirst,
@@ -80,11 +73,9 @@ const CUES_AGAINST_DEMAND_3: [Fault; 10] = [
 ];
 
 /// Wrong rules of fair ranks that demand 3 finds out.
-const FAIR_AGAINST_DEMAND_3: [Fault; 8] = [
+const FAIR_AGAINST_DEMAND_3: [Fault; 6] = [
     Fault::GivenRankForgotten,
     Fault::LeftRankForgotten,
-    Fault::ClassesShareTheRankThatLeft,
-    Fault::ClassesShareTheRankGiven,
     Fault::StrideRoundedUp,
     Fault::OneMemoryPerPairOfPorts,
     Fault::RefusedSlotRemembers,

@@ -18,7 +18,7 @@ fn call(r: &mut Random, table: &mut Vec<u8>, s: &mut Crossbar, records: &[Record
     let mut arrivals = record_bytes(records);
     let broken = r.one_in(97);
     if broken {
-        let extra = 1 + r.below(23) as usize;
+        let extra = 1 + r.below(19) as usize;
         arrivals.extend(std::iter::repeat(7).take(extra));
     }
     let short = r.one_in(97);
@@ -118,8 +118,7 @@ fn damaged(r: &mut Random, table: &[u8]) {
 fn from_a_fresh_switch() {
     let slots = setting("SLOTS", 500_000);
     let mut r = Random(setting("SEED", 1) * 2 + 88172645463325252);
-    let (mut done, mut proposals, mut refused, mut crowd) = (0, 0u64, [0u64; 17], 0);
-    let mut classes = [0u64; 4];
+    let (mut done, mut proposals, mut refused, mut crowd) = (0, 0u64, [0u64; 16], 0);
     while done < slots {
         let ports = 1 + r.below(16) as u32;
         let first = r.pick(&[0, 1, 77, 4_000_000_000, CLOCK_END - 40, CLOCK_END]);
@@ -134,7 +133,6 @@ fn from_a_fresh_switch() {
                 Ok(a) => {
                     proposals += (a.proposals[0] + a.proposals[1]) as u64;
                     crowd = a.occupancies.iter().flatten().copied().fold(crowd, u32::max);
-                    a.departures.iter().flatten().for_each(|c| classes[c.class as usize] += 1);
                 }
                 Err((n, _)) => {
                     refused[n as usize] += 1;
@@ -147,10 +145,8 @@ fn from_a_fresh_switch() {
         }
     }
     println!("fresh: {done} slots, {proposals} proposals, at most {crowd} cells before an output, refused {refused:?}");
-    println!("cells sent by class: {classes:?}");
-    assert!(classes.iter().all(|&cells| cells > 0), "some class never left");
     assert!(proposals > 0 && crowd == 16, "nothing was matched, or no output had all its crosspoints filled");
-    assert!([2, 3, 4, 5, 6, 7, 8, 10, 14, 16].iter().all(|&n| refused[n] > 0), "some refusal never came: {refused:?}");
+    assert!([2, 3, 4, 5, 6, 7, 8, 10, 14].iter().all(|&n| refused[n] > 0), "some refusal never came: {refused:?}");
 }
 
 /// Sixteen ports and one rank, so that slot and turn alone decide: forty slots with arrivals, then until no cell waits or
@@ -185,7 +181,7 @@ fn equal_ranks() {
 fn from_any_sound_table() {
     let slots = setting("SLOTS", 500_000);
     let mut r = Random(setting("SEED", 1) * 2 + 1442695040888963407);
-    let (mut done, mut proposals, mut refused, mut crowd) = (0, 0u64, [0u64; 17], 0);
+    let (mut done, mut proposals, mut refused, mut crowd) = (0, 0u64, [0u64; 16], 0);
     while done < slots {
         let ports = 1 + r.below(16) as u32;
         let most = r.pick(&[3, 10, 30, 64]);
@@ -207,7 +203,7 @@ fn from_any_sound_table() {
     }
     println!("any sound table: {done} slots, {proposals} proposals, at most {crowd} cells before an output, {refused:?}");
     assert!(proposals > 0 && crowd == 16, "nothing was matched, or no output had all its crosspoints filled");
-    assert!([2, 3, 4, 5, 6, 7, 8, 10, 14, 15, 16].iter().all(|&n| refused[n] > 0), "some refusal never came: {refused:?}");
+    assert!([2, 3, 4, 5, 6, 7, 8, 10, 14, 15].iter().all(|&n| refused[n] > 0), "some refusal never came: {refused:?}");
 }
 
 /// Plays a slot on the table and gives its answer.
@@ -217,20 +213,16 @@ fn played(table: &mut [u8], records: &[Record]) -> [u8; ANSWER_BYTES] {
     answer
 }
 
-fn words(bytes: &[u8]) -> Vec<u32> {
-    bytes.chunks(4).map(|w| u32::from_le_bytes(w.try_into().unwrap())).collect()
-}
-
 /// All inputs of a fresh switch send to output 0 with one rank, in as many slots as there are rounds. The cells leave one a
 /// slot, round by round, and a round is their inputs.
 fn leave_in_turn(ports: u32, first: u32, rounds: &[&[u32]]) {
     let mut table = vec![0; TABLE_BYTES];
     assert_eq!(start_bytes(ports, first, 0, &mut table), 0);
-    let all: Vec<Record> = (0..ports).map(|input| [input, 0, 0, 0, 4, 0]).collect();
+    let all: Vec<Record> = (0..ports).map(|input| [input, 0, 0, 4, 0]).collect();
     for (k, input) in rounds.concat().into_iter().enumerate() {
         let answer = played(&mut table, if k < rounds.len() { &all } else { &[] });
-        let want = [1, input, 0, 0, 0, 4, 0, first + k as u32 / ports];
-        assert_eq!(words(&answer[..32]), want, "departure {k} of {ports} ports from {first}");
+        let departure: Vec<u32> = answer[..28].chunks(4).map(|w| u32::from_le_bytes(w.try_into().unwrap())).collect();
+        assert_eq!(departure, [1, input, 0, 0, 4, 0, first + k as u32 / ports], "departure {k} of {ports} ports from {first}");
     }
     assert_eq!(table[20..36], [0; 16], "cells are left");
 }
@@ -255,11 +247,12 @@ fn turns_by_hand() {
 /// other outputs.
 fn occupied(table: &mut [u8], records: &[Record], want: &[(usize, [u32; 2])]) {
     let answer = played(table, records);
-    let mut wanted = [[0; 16]; 2];
+    let mut words = [[0; 16]; 2];
     for &(output, [first, second]) in want {
-        (wanted[0][output], wanted[1][output]) = (first, second);
+        (words[0][output], words[1][output]) = (first, second);
     }
-    assert_eq!(words(&answer[520..648]), wanted.concat(), "after {records:?}");
+    let wanted: Vec<u8> = words.iter().flatten().flat_map(|n| n.to_le_bytes()).collect();
+    assert_eq!(answer[456..584], wanted, "after {records:?}");
 }
 
 #[test]
@@ -268,13 +261,13 @@ fn occupancies_by_hand() {
 
     // The show of scope 9.3. In slot 1 rank 0 goes straight while rank 9 stays, so that none is read before phase two.
     assert_eq!(start_bytes(3, 0, 0, &mut table), 0);
-    occupied(&mut table, &[[0, 0, 0, 0, 9, 1], [1, 0, 0, 0, 1, 2], [2, 0, 0, 0, 2, 3]], &[(0, [3, 2])]);
-    occupied(&mut table, &[[0, 0, 1, 0, 0, 4]], &[(0, [1, 1])]);
+    occupied(&mut table, &[[0, 0, 0, 9, 1], [1, 0, 0, 1, 2], [2, 0, 0, 2, 3]], &[(0, [3, 2])]);
+    occupied(&mut table, &[[0, 0, 1, 0, 4]], &[(0, [1, 1])]);
     occupied(&mut table, &[], &[]);
 
     // All inputs send to one output, which then takes two cells a slot.
     assert_eq!(start_bytes(16, 7, 0, &mut table), 0);
-    let all: Vec<Record> = (0..16).map(|input| [input, 15, 0, 0, 0, 0]).collect();
+    let all: Vec<Record> = (0..16).map(|input| [input, 15, 0, 0, 0]).collect();
     occupied(&mut table, &all, &[(15, [16, 15])]);
     for slot in 1..8 {
         occupied(&mut table, &[], &[(15, [16 - 2 * slot, 15 - 2 * slot])]);
@@ -283,30 +276,9 @@ fn occupancies_by_hand() {
 
     // Each output has its own: three inputs send to output 3, input 1 and then input 0 to output 1.
     assert_eq!(start_bytes(4, 0, 0, &mut table), 0);
-    let records = [[0, 3, 0, 0, 5, 0], [1, 1, 0, 0, 5, 0], [2, 3, 0, 0, 5, 0], [3, 3, 0, 0, 5, 0]];
+    let records = [[0, 3, 0, 5, 0], [1, 1, 0, 5, 0], [2, 3, 0, 5, 0], [3, 3, 0, 5, 0]];
     occupied(&mut table, &records, &[(1, [1, 0]), (3, [3, 2])]);
-    occupied(&mut table, &[[0, 1, 0, 0, 5, 0]], &[(1, [1, 0]), (3, [1, 0])]);
-}
-
-/// A cell of class 3 and rank 0 waits at its crosspoint. One of class 0 and a higher rank comes to the same input, in a flow of
-/// the same number: it is urgent, is matched and goes straight, and all of class 1 leave before the first.
-#[test]
-fn a_straight_cell_of_a_smaller_class() {
-    let mut table = vec![0; TABLE_BYTES];
-    assert_eq!(start_bytes(3, 0, 0, &mut table), 0);
-    for (records, departure, proposals, occupancies) in [
-        (&[[0, 0, 0, 3, 0, 1], [1, 0, 0, 0, 1, 2], [2, 0, 0, 1, 2, 3]][..], [1, 1, 0, 0, 0, 1, 2, 0], [0, 0], [3, 2]),
-        (&[[0, 0, 0, 0, 5, 4]], [1, 0, 0, 0, 0, 5, 4, 1], [1, 0], [1, 1]),
-        (&[[1, 0, 0, 1, 9, 5]], [1, 2, 0, 0, 1, 2, 3, 0], [0, 0], [1, 0]),
-        (&[], [1, 1, 0, 0, 1, 9, 5, 2], [0, 0], [0, 0]),
-        (&[], [1, 0, 0, 0, 3, 0, 1, 0], [0, 0], [0, 0]),
-        (&[], [0; 8], [0, 0], [0, 0]),
-    ] {
-        let answer = played(&mut table, records);
-        assert_eq!(words(&answer[..32]), departure, "after {records:?}");
-        assert_eq!(words(&answer[512..520]), proposals, "after {records:?}");
-        assert_eq!([words(&answer[520..524])[0], words(&answer[584..588])[0]], occupancies, "after {records:?}");
-    }
+    occupied(&mut table, &[[0, 1, 0, 5, 0]], &[(1, [1, 0]), (3, [1, 0])]);
 }
 
 /// A refusal, with its record's place, changes the tally alone.
@@ -322,16 +294,15 @@ fn refused(table: &[u8], records: &[Record], answer_room: usize, number: u64, pl
 fn a_refused_slot_keeps_its_bytes() {
     let mut table = vec![0; TABLE_BYTES];
     assert_eq!(start_bytes(3, CLOCK_END - 2, 0, &mut table), 0);
-    occupied(&mut table, &[[0, 0, 0, 0, 9, 1], [1, 0, 0, 0, 1, 2], [2, 0, 0, 0, 2, 3]], &[(0, [3, 2])]);
+    occupied(&mut table, &[[0, 0, 0, 9, 1], [1, 0, 0, 1, 2], [2, 0, 0, 2, 3]], &[(0, [3, 2])]);
     refused(&table, &[], ANSWER_BYTES - 1, 10, 0);
-    refused(&table, &[], 520, 10, 0);
+    refused(&table, &[], 456, 10, 0);
     refused(&table, &[], 0, 10, 0);
-    refused(&table, &[[0, 0, 1, 0, 0, 4], [3, 0, 0, 0, 0, 0]], ANSWER_BYTES, 4, 2);
-    refused(&table, &[[0, 0, 8, 0, 0, 4]], ANSWER_BYTES, 5, 1);
-    refused(&table, &[[0, 0, 7, 4, 0, 4]], ANSWER_BYTES, 16, 1);
-    refused(&table, &[[1, 0, 1, 0, 0, 4], [1, 0, 2, 0, 0, 4]], ANSWER_BYTES, 6, 2);
-    refused(&table, &[[0, 0, 0, 0, 8, 4]], ANSWER_BYTES, 7, 1);
-    occupied(&mut table, &[[0, 0, 1, 0, 0, 4]], &[(0, [1, 1])]);
+    refused(&table, &[[0, 0, 1, 0, 4], [3, 0, 0, 0, 0]], ANSWER_BYTES, 4, 2);
+    refused(&table, &[[0, 0, 8, 0, 4]], ANSWER_BYTES, 5, 1);
+    refused(&table, &[[1, 0, 1, 0, 4], [1, 0, 2, 0, 4]], ANSWER_BYTES, 6, 2);
+    refused(&table, &[[0, 0, 0, 8, 4]], ANSWER_BYTES, 7, 1);
+    occupied(&mut table, &[[0, 0, 1, 0, 4]], &[(0, [1, 1])]);
     refused(&table, &[], ANSWER_BYTES, 3, 0);
     table[16] = 1;
     refused(&table, &[], ANSWER_BYTES, 2, 0);

@@ -21,7 +21,7 @@ fn start_of_a_store() {
     for more in [0, 1, 64, STORE_BYTES] {
         let mut buffer = vec![7; STORE_BYTES + more];
         assert_eq!(cue_start_bytes(&mut buffer), 0);
-        assert!(buffer[0] == 3 && buffer[1..STORE_BYTES].iter().all(|&b| b == 0), "a fresh store");
+        assert!(buffer[0] == 2 && buffer[1..STORE_BYTES].iter().all(|&b| b == 0), "a fresh store");
         assert!(buffer[STORE_BYTES..].iter().all(|&b| b == 7), "bytes behind a store");
         assert_eq!(cue_check_bytes(&buffer), if more == 0 { 0 } else { 2 });
         assert_eq!(cue_check_bytes(&buffer[..STORE_BYTES]), 0);
@@ -152,31 +152,30 @@ fn stores_with_wrong_tables() {
     let mut tried = Tried::new();
     let [mut store, mut empty] = stores();
     // A free place is all zeros.
-    for at in (place(1)..place(1) + 64).chain((place(1) + 64..place(2)).step_by(5)).chain([place(2) - 1]) {
+    for at in place(1)..place(2) {
         tried.byte(&mut store, at, 1);
     }
-    for at in (16..STORE_BYTES).step_by(29) {
+    for at in (16..STORE_BYTES).step_by(7) {
         tried.byte(&mut empty, at, 128);
     }
     assert_eq!(tried.taken, 0);
     // A place with a cue holds a sound table: any byte of it is changed, and the proved check says what comes of it.
     for k in [0, 2, 3] {
         let table = place(k) + NAME_BYTES;
-        let (header, rest) = (table..table + 64, (table + 64..place(k) + PLACE_BYTES).step_by(19));
-        for at in header.chain(rest).chain(table + 16420..table + 16424) {
+        for at in (table..table + 64).chain((table + 64..place(k) + PLACE_BYTES).step_by(5)).chain(table + 16420..table + 16424) {
             let value = store[at] ^ 1;
             tried.byte(&mut store, at, value);
         }
         let broken = tried.refused;
-        for (at, value) in [(0, 1), (0, 2), (4, 2), (8, 0), (8, 17), (16, 1), (20, 65), (16419, 1), (16422, 1)] {
+        for (at, value) in [(0, 1), (4, 2), (8, 0), (8, 17), (16, 1), (20, 65), (16419, 1), (16422, 1)] {
             tried.byte(&mut store, table + at, value);
         }
-        assert_eq!(tried.refused, broken + 9, "a broken table in place {k}");
+        assert_eq!(tried.refused, broken + 8, "a broken table in place {k}");
         // No table at all.
         let mut none = store.clone();
         none[table..table + TABLE_BYTES].fill(0);
         tried.store(&mut none, "a name without a table");
-        assert_eq!(tried.refused, broken + 10);
+        assert_eq!(tried.refused, broken + 9);
     }
     println!("tables in a store: {} stores taken, {} refused", tried.taken, tried.refused);
     assert!(tried.taken > 0, "no tag or rank was changed");

@@ -3,7 +3,7 @@ import re
 
 from checks.files import fault_at, line_at, read
 
-EVERY = set(range(1, 17))
+EVERY = set(range(1, 16))
 # The players check no table, lend no buffer, have no cues and set no output fair.
 OF_THE_PLAYERS = EVERY - {2, 10, 11, 12, 13, 14, 15}
 # The host of the output-queued switch reads no text and has no cues.
@@ -115,7 +115,7 @@ def refusal_faults():
     scope, names = scope_refusals(), code_names()
     for path, numbers in (("docs/SCOPE.md", scope), ("crates/cell/src/lib.rt", names)):
         if set(numbers) != EVERY:
-            yield f"{path}:1: the refusals are not numbered from 1 to 16"
+            yield f"{path}:1: the refusals are not numbered from 1 to 15"
             return
     for path, here, numbers in tellings():
         yield from compare(path, here, scope, names, numbers)

@@ -1,6 +1,54 @@
 /* Writes the files of this folder, tables and cue stores of both switches in the layouts of version 2.3.0. It needs the
    headers and the static libraries of that version: write FOLDER. */
-#include "write.h"
+#include <stdio.h>
+#include <stdlib.h>
+#include <string.h>
+
+#include "crossbar.h"
+#include "oq.h"
+
+static const char *folder;
+
+static uint64_t seed = 88172645463325252u;
+
+static uint32_t pick(uint32_t below) {
+    seed ^= seed << 13;
+    seed ^= seed >> 7;
+    seed ^= seed << 17;
+    return (uint32_t)(seed % below);
+}
+
+static uint32_t get32(const uint8_t *p) {
+    return (uint32_t)p[0] | (uint32_t)p[1] << 8 | (uint32_t)p[2] << 16 | (uint32_t)p[3] << 24;
+}
+
+static void put32(uint8_t *p, uint32_t n) {
+    for (int i = 0; i < 4; i++) p[i] = (uint8_t)(n >> (8 * i));
+}
+
+static void expect(int held, const char *what) {
+    if (held) return;
+    fprintf(stderr, "FAILED: %s\n", what);
+    exit(1);
+}
+
+/* Bytes as text: how many, then each row of sixteen that is not all zero, where it begins and its bytes. */
+static void write_file(const char *name, const uint8_t *bytes, size_t size) {
+    static const uint8_t zeros[16];
+    char path[256];
+    snprintf(path, sizeof path, "%s/%s.txt", folder, name);
+    FILE *file = fopen(path, "w");
+    expect(file != NULL, path);
+    fprintf(file, "%zu\n", size);
+    for (size_t at = 0; at < size; at += 16) {
+        size_t row = size - at < 16 ? size - at : 16;
+        if (memcmp(bytes + at, zeros, row) == 0) continue;
+        fprintf(file, "%zu ", at);
+        for (size_t i = 0; i < row; i++) fprintf(file, "%02x", bytes[at + i]);
+        fprintf(file, "\n");
+    }
+    expect(fclose(file) == 0, path);
+}
 
 /* Either switch: where the table of its cells begins, and its slot. */
 struct engine {
@@ -31,6 +79,13 @@ static void run(const struct engine *e, uint8_t *table, uint32_t outputs, int lo
         size += CROSSBAR_ARRIVAL_BYTES;
     }
     expect(e->slot(table, e->table_bytes, arrivals, size, answer, sizeof answer, tally, sizeof tally) == 0, "a slot");
+}
+
+/* How many cells are in each place: 1 in lists, 2 at crosspoints, 3 in buffers. */
+static void count(const uint8_t *core, uint32_t counts[4]) {
+    memset(counts, 0, 4 * sizeof *counts);
+    for (uint32_t input = 0; input < 16; input++)
+        for (uint32_t k = 0; k < core[16 + input]; k++) counts[core[32 + 1024 * input + 16 * k + 2]]++;
 }
 
 /* A switch of four ports with cells in every place that it has. */

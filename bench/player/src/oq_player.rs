@@ -19,9 +19,9 @@ impl play::Switch for OutputQueued {
         self.queues.slot(arrivals.as_chunks().0, &mut self.departures)
     }
 
-    fn departures(&self) -> impl Iterator<Item = [u32; 6]> {
+    fn departures(&self) -> impl Iterator<Item = [u32; 5]> {
         (0..).zip(&self.departures).filter_map(|(output, departure)| {
-            departure.map(|cell| [output, cell.input(), cell.flow(), cell.class(), cell.rank(), cell.tag()])
+            departure.map(|cell| [output, cell.input(), cell.flow(), cell.rank(), cell.tag()])
         })
     }
 }

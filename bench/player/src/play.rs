@@ -1,6 +1,5 @@
 //! A player of traces in plain Rust, written for speed from docs/SCOPE.md: the proved players are timed beside it. It reads
-//! standard input through a window and needs no more memory for a longer trace. A trace of the second form, which begins with
-//! the line `form=2`, tells the class of each cell; in one of the first form every class is 0.
+//! standard input through a window and needs no more memory for a longer trace.
 
 use plain_switch::ARRIVAL_BYTES;
 use std::io::{stdin, stdout, Read, Write};
@@ -13,22 +12,14 @@ pub trait Switch: Sized {
     /// Runs a slot: 0, or the refusal and 256 times the record's place.
     fn slot(&mut self, arrivals: &[u8]) -> u64;
 
-    /// What the last slot sent, outputs rising: output, input, flow, class, rank and tag.
-    fn departures(&self) -> impl Iterator<Item = [u32; 6]>;
+    /// What the last slot sent, outputs rising: output, input, flow, rank and tag.
+    fn departures(&self) -> impl Iterator<Item = [u32; 5]>;
 }
 
 const WINDOW_BYTES: usize = 1 << 16;
 
 /// No block and the key after it are longer.
 const BLOCK_BYTES: usize = 2048;
-
-/// The first line of a trace of the second form.
-const FORM: &[u8] = b"form=2\n";
-
-/// The keys of an arrival and of a departure. The one in the middle stands in a trace of the second form alone.
-const CLASS: usize = 3;
-const ARRIVAL: [&[u8]; 6] = [b"in=", b"out=", b"flow=", b"class=", b"rank=", b"tag="];
-const DEPARTURE: [&[u8]; 6] = [b"out=", b"in=", b"flow=", b"class=", b"rank=", b"tag="];
 
 /// Why the rest of the trace is not played: the refusal's number, and the line that it names.
 struct Refused {
@@ -86,23 +77,13 @@ impl Reader {
         if self.number(key)? == number { Ok(()) } else { Err(bad) }
     }
 
-    /// Passes the first line of a trace of the second form, if it stands there.
-    fn form(&mut self) -> bool {
-        let classed = self.rest().starts_with(FORM);
-        if classed {
-            self.from += FORM.len();
-            self.line += 1;
-        }
-        classed
-    }
-
     /// Reads the block of a slot into the arrivals and gives their number of bytes.
-    fn block<const CLASSED: bool>(&mut self, slot: u32, arrivals: &mut [u8; 16 * ARRIVAL_BYTES]) -> Result<usize, Refused> {
+    fn block(&mut self, slot: u32, arrivals: &mut [u8; 16 * ARRIVAL_BYTES]) -> Result<usize, Refused> {
         self.expected(b"slot=", slot)?;
         let mut bytes = 0;
         while bytes < arrivals.len() && self.rest().starts_with(b"in=") {
-            for (field, key) in ARRIVAL.iter().enumerate() {
-                let number = if field == CLASS && !CLASSED { 0 } else { self.number(key)? };
+            for key in [&b"in="[..], b"out=", b"flow=", b"rank=", b"tag="] {
+                let number = self.number(key)?;
                 arrivals[bytes..bytes + 4].copy_from_slice(&number.to_le_bytes());
                 bytes += 4;
             }
@@ -144,13 +125,11 @@ fn put(out: &mut Vec<u8>, key: &[u8], mut number: u64) {
     out.push(b'\n');
 }
 
-fn put_slot<const CLASSED: bool>(out: &mut Vec<u8>, clock: u32, switch: &impl Switch) {
+fn put_slot(out: &mut Vec<u8>, clock: u32, switch: &impl Switch) {
     put(out, b"slot=", clock as u64);
     for departure in switch.departures() {
-        for (field, (key, number)) in DEPARTURE.iter().zip(departure).enumerate() {
-            if field != CLASS || CLASSED {
-                put(out, key, number as u64);
-            }
+        for (key, field) in [&b"out="[..], b"in=", b"flow=", b"rank=", b"tag="].into_iter().zip(departure) {
+            put(out, key, field as u64);
         }
     }
 }
@@ -161,47 +140,29 @@ fn write(out: &mut Vec<u8>) {
 }
 
 fn play<S: Switch>(reader: &mut Reader, out: &mut Vec<u8>) -> Result<(), Refused> {
+    let mut arrivals = [0; 16 * ARRIVAL_BYTES];
+    let bad_size = Refused { number: 1, line: 1 };
     reader.fill();
-    let classed = reader.form();
-    let bad_size = Refused { number: 1, line: reader.line };
     let ports = reader.number(b"ports=")?;
     if !(1..=16).contains(&ports) {
         return Err(bad_size);
     }
     let first = reader.number(b"first=")?;
-    let switch = S::fresh(ports, first).ok_or(bad_size)?;
-    if classed {
-        out.extend_from_slice(FORM);
-    }
+    let mut switch = S::fresh(ports, first).ok_or(bad_size)?;
     put(out, b"ports=", ports as u64);
     put(out, b"first=", first as u64);
-    if classed {
-        play_slots::<S, true>(reader, out, switch, first)
-    } else {
-        play_slots::<S, false>(reader, out, switch, first)
-    }
-}
-
-fn play_slots<S: Switch, const CLASSED: bool>(
-    reader: &mut Reader,
-    out: &mut Vec<u8>,
-    mut switch: S,
-    first: u32,
-) -> Result<(), Refused> {
-    let lines = if CLASSED { 6 } else { 5 };
-    let mut arrivals = [0; 16 * ARRIVAL_BYTES];
     let mut clock = first;
     reader.fill();
     while !reader.rest().starts_with(b"end=") {
         let slot_line = reader.line;
-        let bytes = reader.block::<CLASSED>(clock, &mut arrivals)?;
+        let bytes = reader.block(clock, &mut arrivals)?;
         let result = switch.slot(&arrivals[..bytes]);
         if result != 0 {
             let (number, place) = (result % 256, result / 256);
-            let line = if place == 0 { slot_line } else { slot_line + 1 + lines * (place - 1) };
+            let line = if place == 0 { slot_line } else { slot_line + 5 * place - 4 };
             return Err(Refused { number, line });
         }
-        put_slot::<CLASSED>(out, clock, &switch);
+        put_slot(out, clock, &switch);
         if out.len() >= WINDOW_BYTES {
             write(out);
         }

@@ -21,10 +21,10 @@ impl play::Switch for Crossbar {
         trusted_slot(&mut self.table, arrivals, &mut self.answer, &mut self.tally)
     }
 
-    fn departures(&self) -> impl Iterator<Item = [u32; 6]> {
+    fn departures(&self) -> impl Iterator<Item = [u32; 5]> {
         self.answer[..PORTS * DEPARTURE_BYTES].chunks_exact(DEPARTURE_BYTES).filter_map(|departure| {
             let field = |at: usize| u32::from_le_bytes(departure[at..at + 4].try_into().unwrap());
-            (field(0) != 0).then(|| [8, 4, 12, 16, 20, 24].map(field))
+            (field(0) != 0).then(|| [field(8), field(4), field(12), field(16), field(20)])
         })
     }
 }

@@ -1,14 +1,11 @@
 //! What both plain switches do with a cell in the table: how it is written there, the order in which cells leave an output,
 //! as one number, and their departure.
 
-use crate::table::{
-    clock, count, offset, priority, rank, record, slot, Record, Table, CELLS, ENTRIES, PORTS, RECORD_BYTES,
-};
+use crate::table::{clock, count, offset, priority, record, slot, Record, Table, CELLS, ENTRIES, PORTS, RECORD_BYTES};
 use crate::{Arrival, Departure};
 
-/// A cell as one number: class, rank, slot, the turn of its input, and last the number of its entry. The cell with the
-/// smaller number goes first. Class and rank are the upper half of it; rank and slot where all cells are of class 0, which
-/// takes fewer steps (`CLASSED` is false).
+/// A cell as one number: rank and slot in the upper half, the turn of its input on top of the lower half, and last the
+/// number of its entry. The cell with the smaller number goes first.
 pub type Cell = u128;
 
 pub const NONE: Cell = u128::MAX;
@@ -26,13 +23,12 @@ pub fn position_of(cell: Cell) -> usize {
 }
 
 /// What a turn counts: an Nth of 2^64, rounded down to a multiple of ENTRIES. As numbers wrap at 2^64, (input - slot) times
-/// this is the turn of the input times this, without a division. Rounding adds less than 2^43 to it, so its upper half tells
-/// turns apart as well.
+/// this is the turn of the input times this, without a division. Rounding adds less than 2^43 to it.
 #[derive(Clone, Copy)]
-pub struct Turn<const CLASSED: bool>(u64);
+pub struct Turn(u64);
 
-impl<const CLASSED: bool> Turn<CLASSED> {
-    pub fn new(ports: usize) -> Self {
+impl Turn {
+    pub fn new(ports: usize) -> Turn {
         let nth = u64::MAX / ports as u64;
         Turn(nth - nth % ENTRIES as u64)
     }
@@ -41,13 +37,7 @@ impl<const CLASSED: bool> Turn<CLASSED> {
     pub fn cell(self, input: usize, at: usize, r: &Record) -> Cell {
         let entry = CELLS * input + at;
         let turns = self.0.wrapping_mul((input as u64).wrapping_sub(slot(r) as u64));
-        let (upper, lower) = if CLASSED {
-            let turns = turns >> 32 & !(ENTRIES as u64 - 1);
-            ((r[3] as u64) << 32 | rank(r) as u64, (slot(r) as u64) << 32 | turns)
-        } else {
-            (priority(r), turns)
-        };
-        (upper as u128) << 64 | (lower | entry as u64) as u128
+        (priority(r) as u128) << 64 | (turns | entry as u64) as u128
     }
 }
 
@@ -55,9 +45,9 @@ impl<const CLASSED: bool> Turn<CLASSED> {
 pub fn write_cell(table: &mut Table, entry: usize, r: &Arrival, rank: u32, place: u8) {
     let (from, slot) = (offset(entry), clock(table).to_le_bytes());
     let e = &mut table[from..from + RECORD_BYTES];
-    e[..4].copy_from_slice(&[r[4], r[8], place, r[12]]);
+    e[..4].copy_from_slice(&[r[4], r[8], place, 0]);
     e[4..8].copy_from_slice(&rank.to_le_bytes());
-    e[8..12].copy_from_slice(&r[20..]);
+    e[8..12].copy_from_slice(&r[16..20]);
     e[12..].copy_from_slice(&slot);
     table[16 + entry / CELLS] += 1;
 }
@@ -104,6 +94,5 @@ fn write_departure(departure: &mut Departure, input: usize, r: &Record) {
     departure[4] = input as u8;
     departure[8] = r[0];
     departure[12] = r[1];
-    departure[16] = r[3];
-    departure[20..].copy_from_slice(&r[4..]);
+    departure[16..].copy_from_slice(&r[4..]);
 }

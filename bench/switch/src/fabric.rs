@@ -40,16 +40,15 @@ struct Straight {
     outputs: u16,
 }
 
-/// It is `CLASSED` unless all cells, those that arrive too, are of class 0.
-pub struct Fabric<'a, const CLASSED: bool> {
+pub struct Fabric<'a> {
     table: &'a mut Table,
     rows: [Row; PORTS],
     ports: usize,
-    turn: Turn<CLASSED>,
+    turn: Turn,
 }
 
-impl<'a, const CLASSED: bool> Fabric<'a, CLASSED> {
-    pub fn new(table: &'a mut Table, rows: [Row; PORTS]) -> Self {
+impl<'a> Fabric<'a> {
+    pub fn new(table: &'a mut Table, rows: [Row; PORTS]) -> Fabric<'a> {
         let ports = ports(table);
         Fabric { table, rows, ports, turn: Turn::new(ports) }
     }

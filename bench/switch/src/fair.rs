@@ -1,14 +1,15 @@
 //! The table as a host keeps it, by docs/LAYOUT.md: a number, the cells, and the memory of fair outputs; and the ranks that
 //! are made there.
 
-use crate::table::{ports, word, Table, CELL_TABLE_BYTES, CLASSES, FLOWS, PORTS};
+use crate::table::{ports, word, Table, CELL_TABLE_BYTES, PORTS};
 use crate::{start_cells, Arrival, Departure, BAD_WEIGHT, NO_SUCH_PORT, RANK_END, SHORT_BUFFER};
 
 const NUMBER_BYTES: usize = 4;
-const MEMORY_BYTES: usize = 4 * (1 + CLASSES * PORTS + CLASSES * PORTS * PORTS * FLOWS);
+const FLOWS: usize = 8;
+const MEMORY_BYTES: usize = 4 * (1 + PORTS + PORTS * PORTS * FLOWS);
 pub const TABLE_BYTES: usize = NUMBER_BYTES + CELL_TABLE_BYTES + MEMORY_BYTES;
 
-/// The marks, for each class the rank that left each output, and for each class the rank given to each flow.
+/// The marks, the rank that left each output, and the rank given to each flow.
 pub type Memory = [u8; MEMORY_BYTES];
 
 /// By weight; there is none for 0.
@@ -69,16 +70,16 @@ pub fn marks(memory: &Memory) -> u32 {
     word(memory, 0)
 }
 
-/// The rank of a record's cell, or the refusal. Its input, output, flow and class are in range.
+/// The rank of a record's cell, or the refusal. Its input, output and flow are in range.
 pub fn made_rank(memory: &Memory, r: &Arrival) -> Result<u32, u32> {
-    let (output, weight) = (word(r, 4), word(r, 16));
+    let (output, weight) = (word(r, 4), word(r, 12));
     if marks(memory) >> output & 1 == 0 {
         return Ok(weight);
     }
     if weight == 0 || weight > 1024 {
         return Err(BAD_WEIGHT);
     }
-    let start = word(memory, given_at(r)).max(word(memory, left_at(output as usize, r[12])));
+    let start = word(memory, given_at(r)).max(word(memory, left_at(output as usize)));
     start.checked_add(STRIDES[weight as usize]).ok_or(RANK_END)
 }
 
@@ -92,17 +93,16 @@ pub fn remember(memory: &mut Memory, records: &[Arrival], ranks: &[u32; PORTS], 
     }
     for (output, d) in departures.iter().enumerate() {
         if marks >> output & 1 != 0 && d[0] != 0 {
-            memory[left_at(output, d[16])..][..4].copy_from_slice(&d[20..24]);
+            memory[left_at(output)..][..4].copy_from_slice(&d[16..20]);
         }
     }
 }
 
-fn left_at(output: usize, class: u8) -> usize {
-    4 + 4 * (PORTS * (class as usize % CLASSES) + output % PORTS)
+fn left_at(output: usize) -> usize {
+    4 + 4 * (output % PORTS)
 }
 
 fn given_at(r: &Arrival) -> usize {
-    let [input, output, flow, class] = [r[0], r[4], r[8], r[12]].map(usize::from);
-    let pair = PORTS * (PORTS * (class % CLASSES) + input % PORTS) + output % PORTS;
-    4 + 4 * CLASSES * PORTS + 4 * (FLOWS * pair + flow % FLOWS)
+    let [input, output, flow] = [r[0], r[4], r[8]].map(usize::from);
+    4 + 4 * PORTS + 4 * (FLOWS * (PORTS * (input % PORTS) + output % PORTS) + flow % FLOWS)
 }

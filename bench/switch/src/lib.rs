@@ -12,13 +12,13 @@ mod table;
 
 use fabric::Fabric;
 use fair::{framed, framed_mut, made_rank, marks, remember, start_framed, Memory};
-use table::{count, entries, rows, word, Row, CELLS};
+use table::{count, entries, rows, word, CELLS};
 
 pub use fair::TABLE_BYTES;
 pub use oq::{oq_check, oq_slot, oq_start, OQ_ANSWER_BYTES, OQ_TABLE_BYTES};
 pub use table::{Table, CELL_TABLE_BYTES, PORTS};
-pub const ARRIVAL_BYTES: usize = 24;
-pub const DEPARTURE_BYTES: usize = 32;
+pub const ARRIVAL_BYTES: usize = 20;
+pub const DEPARTURE_BYTES: usize = 28;
 pub const ANSWER_BYTES: usize = PORTS * DEPARTURE_BYTES + PROPOSALS_BYTES + 2 * PORTS * 4;
 pub const TALLY_BYTES: usize = 32;
 
@@ -38,9 +38,8 @@ const FULL: u32 = 8;
 const SHORT_BUFFER: u32 = 10;
 const BAD_WEIGHT: u32 = 14;
 const RANK_END: u32 = 15;
-const NO_SUCH_CLASS: u32 = 16;
 
-const NUMBER: u32 = 3;
+const NUMBER: u32 = 2;
 
 /// A refusal and its record's place, from 1, or 0.
 type Refused = (u32, usize);
@@ -125,34 +124,8 @@ fn run<const TRUSTED: bool>(
     }
     let position = |input: usize, r: &Arrival, rank| position(table, input, rows[input].listed, r, rank);
     let Accepted { ranks, positions } = accept(table, memory.as_deref(), records, position)?;
-    let kinds = rows.iter().fold(0, |kinds, row| kinds | row.kinds);
-    let arrivals = records.iter().zip(ranks).zip(positions);
-    let departed = if is_classed(kinds, records) {
-        pass::<true>(table, &rows, arrivals, answer)
-    } else {
-        pass::<false>(table, &rows, arrivals, answer)
-    };
-    if let Some(memory) = memory {
-        remember(memory, records, &ranks, answer.as_chunks().0);
-    }
-    Ok((records.len() as u64, departed))
-}
-
-/// Whether some cell is of another class than 0: one of those that wait, by the bits that some first word of their records
-/// has, or one that arrives.
-fn is_classed(kinds: u32, records: &[Arrival]) -> bool {
-    kinds >> 24 != 0 || records.iter().any(|r| r[12] != 0)
-}
-
-/// Arrival, phases and departure, and the answer: the number of cells sent.
-fn pass<'a, const CLASSED: bool>(
-    table: &mut Table,
-    rows: &[Row; PORTS],
-    arrivals: impl Iterator<Item = ((&'a Arrival, u32), usize)>,
-    answer: &mut [u8; ANSWER_BYTES],
-) -> u64 {
-    let mut fabric = Fabric::<CLASSED>::new(table, *rows);
-    for ((r, rank), at) in arrivals {
+    let mut fabric = Fabric::new(table, rows);
+    for ((r, rank), at) in records.iter().zip(ranks).zip(positions) {
         fabric.arrive(r, rank, at);
     }
     let ([first, second], buffers) = fabric.run_phases();
@@ -161,7 +134,11 @@ fn pass<'a, const CLASSED: bool>(
     write_words(proposals, &[first.proposals, second.proposals]);
     write_words(occupancies, [first.occupancies, second.occupancies].as_flattened());
     departures.fill(0);
-    fabric.depart(&buffers, departures.as_chunks_mut().0)
+    let departed = fabric.depart(&buffers, departures.as_chunks_mut().0);
+    if let Some(memory) = memory {
+        remember(memory, records, &ranks, departures.as_chunks().0);
+    }
+    Ok((records.len() as u64, departed))
 }
 
 fn write_words(bytes: &mut [u8], words: &[u32]) {
@@ -188,7 +165,7 @@ fn accept(
     let (mut ranks, mut positions) = ([0; PORTS], [0; PORTS]);
     let mut lowest = 0;
     for (k, r) in records.iter().enumerate() {
-        let [input, output, flow, class] = [0, 4, 8, 12].map(|at| word(r, at));
+        let [input, output, flow] = [0, 4, 8].map(|at| word(r, at));
         let refused = |refusal| (refusal, k + 1);
         if input >= ports || output >= ports {
             return Err(refused(NO_SUCH_PORT));
@@ -196,15 +173,12 @@ fn accept(
         if flow > 7 {
             return Err(refused(NO_SUCH_FLOW));
         }
-        if class > 3 {
-            return Err(refused(NO_SUCH_CLASS));
-        }
         if input < lowest {
             return Err(refused(INPUT_ORDER));
         }
         lowest = input + 1;
         let input = input as usize;
-        ranks[k] = memory.map_or(Ok(word(r, 16)), |memory| made_rank(memory, r)).map_err(refused)?;
+        ranks[k] = memory.map_or(Ok(word(r, 12)), |memory| made_rank(memory, r)).map_err(refused)?;
         positions[k] = position(input, r, ranks[k]).ok_or(refused(RANK_ORDER))?;
         if count(table, input) == CELLS {
             return Err(refused(FULL));
@@ -216,9 +190,10 @@ fn accept(
 /// Right after the last cell of the record's flow in the list, or the front; none if a cell of its flow has a higher
 /// rank.
 fn position(table: &Table, input: usize, listed: u64, r: &Arrival, rank: u32) -> Option<usize> {
+    let flow = u16::from_le_bytes([r[4], r[8]]);
     let mut position = 0;
     for (at, e) in entries(table, input).iter().enumerate() {
-        if [e[0], e[1]] == [r[4], r[8]] && e[3] == r[12] {
+        if table::flow(e) == flow {
             if table::rank(e) > rank {
                 return None;
             }
@@ -251,6 +226,3 @@ mod oq_slots;
 #[cfg(test)]
 #[path = "../../../host/tests/fair.rs"]
 mod fair_slots;
-#[cfg(test)]
-#[path = "../../../host/tests/classes.rs"]
-mod classes;

@@ -8,9 +8,6 @@
 //! Or they starve: a cell goes to any output, and its rank is its flow number, so that cells of the last flows wait for
 //! hundreds of slots while others come. Or they tie: a cell goes to any output, and every rank is 0, so that the turn
 //! decides among cells of one slot. Or every output is fair, and a flow has the weight of its number.
-//!
-//! All these are of class 0. Or all cells are music, of class 1, or one in eight is a safety call of class 0 and the others
-//! have any later class.
 
 use crate::table::{clock, count, Table, CELLS, PORTS};
 
@@ -25,7 +22,6 @@ pub struct Load {
     pub fair: u32,
     /// A cell's rank, or its weight, by the clock and its flow number.
     rank: fn(u32, u32) -> u32,
-    class: fn(&mut Random) -> u32,
     random: Random,
 }
 
@@ -35,7 +31,7 @@ impl Load {
         let burst = (cells as u32 / 5).max(2);
         let most = (cells + cells / 16 + 1).min(CELLS);
         let rank = |clock, flow| clock + DELAY * flow;
-        Load { most, burst, any_output: false, fair: 0, rank, class: |_| 0, random: Random(88172645463325252) }
+        Load { most, burst, any_output: false, fair: 0, rank, random: Random(88172645463325252) }
     }
 
     pub fn starving(cells: usize) -> Load {
@@ -51,16 +47,6 @@ impl Load {
         Load { fair: (1 << PORTS) - 1, rank: |_, flow| 64 + 128 * flow, ..Load::new(cells) }
     }
 
-    /// The same, all of class 1.
-    pub fn music(self) -> Load {
-        Load { class: |_| 1, ..self }
-    }
-
-    /// The same, of all classes.
-    pub fn mixed(self) -> Load {
-        Load { class: |random| if random.below(8) == 0 { 0 } else { 1 + random.below(3) }, ..self }
-    }
-
     /// The arrivals of the next slot: a cell of every input that has room, one in ten (or each) to any output.
     pub fn arrivals(&mut self, table: &Table) -> Vec<u8> {
         let clock = clock(table);
@@ -72,8 +58,7 @@ impl Load {
             let flow = self.random.below(8);
             let rank = (self.rank)(clock, flow);
             let tag = self.random.below(u32::MAX);
-            let class = (self.class)(&mut self.random);
-            for field in [input as u32, output, flow, class, rank, tag] {
+            for field in [input as u32, output, flow, rank, tag] {
                 records.extend(field.to_le_bytes());
             }
         }

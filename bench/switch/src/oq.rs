@@ -7,11 +7,9 @@ use crate::table::{
     self, all_zero, clock, count, entries, output, ports, section, share_slot, slot, word, Record, Table, BUFFERED, CELLS,
     PORTS, UNUSED_BITS,
 };
-use crate::{
-    accept, counted, is_classed, Accepted, Arrival, Refused, BROKEN_TABLE, CLOCK_END, DEPARTURE_BYTES, SHORT_BUFFER,
-};
+use crate::{accept, counted, Accepted, Arrival, Refused, BROKEN_TABLE, CLOCK_END, DEPARTURE_BYTES, SHORT_BUFFER};
 
-const NUMBER: u32 = 103;
+const NUMBER: u32 = 102;
 
 pub const OQ_TABLE_BYTES: usize = TABLE_BYTES;
 pub const OQ_ANSWER_BYTES: usize = PORTS * DEPARTURE_BYTES;
@@ -24,7 +22,7 @@ pub fn oq_start(ports: u32, first: u32, fair: u32, buffer: &mut [u8]) -> u32 {
 /// 0 for the table of a sound state, 2 for any other bytes.
 pub fn oq_check(table: &[u8]) -> u32 {
     match framed(NUMBER, table) {
-        Some((cells, _)) if kinds(cells).is_some() => 0,
+        Some((cells, _)) if sound(cells) => 0,
         _ => BROKEN_TABLE,
     }
 }
@@ -37,7 +35,9 @@ pub fn oq_slot(table: &mut [u8], arrivals: &[u8], answer: &mut [u8], tally: &mut
 /// Runs one slot on table and answer: the numbers of cells in and out. A refusal changes nothing.
 fn run(table: &mut [u8], arrivals: &[u8], answer: &mut [u8]) -> Result<(u64, u64), Refused> {
     let (table, memory) = framed_mut(NUMBER, table).ok_or((BROKEN_TABLE, 0))?;
-    let kinds = kinds(table).ok_or((BROKEN_TABLE, 0))?;
+    if !sound(table) {
+        return Err((BROKEN_TABLE, 0));
+    }
     let memory = (marks(memory) != 0).then_some(memory);
     let (records, []) = arrivals.as_chunks() else {
         return Err((BROKEN_TABLE, 0));
@@ -52,8 +52,7 @@ fn run(table: &mut [u8], arrivals: &[u8], answer: &mut [u8]) -> Result<(u64, u64
         write_cell(table, CELLS * (r[0] as usize % PORTS) + at, r, rank, BUFFERED);
     }
     answer.fill(0);
-    let best = if is_classed(kinds, records) { best::<true>(table) } else { best::<false>(table) };
-    let departed = depart(table, &best, answer.as_chunks_mut().0);
+    let departed = depart(table, &best(table), answer.as_chunks_mut().0);
     if let Some(memory) = memory {
         remember(memory, records, &ranks, answer.as_chunks().0);
     }
@@ -62,36 +61,34 @@ fn run(table: &mut [u8], arrivals: &[u8], answer: &mut [u8]) -> Result<(u64, u64
 
 /// Behind the last cell of the section; none if a cell of the record's flow has a higher rank.
 fn position(table: &Table, input: usize, r: &Arrival, rank: u32) -> Option<usize> {
-    let flow = u32::from_le_bytes([r[4], r[8], 0, r[12]]);
+    let flow = u16::from_le_bytes([r[4], r[8]]);
     let higher = |e: &Record| (table::flow(e) == flow) & (table::rank(e) > rank);
     let falls = entries(table, input).iter().fold(false, |falls, e| falls | higher(e));
     (!falls).then_some(count(table, input))
 }
 
-/// The bits that some first word of a record has, if the table is sound and all its cells are in buffers.
-fn kinds(table: &Table) -> Option<u32> {
+/// Whether a table is sound and all its cells are in buffers.
+fn sound(table: &Table) -> bool {
     let (ports, clock) = (ports(table), clock(table));
     if word(table, 0) != 1 || ports == 0 || ports > PORTS || word(table, 12) != 0 {
-        return None;
+        return false;
     }
-    (0..PORTS).try_fold(0, |kinds, input| {
+    (0..PORTS).all(|input| {
         let most = if input < ports { CELLS } else { 0 };
         let (entries, unused) = section(table, input).split_at(count(table, input).min(most));
-        let sound = count(table, input) <= most && all_zero(unused);
-        Some(kinds | section_kinds(entries, ports, clock).filter(|_| sound)?)
+        count(table, input) <= most && all_zero(unused) && sound_section(entries, ports, clock)
     })
 }
 
-/// The same of the entries of an input.
-fn section_kinds(entries: &[Record], ports: usize, clock: u32) -> Option<u32> {
-    // The bits that some first word has, and those that all have.
+fn sound_section(entries: &[Record], ports: usize, clock: u32) -> bool {
+    // The bits that some first word of a record has, and those that all have.
     let (mut some, mut all) = (0, u32::MAX);
     // 1 for each low byte of a slot.
     let mut low_bytes = [0u8; 256];
     for r in entries {
         let (kind, slot) = (word(r, 0), slot(r));
         if (kind & 255) as usize >= ports || slot >= clock {
-            return None;
+            return false;
         }
         some |= kind;
         all &= kind;
@@ -100,13 +97,13 @@ fn section_kinds(entries: &[Record], ports: usize, clock: u32) -> Option<u32> {
     let buffered = (BUFFERED as u32) << 16;
     // Different low bytes are different slots, and the slots of waiting cells are mostly close together.
     let different = low_bytes.iter().sum::<u8>() as usize == entries.len() || !share_slot(entries);
-    (some & UNUSED_BITS == 0 && all & buffered == buffered && different).then_some(some)
+    some & UNUSED_BITS == 0 && all & buffered == buffered && different
 }
 
 /// The best cell of each output.
-fn best<const CLASSED: bool>(table: &Table) -> Best {
+fn best(table: &Table) -> Best {
     let mut best = [NONE; PORTS];
-    let turn = Turn::<CLASSED>::new(ports(table));
+    let turn = Turn::new(ports(table));
     for input in 0..ports(table) {
         for (at, r) in entries(table, input).iter().enumerate() {
             offer(&mut best, output(r), turn.cell(input, at, r));

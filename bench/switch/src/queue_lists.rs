@@ -21,8 +21,7 @@ fn sent(queues: &mut Queues, records: &[Arrival], ports: u32) -> Sent {
         0 => {
             let cell = |(output, departure): (u32, Option<crate::queues::Cell>)| {
                 let c = departure?;
-                let (class, rank) = (c.class(), c.rank());
-                Some(Cell { input: c.input(), output, flow: c.flow(), class, rank, tag: c.tag(), slot: c.slot() })
+                Some(Cell { input: c.input(), output, flow: c.flow(), rank: c.rank(), tag: c.tag(), slot: c.slot() })
             };
             assert!(departures[ports as usize..].iter().all(|d| d.is_none()));
             Ok((0..ports).zip(departures).map(cell).collect())
@@ -35,7 +34,7 @@ fn sent(queues: &mut Queues, records: &[Arrival], ports: u32) -> Sent {
 fn random_lists() {
     let slots = setting("SLOTS", 500_000);
     let mut r = Random(setting("SEED", 1) * 2 + 88172645463325252);
-    let (mut done, mut refused) = (0, [0u64; 17]);
+    let (mut done, mut refused) = (0, [0u64; 11]);
     while done < slots {
         let ports = 1 + r.below(16) as u32;
         let first = r.pick(&[0, 1, 77, 4_000_000_000, CLOCK_END - 40, CLOCK_END]);
@@ -50,5 +49,5 @@ fn random_lists() {
             done += 1;
         }
     }
-    assert!([0, 3, 4, 5, 16, 6, 7, 8].iter().all(|&n| refused[n] > 0), "some refusal never came: {refused:?}");
+    assert!((0..=8).filter(|&n| n != 1 && n != 2).all(|n| refused[n] > 0), "some refusal never came: {refused:?}");
 }

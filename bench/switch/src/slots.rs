@@ -14,8 +14,6 @@ use std::hint::black_box;
 use std::ops::Range;
 
 const LOADS: [usize; 6] = [4, 8, 16, 32, 48, 64];
-/// The load at which cells are of other classes than 0.
-const CLASSED_LOAD: usize = 16;
 const SLOTS: usize = 2000;
 const ROUNDS: usize = 40;
 /// The calls that are timed together.
@@ -294,19 +292,12 @@ fn main() {
     let mut starving = Both::new(|| Load::starving(LOADS[LOADS.len() - 1]));
     let mut ties = Both::new(|| Load::ties(LOADS[LOADS.len() / 2]));
     let mut fair = LOADS.map(|cells| Both::new(|| Load::fair(cells)));
-    let [mut music, mut mixed] = [Load::music, Load::mixed].map(|of| Both::new(|| of(Load::new(CLASSED_LOAD))));
-    // Compared alone: ranks made in every class, and ties and starving cells of all classes.
-    for load in [Load::fair, Load::ties, Load::starving] {
-        Both::new(|| load(CLASSED_LOAD).mixed());
-    }
     // Round by round, so that a slow spell of the machine spoils no line.
     for round in 0..ROUNDS {
         measured.iter_mut().for_each(|m| m.measure(round));
         starving.measure(round);
         ties.measure(round);
         fair.iter_mut().for_each(|m| m.measure(round));
-        music.measure(round);
-        mixed.measure(round);
     }
     let crossbar = || measured.iter().map(|m| &m.crossbar);
     let oq = || measured.iter().map(|m| &m.oq);
@@ -327,11 +318,6 @@ fn main() {
     ties.crossbar.print_check("ties check");
     println!("# A slot where every output is fair: ranks are made of weights.");
     fair.iter().for_each(|m| m.crossbar.print_slot("fair slot"));
-    println!("# Slot and check where all cells are of class 1, and where cells are of all classes, one in eight of class 0.");
-    for (name, both) in [("music", &music), ("mixed", &mixed)] {
-        both.crossbar.print_slot(&format!("{name} slot"));
-        both.crossbar.print_check(&format!("{name} check"));
-    }
     println!("# The output-queued switch on the same lists; beside it the proved crossbar, and the ratio to that.");
     println!("#\tload\tproved\tplain\tratio\tcrossbar\tratio");
     measured.iter().for_each(|m| m.print_oq("oq slot", |m| &m.slot));
@@ -343,8 +329,4 @@ fn main() {
     ties.print_oq("ties oq slot", |m| &m.slot);
     ties.print_oq("ties oq check", |m| &m.check);
     fair.iter().for_each(|m| m.print_oq("fair oq slot", |m| &m.slot));
-    for (name, both) in [("music", &music), ("mixed", &mixed)] {
-        both.print_oq(&format!("{name} oq slot"), |m| &m.slot);
-        both.print_oq(&format!("{name} oq check"), |m| &m.check);
-    }
 }

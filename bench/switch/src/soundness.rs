@@ -9,18 +9,17 @@ struct Entry {
     output: u8,
     flow: u8,
     place: u8,
-    class: u8,
     rank: u32,
     slot: u32,
 }
 
 impl Entry {
     fn read(r: &[u8]) -> Entry {
-        Entry { output: r[0], flow: r[1], place: r[2], class: r[3], rank: word(r, 4), slot: word(r, 12) }
+        Entry { output: r[0], flow: r[1], place: r[2], rank: word(r, 4), slot: word(r, 12) }
     }
 
     fn same_flow(&self, other: &Entry) -> bool {
-        (self.output, self.class, self.flow) == (other.output, other.class, other.flow)
+        (self.output, self.flow) == (other.output, other.flow)
     }
 }
 
@@ -41,8 +40,10 @@ fn sound_section(section: &[u8], count: usize, ports: u32, clock: u32) -> bool {
     let entries: Vec<Entry> = records().map(Entry::read).collect();
     let pairs = || entries.iter().enumerate().flat_map(|(k, e)| entries[k + 1..].iter().map(move |f| (e, f)));
     section[16 * count..].iter().all(|b| *b == 0)
-        && entries.iter().all(|e| (e.output as u32) < ports && e.flow < 8 && e.class < 4)
-        && entries.iter().all(|e| (1..=3).contains(&e.place) && e.slot < clock)
+        && records().all(|r| r[3] == 0)
+        && entries
+            .iter()
+            .all(|e| (e.output as u32) < ports && e.flow < 8 && (1..=3).contains(&e.place) && e.slot < clock)
         && pairs().all(|(e, f)| e.slot != f.slot)
         && pairs().all(|(e, f)| !(e.place == 2 && f.place == 2 && e.output == f.output))
         && together(&entries.iter().filter(|e| e.place == 1).collect::<Vec<_>>())
@@ -75,19 +76,18 @@ fn framed(number: u8, cells: &Table, memory: &[u8]) -> Vec<u8> {
 /// they all are. No mark may be at an output that the switch does not have.
 fn agreed(t: &Table) -> bool {
     let sound = |t: &Table| if sound(t) { 0 } else { 2 };
-    let marked = |marks: u32| framed(3, t, &marks.to_le_bytes());
+    let marked = |marks: u32| framed(2, t, &marks.to_le_bytes());
     let numbered = |number: u8, t: &Table| oq_check(&framed(number, t, &[0; 4]));
     assert_eq!(check(&marked(0)), sound(t));
     for bit in 0..32 {
         assert_eq!(check(&marked(1 << bit)), if bit < word(t, 4) { sound(t) } else { 2 });
     }
-    assert_eq!(check(&framed(2, t, &[0; 4])), 2);
-    assert_eq!(numbered(103, t), if records(t).all(|at| t[at + 2] == 3) { sound(t) } else { 2 });
+    assert_eq!(check(&framed(1, t, &[0; 4])), 2);
+    assert_eq!(numbered(102, t), if records(t).all(|at| t[at + 2] == 3) { sound(t) } else { 2 });
     let mut buffered = *t;
     records(t).for_each(|at| buffered[at + 2] = 3);
-    assert_eq!(numbered(103, &buffered), sound(&buffered));
-    assert_eq!(numbered(102, &buffered), 2);
-    assert_eq!(numbered(3, &buffered), 2);
+    assert_eq!(numbered(102, &buffered), sound(&buffered));
+    assert_eq!(numbered(2, &buffered), 2);
     check(&marked(0)) == 0
 }
 
@@ -104,7 +104,6 @@ fn small_table(r: &mut Random) -> Table {
             record[0] = r.below(2) as u8;
             record[1] = r.below(2) as u8;
             record[2] = 1 + r.below(3) as u8;
-            record[3] = if r.below(100) == 0 { 4 } else { 3 * r.below(2) as u8 };
             record[4] = r.below(3) as u8;
             record[12] = r.below(6) as u8;
         }
@@ -112,11 +111,11 @@ fn small_table(r: &mut Random) -> Table {
     t
 }
 
-/// A table under load, with cells of all classes.
+/// A table under load.
 fn loaded_table(cells: usize) -> Table {
     let mut t = [0; CELL_TABLE_BYTES];
     start_cells(16, 4_000_000_000, &mut t);
-    let mut load = Load::new(cells).mixed();
+    let mut load = Load::new(cells);
     for _ in 0..500 {
         let arrivals = load.arrivals(&t);
         assert_eq!(trusted_slot(&mut t, &arrivals, &mut [0; ANSWER_BYTES], &mut [0; TALLY_BYTES]), 0);
@@ -129,11 +128,11 @@ fn change(r: &mut Random, t: &mut Table) {
     if r.below(2) == 0 {
         let at = if r.below(3) == 0 { r.below(32) } else { r.below(CELL_TABLE_BYTES as u32) } as usize;
         let byte = t[at];
-        t[at] = [0, 1, 2, 3, 4, 16, 65, byte.wrapping_add(1), byte.wrapping_sub(1), byte ^ 128][r.below(10) as usize];
+        t[at] = [0, 1, 2, 3, 16, 65, byte.wrapping_add(1), byte.wrapping_sub(1), byte ^ 128][r.below(9) as usize];
     } else {
         let section = 32 + 1024 * r.below(16) as usize;
         let [from, to] = [(); 2].map(|_| section + RECORD_BYTES * r.below(64) as usize);
-        let (first, bytes) = [(0, 1), (0, 2), (2, 1), (3, 1), (4, 4), (12, 4), (12, 1), (0, 16)][r.below(8) as usize];
+        let (first, bytes) = [(0, 1), (0, 2), (2, 1), (4, 4), (12, 4), (12, 1), (0, 16)][r.below(7) as usize];
         t.copy_within(from + first..from + first + bytes, to + first);
     }
 }
@@ -167,7 +166,7 @@ fn changed_tables() {
 fn other_lengths() {
     let mut cells = [0; CELL_TABLE_BYTES];
     start_cells(16, 0, &mut cells);
-    for (number, check) in [(3, check as fn(&[u8]) -> u32), (103, oq_check)] {
+    for (number, check) in [(2, check as fn(&[u8]) -> u32), (102, oq_check)] {
         let table = [framed(number, &cells, &[0; 4]), vec![0]].concat();
         for bytes in [0, 1, 32, CELL_TABLE_BYTES, TABLE_BYTES - 1, TABLE_BYTES, TABLE_BYTES + 1] {
             assert_eq!(check(&table[..bytes]), if bytes == TABLE_BYTES { 0 } else { 2 });

@@ -4,8 +4,7 @@
 pub const PORTS: usize = 16;
 pub const CELLS: usize = 64;
 pub const ENTRIES: usize = PORTS * CELLS;
-pub const FLOWS: usize = 8;
-pub const CLASSES: usize = 4;
+const FLOWS: usize = 8;
 pub const RECORD_BYTES: usize = 16;
 pub const CELL_TABLE_BYTES: usize = HEADER_BYTES + ENTRIES * RECORD_BYTES;
 
@@ -19,8 +18,8 @@ pub const CROSSED: u8 = 2;
 pub const BUFFERED: u8 = 3;
 
 /// The bits that are zero in the first word of every sound record: those of an output above 15, a flow above 7, a place
-/// above 3, and a class above 3.
-pub const UNUSED_BITS: u32 = 0xfcfc_f8f0;
+/// above 3, and the fourth byte.
+pub const UNUSED_BITS: u32 = 0xfffc_f8f0;
 
 pub fn word(bytes: &[u8], at: usize) -> u32 {
     u32::from_le_bytes(bytes[at..at + 4].try_into().unwrap())
@@ -61,9 +60,9 @@ pub fn output(r: &Record) -> usize {
     r[0] as usize % PORTS
 }
 
-/// Output, flow number and class, which tell the flow among the cells of one input.
-pub fn flow(r: &Record) -> u32 {
-    word(r, 0) & 0xff00_ffff
+/// Output and flow number, which tell the flow among the cells of one input.
+pub fn flow(r: &Record) -> u16 {
+    u16::from_le_bytes([r[0], r[1]])
 }
 
 pub fn rank(r: &Record) -> u32 {
@@ -74,7 +73,7 @@ pub fn slot(r: &Record) -> u32 {
     word(r, 12)
 }
 
-/// Output priority among the cells of one flow: the smaller goes first.
+/// Output priority among the cells of one input: the smaller goes first.
 pub fn priority(r: &Record) -> u64 {
     (rank(r) as u64) << 32 | slot(r) as u64
 }
@@ -104,8 +103,6 @@ pub struct Row {
     /// The outputs whose crosspoint holds a cell, and for each of them the cell's position.
     pub filled: u16,
     pub crossed: [u8; PORTS],
-    /// The bits that some first word of a record has.
-    pub kinds: u32,
 }
 
 /// The rows of a table, if it is sound. Where it is trusted to be, the tests are left out.
@@ -115,14 +112,13 @@ pub fn rows<const TRUSTED: bool>(table: &Table) -> Option<[Row; PORTS]> {
         return None;
     }
     let mut rows = [Row::default(); PORTS];
-    let mut met: Met = [0; CLASSES * PORTS * FLOWS];
     for (input, row) in rows.iter_mut().enumerate() {
         let most = if input < ports { CELLS } else { 0 };
         let (entries, unused) = section(table, input).split_at(count(table, input).min(most));
         if !TRUSTED && (count(table, input) > most || !all_zero(unused)) {
             return None;
         }
-        *row = sound_row::<TRUSTED>(entries, ports, clock, &mut met, input as u8 + 1)?;
+        *row = sound_row::<TRUSTED>(entries, ports, clock)?;
     }
     Some(rows)
 }
@@ -131,12 +127,9 @@ pub fn all_zero(records: &[Record]) -> bool {
     records.as_flattened().iter().fold(0, |bits, b| bits | b) == 0
 }
 
-/// For each flow of an output and a class the last input in whose list it was met, by its mark.
-type Met = [u8; CLASSES * PORTS * FLOWS];
-
-/// The row of an input's entries, if they are sound. The input's mark is above 0.
-fn sound_row<const TRUSTED: bool>(entries: &[Record], ports: usize, clock: u32, met: &mut Met, mark: u8) -> Option<Row> {
-    let mut kinds = 0;
+/// The row of an input's entries, if they are sound.
+fn sound_row<const TRUSTED: bool>(entries: &[Record], ports: usize, clock: u32) -> Option<Row> {
+    let mut bits = 0;
     // The low and the high bit of each place.
     let (mut low, mut high) = (0, 0);
     // 1 for each low byte of a slot.
@@ -147,9 +140,9 @@ fn sound_row<const TRUSTED: bool>(entries: &[Record], ports: usize, clock: u32, 
             if (kind & 255) as usize >= ports || slot >= clock {
                 return None;
             }
+            bits |= kind;
             low_bytes[slot as usize % 256] = 1;
         }
-        kinds |= kind;
         low = low << 1 | (kind >> 16 & 1) as u64;
         high = high << 1 | (kind >> 17 & 1) as u64;
     }
@@ -157,14 +150,14 @@ fn sound_row<const TRUSTED: bool>(entries: &[Record], ports: usize, clock: u32, 
         let placed = (low | high).count_ones() as usize == entries.len();
         // Different low bytes are different slots, and the slots of waiting cells are mostly close together.
         let different = low_bytes.iter().sum::<u8>() as usize == entries.len() || !share_slot(entries);
-        if kinds & UNUSED_BITS != 0 || !placed || !different {
+        if bits & UNUSED_BITS != 0 || !placed || !different {
             return None;
         }
     }
     let listed = low & !high;
-    let heads = heads::<TRUSTED>(entries, listed, met, mark)?;
+    let heads = heads::<TRUSTED>(entries, listed)?;
     let (filled, crossed) = crosspoints::<TRUSTED>(entries, high & !low)?;
-    Some(Row { listed, heads, buffered: low & high, filled, crossed, kinds })
+    Some(Row { listed, heads, buffered: low & high, filled, crossed })
 }
 
 pub fn share_slot(entries: &[Record]) -> bool {
@@ -176,19 +169,19 @@ pub fn share_slot(entries: &[Record]) -> bool {
 
 /// The first cell of each flow in the list, if the cells of a flow stand together in output priority. Nothing branches
 /// on the cells, as that would be guessed badly.
-fn heads<const TRUSTED: bool>(entries: &[Record], listed: u64, met: &mut Met, mark: u8) -> Option<u64> {
+fn heads<const TRUSTED: bool>(entries: &[Record], listed: u64) -> Option<u64> {
     let mut heads = 0;
     let mut broken = false;
-    let mut last = (u32::MAX, 0);
+    let mut met = [false; PORTS * FLOWS];
+    let mut last = (u16::MAX, 0);
     for at in Members(listed) {
         let r = &entries[at];
-        // In a list the places are the same, so that the first word tells the flow.
-        let next = (word(r, 0), priority(r));
+        let next = (flow(r), priority(r));
+        let met = &mut met[FLOWS * output(r) + r[1] as usize % FLOWS];
         let same = next.0 == last.0;
         if !TRUSTED {
-            let met = &mut met[FLOWS * (PORTS * (r[3] as usize % CLASSES) + output(r)) + r[1] as usize % FLOWS];
-            broken |= same & (next.1 <= last.1) | !same & (*met == mark);
-            *met = mark;
+            broken |= same & (next.1 <= last.1) | !same & *met;
+            *met = true;
         }
         heads |= (!same as u64) << at;
         last = next;

@@ -1,4 +1,5 @@
 // What bench/ times: proved functions under names that C can call.
+#![tactic(auto)]
 ghost use Rattle.std.specs.Prelude.{◌≡◌};
 ghost use Rattle.trace.specs.Reader.{read};
 ghost use Rattle.bench_reader.specs.Slots.{slots_or};

@@ -1,6 +1,5 @@
 pub mod Accord
 pub mod Flow
-pub mod InClass
 pub mod Keys
 pub mod Order
 pub mod RefusalNumbers

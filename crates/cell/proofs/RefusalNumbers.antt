@@ -3,7 +3,7 @@ use Rattle.std.proofs.Common.{◌≤◌, lit≤}
 use Rattle.cell.specs.declared.Refusal.{Refusal}
 use Rattle.cell.specs.declared.Refusal.TheVariants.{BadSize, BrokenTable, ClockEnd, NoSuchPort, NoSuchFlow}
 use Rattle.cell.specs.declared.Refusal.TheVariants.{InputOrder, RankOrder, Full, BadLine, ShortBuffer}
-use Rattle.cell.specs.declared.Refusal.TheVariants.{BadName, CuesFull, NoSuchCue, BadWeight, RankEnd, NoSuchClass}
+use Rattle.cell.specs.declared.Refusal.TheVariants.{BadName, CuesFull, NoSuchCue, BadWeight, RankEnd}
 use Rattle.cell.specs.Refusal.{number}
 
 pub number-range : (r : Refusal) → (1 ≤ number r) × (number r ≤ 99)
@@ -22,4 +22,3 @@ number-range CuesFull = (lit≤ tt, lit≤ tt)
 number-range NoSuchCue = (lit≤ tt, lit≤ tt)
 number-range BadWeight = (lit≤ tt, lit≤ tt)
 number-range RankEnd = (lit≤ tt, lit≤ tt)
-number-range NoSuchClass = (lit≤ tt, lit≤ tt)

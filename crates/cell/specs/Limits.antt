@@ -1,15 +1,12 @@
 -- Scope 2.4: the limits of the switch.
 use Rattle.std.specs.Prelude.{ℕ, Bool, ◌&&◌, nat_le, nat_lt}
 
--- sixteen ports, eight flows, four classes
+-- sixteen ports, eight flows
 abbrev pub port_limit : ℕ
 port_limit = 16
 
 abbrev pub flow_limit : ℕ
 flow_limit = 8
-
-abbrev pub class_limit : ℕ
-class_limit = 4
 
 -- an input that has so many cells in the switch accepts no more
 abbrev pub cell_limit : ℕ
@@ -34,10 +31,6 @@ ports_in_range n = nat_le 1 n && nat_le n port_limit
 -- a flow is 0 to 7
 abbrev pub flow_in_range : ℕ → Bool
 flow_in_range f = nat_lt f flow_limit
-
--- a class is 0 to 3
-abbrev pub class_in_range : ℕ → Bool
-class_in_range k = nat_lt k class_limit
 
 -- an input with n cells in the switch may accept no more
 abbrev pub input_full : ℕ → Bool

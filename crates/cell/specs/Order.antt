@@ -14,33 +14,20 @@ in_turn start i j = cond (nat_lt i start) (nat_lt j start && nat_lt i j) (nat_lt
 abbrev pub turn : ℕ → ℕ → ℕ → ℕ
 turn ports slot input = (input + ports - slot % ports) % ports
 
--- of two cells of equal class, rank and slot, c goes first: its input comes first in the round of that slot
+-- of two cells of equal rank and slot, c goes first: its input comes first in the round of that slot
 abbrev pub wins_tie : ℕ → Cell → Cell → Bool
 wins_tie ports c d = in_turn (first_in_turn ports c.slot) c.input d.input
 
--- of two cells of one class, c has higher output priority than d: smaller rank first; for equal ranks the smaller slot;
--- then the input whose turn is first in that slot
-unfoldable pub over_in_class : ℕ → Cell → Cell → Bool
-over_in_class ports c d =
+-- c has higher output priority than d: smaller rank first; for equal ranks the smaller slot; then the input whose turn
+-- is first in that slot
+unfoldable pub over : ℕ → Cell → Cell → Bool
+over ports c d =
     nat_lt c.rank d.rank
     || (c.rank == d.rank
     && (nat_lt c.slot d.slot
     || (c.slot == d.slot
     && wins_tie ports c d)))
 
--- c has higher output priority than d: the smaller class first, and within a class as above
-unfoldable pub over : ℕ → Cell → Cell → Bool
-over ports c d = nat_lt c.class d.class || (c.class == d.class && over_in_class ports c d)
-
--- rank and slot as one number: within a class the smaller one goes first, and only cells of different inputs have the
--- same
-abbrev pub key_in_class : Cell → ℕ
-key_in_class c = c.rank * 2 ^ 32 + c.slot
-
--- The number of 64 bits that most comparisons need look at: that of a cell of class 0, and one for all later classes, at
--- which the cells have to be compared. A smaller one goes first.
-abbrev pub late_key : ℕ
-late_key = 18446744073709551614
-
-unfoldable pub key : Cell → ℕ
-key c = cond (c.class == 0) (key_in_class c) late_key
+-- rank and slot as one number: the smaller one goes first, and only cells of different inputs have the same
+abbrev pub key : Cell → ℕ
+key c = c.rank * 2 ^ 32 + c.slot

@@ -3,7 +3,7 @@ use Rattle.std.specs.Prelude.{ℕ}
 use Rattle.cell.specs.declared.Refusal.{Refusal}
 use Rattle.cell.specs.declared.Refusal.TheVariants.{BadSize, BrokenTable, ClockEnd, NoSuchPort, NoSuchFlow}
 use Rattle.cell.specs.declared.Refusal.TheVariants.{InputOrder, RankOrder, Full, BadLine, ShortBuffer}
-use Rattle.cell.specs.declared.Refusal.TheVariants.{BadName, CuesFull, NoSuchCue, BadWeight, RankEnd, NoSuchClass}
+use Rattle.cell.specs.declared.Refusal.TheVariants.{BadName, CuesFull, NoSuchCue, BadWeight, RankEnd}
 
 abbrev pub number : Refusal → ℕ
 number BadSize = 1
@@ -21,4 +21,3 @@ number CuesFull = 12
 number NoSuchCue = 13
 number BadWeight = 14
 number RankEnd = 15
-number NoSuchClass = 16

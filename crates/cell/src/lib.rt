@@ -1,8 +1,10 @@
 // What travels through the switch and what may be said of it: the cell, the arrival record, the order in
 // which an output sends, the limits, and the refusals with their numbers.
+#![tactic(auto)]
+
 ghost use Rattle.std.specs.Prelude.{◌≡◌};
-ghost use Rattle.cell.specs.Order.{first_in_turn, in_turn, wins_tie, over, key_in_class, key};
-ghost use Rattle.cell.specs.Limits.{ports_in_range, flow_in_range, class_in_range, input_full};
+ghost use Rattle.cell.specs.Order.{first_in_turn, in_turn, wins_tie, key};
+ghost use Rattle.cell.specs.Limits.{ports_in_range, flow_in_range, input_full};
 ghost use Rattle.cell.specs.Refusal.{number};
 
 use std::num::wrapping_sub_u32;
@@ -13,19 +15,17 @@ pub struct Cell {
     pub input: u32,
     pub output: u32,
     pub flow: u32,
-    pub class: u32,
     pub rank: u32,
     pub tag: u32,
     pub slot: u32,
 }
 
-// A record of the arrivals that a slot is lent: any six numbers.
+// A record of the arrivals that a slot is lent: any five numbers.
 #[derive(Drop)]
 pub struct Arrival {
     pub input: u32,
     pub output: u32,
     pub flow: u32,
-    pub class: u32,
     pub rank: u32,
     pub tag: u32,
 }
@@ -72,8 +72,6 @@ pub enum Refusal {
     BadWeight,
     // rank end: at a fair output the rank made passes 4,294,967,295
     RankEnd,
-    // no such class: a class is above 3
-    NoSuchClass,
 }
 
 impl Refusal {
@@ -97,7 +95,6 @@ impl Refusal {
             Refusal::NoSuchCue => 13,
             Refusal::BadWeight => 14,
             Refusal::RankEnd => 15,
-            Refusal::NoSuchClass => 16,
         }
     }
 }
@@ -121,8 +118,6 @@ impl Switch {
     pub const PORTS: u32 = 16;
 
     pub const FLOWS: u32 = 8;
-
-    pub const CLASSES: u32 = 4;
 
     // So many cells of an input may be in the switch. A table has room for `layout::CELLS` of them.
     pub const CELL_LIMIT: u32 = 64;
@@ -157,13 +152,6 @@ impl Switch {
         flow < Switch::FLOWS
     }
 
-    // Whether a class has this number.
-    pub fn class_in_range(class: u32) -> bool
-        ensures { result ≡ class_in_range class }
-    {
-        class < Switch::CLASSES
-    }
-
     // Whether an input with this many cells in the switch may accept no more.
     pub fn input_full(cells: u32) -> bool
         ensures { result ≡ input_full cells }
@@ -172,22 +160,7 @@ impl Switch {
     }
 }
 
-// Whether an output of a switch with so many ports sends `a` before `b`.
-pub fn over(ports: u32, a: Cell, b: Cell) -> bool
-    ensures { result ≡ over ports a b }
-{
-    if a.class != b.class {
-        return a.class < b.class;
-    }
-    let key = key_in_class(a);
-    let rival = key_in_class(b);
-    if key != rival {
-        return key < rival;
-    }
-    wins_tie(ports, a, b)
-}
-
-// Whether of two cells of equal class, rank and slot an output of a switch with so many ports sends `a` before `b`.
+// Whether of two cells of equal rank and slot an output of a switch with so many ports sends `a` before `b`.
 pub fn wins_tie(ports: u32, a: Cell, b: Cell) -> bool
     ensures { result ≡ wins_tie ports a b }
 {
@@ -212,25 +185,10 @@ pub fn in_turn(start: u32, i: u32, j: u32) -> bool
     wrapping_sub_u32(i, start) < wrapping_sub_u32(j, start)
 }
 
-// Rank and slot of a cell as one number. Within a class an output sends the cell with the smaller one; `wins_tie` decides
-// between equal ones. One comparison without a branch.
-pub fn key_in_class(c: Cell) -> u64
-    ensures { result ≡ key_in_class c }
-{
-    c.rank as u64 * 4294967296 + c.slot as u64
-}
-
-// The key of all cells of later classes than the first.
-pub const LATE_KEY: u64 = 18446744073709551614;
-
-// That number of a cell of class 0; `LATE_KEY` of any other. An output sends the cell with the smaller one; `over` decides
-// between equal ones.
+// Rank and slot of a cell as one number. An output sends the cell with the smaller one; `wins_tie` decides between
+// equal ones. One comparison without a branch.
 pub fn key(c: Cell) -> u64
     ensures { result ≡ key c }
 {
-    if c.class == 0 {
-        key_in_class(c)
-    } else {
-        LATE_KEY
-    }
+    c.rank as u64 * 4294967296 + c.slot as u64
 }

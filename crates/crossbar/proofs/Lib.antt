@@ -2,5 +2,4 @@ pub mod Calls
 pub mod CueCalls
 pub mod Demand3
 pub mod OlderCueCalls
-pub mod OlderTables
 pub mod Slots

@@ -15,14 +15,15 @@ use Rattle.model.specs.Cues.{Cues}
 use Rattle.model.specs.Fair.{Fair}
 use Rattle.model.specs.State.{Switch}
 use Rattle.layout.specs.Code.{put}
-use Rattle.layout.specs.Cues.{fair_cues, store_size, store_bytes, store_buffer}
+use Rattle.layout.specs.Cues.{fair_cues, older_cues, store_size, store_bytes, store_buffer, decode_old_store, converted}
+use Rattle.layout.specs.Cues.{convert_cues_call}
 use Rattle.layout.specs.Host.{filled, result_of}
-use Rattle.layout.specs.OlderCues.{older_store, convert_cues_call}
 use Rattle.layout.proofs.Cues.{fair-fit}
-use Rattle.layout.proofs.OlderCues.{convert_cues_call-broken, convert_cues_call-short, convert_cues_call-done}
-use Rattle.layout.proofs.Stores.{length-store_bytes}
+use Rattle.layout.proofs.OlderCues.{converted-sound, convert_cues_call-broken, convert_cues_call-short}
+use Rattle.layout.proofs.OlderCues.{convert_cues_call-done}
+use Rattle.layout.proofs.Stores.{decode_store-some, length-store_bytes}
 use Rattle.cue_store.specs.CodeOlder.{is_old_store, Converted}
-use Rattle.cue_store.proofs.OlderStore.{is-old-store, old-store-none, old-store-sound}
+use Rattle.cue_store.proofs.OlderStore.{is-old-store, old-store-none}
 
 -- a result is that of an outcome, and a buffer is as the outcome leaves it
 abbrev Leaves : Outcome (Cues (Fair Switch)) → List ℕ → ℕ → List ℕ → Type 0
@@ -45,7 +46,7 @@ module _ (old buffer : List ℕ) where
       leaves-refused _ buffer BrokenTable result (convert_cues_call-broken old buffer (old-store-none old h)) r
 
   module _ (h : is_old_store old ≡ true) where
-    held : (cues : Cues (Fair Switch)) × (older_store old ≡ some cues)
+    held : (cues : Cues Switch) × (decode_old_store old ≡ some cues)
     held = is-old-store old h
 
     pub convert-short : length buffer < store_size → (result : ℕ) → result ≡ 10
@@ -58,11 +59,12 @@ module _ (old buffer : List ℕ) where
         → Leaves (convert_cues_call old buffer) buffer 0 buffer'
     unfolding filled
     convert-done new buffer' written room copied =
-        let cues = held.0 in
-        let same : new ≡ store_bytes cues = written cues held.1 in
+        let cues = converted held.0 in
+        let same : new ≡ store_bytes cues = written held.0 held.1 in
         let size : length (store_bytes cues) ≡ store_size =
-        length-store_bytes fair_cues fair-fit cues (old-store-sound old cues held.1) in
-        leaves-done _ buffer buffer' cues (convert_cues_call-done old buffer cues held.1 room)
+        length-store_bytes fair_cues fair-fit cues
+        (converted-sound held.0 (decode_store-some older_cues old held.0 held.1).0) in
+        leaves-done _ buffer buffer' cues (convert_cues_call-done old buffer held.0 held.1 room)
         (copied
         ∙ ap₂ (λ bs n. bs ++ drop n buffer)
         (ap (take store_size) same ∙ take_all store_size (store_bytes cues) (omega arith))

@@ -1,68 +1,29 @@
-// Older tables: those of the cells alone, before a switch had a memory, and those whose memory is of class 0 alone.
-ghost use Rattle.std.specs.Prelude.{cond, ◌≡◌, length};
-ghost use Rattle.std.proofs.Math.Option.{none, some};
+// Older tables: those of the cells alone, before a switch had a memory.
+ghost use Rattle.std.specs.Prelude.{◌≡◌};
 ghost use Rattle.layout.specs.Engine.{buffer_after};
-ghost use Rattle.layout.specs.Fair.{fair_number, fair_size};
+ghost use Rattle.layout.specs.Fair.{fair_number};
 ghost use Rattle.layout.specs.Host.{result_of};
-ghost use Rattle.layout.specs.Older.{renewed, older, convert_call};
-ghost use Rattle.fair_table.specs.Code.{is_state, Holds};
+ghost use Rattle.layout.specs.Older.{convert_call};
+ghost use Rattle.layout.specs.Table.{decode};
 
 use cell::Refusal;
-use fair_table::is_fair_table;
-use fair_table::older::{is_classless, is_numbered, write_cells_new, write_table_new};
-use layout::{
-    CORE_AT, FAIR_BYTES, FAIR_NUMBER, MEMORY_AT, OLD_FAIR_BYTES, OLD_NUMBER, TABLE_BYTES, run,
-};
+use fair_table::write_older;
+use layout::{FAIR_BYTES, FAIR_NUMBER};
 
-// Writes an older table in the new layout into the first bytes of the buffer, all of it of class 0 and all else kept: 0.
-// One that had no memory has no fair output. Refuses with 2 what is not an older table, then with 10 a buffer that is too
-// short; a refusal writes nothing.
+// Writes an older table in the new layout into the first bytes of the buffer, no output fair and all else kept: 0.
+// Refuses with 2 what is not an older table, then with 10 a buffer that is too short; a refusal writes nothing.
 #[unsafe(no_mangle)]
 pub extern "C" fn convert(old: &[u8], table: &mut [u8]) -> u32
-    ensures value { result ≡ result_of (convert_call older old.now table.old) }
+    ensures value { result ≡ result_of (convert_call decode old.now table.old) }
     ensures table_after { table.new ≡ buffer_after fair_number table.old
-        (convert_call older old.now table.old) }
+        (convert_call decode old.now table.old) }
 {
-    let mut new = [0; FAIR_BYTES];
-    if !read_older(old, &mut new) {
+    if !slot_check::is_table(old) {
         return Refusal::BrokenTable.number();
     }
     if table.len() < FAIR_BYTES {
         return Refusal::ShortBuffer.number();
     }
-    run::copy(&new, 0, table, 0, FAIR_BYTES);
+    write_older(old, FAIR_NUMBER, table);
     0
-}
-
-// Whether the bytes are an older table; if they are, its state is then written in the lent one. It is one exactly if what
-// is written is a table in which every cell is of class 0.
-fn read_older(old: &[u8], new: &mut [u8]) -> bool
-    requires { length new.old ≡ fair_size }
-    ensures value { result ≡ is_state (older old.now) }
-    ensures holds { Holds fair_number (older old.now) new.new }
-{
-    if !write_renewed(old, new) {
-        return false;
-    }
-    if !is_fair_table(new) {
-        return false;
-    }
-    is_classless(&new[CORE_AT..MEMORY_AT])
-}
-
-// Whether the bytes have the length and the number of an older table; if they have, they are then written in the new layout,
-// whatever else they are.
-fn write_renewed(old: &[u8], new: &mut [u8]) -> bool
-    requires { length new.old ≡ fair_size }
-    ensures { renewed old.now ≡ cond result (some new.new) none }
-{
-    if old.len() == TABLE_BYTES {
-        write_cells_new(old, FAIR_NUMBER, new);
-        return true;
-    }
-    if is_numbered(old, OLD_FAIR_BYTES, OLD_NUMBER) {
-        write_table_new(old, FAIR_NUMBER, new);
-        return true;
-    }
-    false
 }

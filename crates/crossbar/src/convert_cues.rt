@@ -1,16 +1,14 @@
 // The call that writes an older cue store in the new layout.
 ghost use Rattle.std.specs.Prelude.{◌≡◌};
-ghost use Rattle.layout.specs.Cues.{store_buffer};
+ghost use Rattle.layout.specs.Cues.{convert_cues_call, store_buffer};
 ghost use Rattle.layout.specs.Host.{result_of};
-ghost use Rattle.layout.specs.OlderCues.{convert_cues_call};
 
 use cell::Refusal;
 use cue_store::older::read_older;
 use layout::{STORE_BYTES, run};
 
-// Writes the cues of an older store, all of it of class 0 and all else kept, into the first bytes of the buffer: 0. A
-// table that had no memory has no fair output. Refuses with 2 bytes that are no older store, then with 10 a buffer that is
-// too short. A refusal writes nothing.
+// Writes the cues of an older store, with no output fair and all else kept, into the first bytes of the buffer: 0. Refuses
+// with 2 bytes that are no older store, then with 10 a buffer that is too short. A refusal writes nothing.
 #[unsafe(no_mangle)]
 pub extern "C" fn convert_cues(old: &[u8], store: &mut [u8]) -> u32
     ensures value { result ≡ result_of (convert_cues_call old.now store.old) }

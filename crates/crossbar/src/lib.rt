@@ -1,6 +1,7 @@
 // What the chassis host calls: numbers and byte slices, no call with a condition on what it is lent. The calls of a
 // switch are here, those of its cues in `cues`, and those for older tables and cue stores in `convert` and
 // `convert_cues`.
+#![tactic(auto)]
 pub mod convert;
 pub mod convert_cues;
 pub mod cues;
@@ -42,9 +43,9 @@ pub extern "C" fn check(table: &[u8]) -> u32
 // of the answer's buffer are its answer, and the tally counts it. A refusal is its number and 256 times the record's
 // place (from 1; 0 for 2, 10 and 3), the first one of: 2, the table is broken, the arrivals are no whole records or
 // the tally has another length; 10, the buffer is too short for the answer; 3, the clock's end; record by record 4, 5,
-// 16, 6, at a fair output 14 and 15, then 7 and 8. A refused slot has no departures and proposal counts 0, and nothing
-// of that is written: the answer's buffer keeps its bytes, and so does the table. The tally counts a refused slot; a
-// tally of another length is kept too.
+// 6, at a fair output 14 and 15, then 7 and 8. A refused slot has no departures and proposal counts 0, and nothing of
+// that is written: the answer's buffer keeps its bytes, and so does the table. The tally counts a refused slot; a tally
+// of another length is kept too.
 #[unsafe(no_mangle)]
 pub extern "C" fn slot(
     table: &mut [u8],

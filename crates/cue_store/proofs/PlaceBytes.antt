@@ -44,12 +44,12 @@ unfolding filled
 no-cues-put old mid new cleared header =
     header
     ∙ ap (put 0 4 (bytes_of 4 fair_number)) cleared
-    ∙ put-zeros [] (bytes_of 4 fair_number) 4 197836 (drop store_size old) 0 refl
-    ∙ sym (append_assoc (bytes_of 4 fair_number) (replicate 197836 0) (drop store_size old))
+    ∙ put-zeros [] (bytes_of 4 fair_number) 4 98764 (drop store_size old) 0 refl
+    ∙ sym (append_assoc (bytes_of 4 fair_number) (replicate 98764 0) (drop store_size old))
     ∙ ap₂ (λ bs n. bs ++ drop n old) (sym (store_bytes-no_cues fair_cues)) (sym size)
   where
     size : length (store_bytes no_cues) ≡ store_size
     size =
         ap length (store_bytes-no_cues fair_cues)
-        ∙ length-append (bytes_of 4 fair_number) (replicate 197836 0)
-        ∙ ap₂ ◌+◌ (length-bytes_of 4 fair_number) (length-replicate {A = ℕ} 197836 0)
+        ∙ length-append (bytes_of 4 fair_number) (replicate 98764 0)
+        ∙ ap₂ ◌+◌ (length-bytes_of 4 fair_number) (length-replicate {A = ℕ} 98764 0)

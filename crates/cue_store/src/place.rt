@@ -1,4 +1,4 @@
-// The places of a cue store. Place k stands at byte 16 + 49456 * k: a name in eight bytes, then a table.
+// The places of a cue store. Place k stands at byte 16 + 24688 * k: a name in eight bytes, then a table.
 // A caller shows that the bytes have a store's length and that there is such a place; the bytes may be any.
 ghost use Rattle.std.specs.Prelude.{◌≡◌, ◌++◌, ◌<◌, ◌≤◌, length, replicate};
 ghost use Rattle.model.specs.Cues.{cue_limit, no_cues};

@@ -21,7 +21,7 @@ use Rattle.cell.specs.declared.Refusal.TheVariants.{BadWeight, RankEnd}
 use Rattle.cell.specs.Cell.{accepted}
 use Rattle.cell.specs.Limits.{port_limit}
 use Rattle.model.specs.State.{Switch, cells}
-use Rattle.model.specs.Checks.{no_such_port, no_such_flow, no_such_class, out_of_turn, falling_rank, full, fault}
+use Rattle.model.specs.Checks.{no_such_port, no_such_flow, out_of_turn, falling_rank, full, fault}
 use Rattle.model.specs.Fair.{Memory, make, bad_weight, rank_end, record_fault, record_fault_from}
 use Rattle.model.specs.CodeFair.{rankable}
 use Rattle.model.proofs.Admitted.{faultless, port-input}
@@ -44,7 +44,7 @@ Says s m turn place a found =
 
 ports-alike : (ports clock : ℕ) (m : Memory) (before : Option Cell) (a : Arrival)
     → fault ports [] before (accepted clock a) ≡ fault ports [] before (accepted clock (make m a))
-unfolding fault no_such_port no_such_flow no_such_class out_of_turn falling_rank full some? count accepted make
+unfolding fault no_such_port no_such_flow out_of_turn falling_rank full some? count accepted make
 ports-alike ports clock m none a = refl
 ports-alike ports clock m (some b) a = refl
 

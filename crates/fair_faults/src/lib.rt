@@ -1,5 +1,6 @@
-// What turns a slot back where some outputs are fair: 3, then record by record 4, 5, 16, 6, 14, 15, 7, 8, looked for in
-// its table, its memory and its records before anything of it runs.
+// What turns a slot back where some outputs are fair: 3, then record by record 4, 5, 6, 14, 15, 7, 8, looked for in its
+// table, its memory and its records before anything of it runs.
+#![tactic(auto)]
 ghost use Rattle.std.specs.Prelude.{◌≡◌, ◌+◌, ◌≤◌, ◌<◌, length, take};
 ghost use Rattle.std.proofs.Math.Option.{Option};
 ghost use Rattle.cell.specs.declared.Cell.{Cell};
@@ -50,8 +51,8 @@ fn check_records(table: &[u8], memory: &[u8], records: [Arrival; HELD], many: us
     Fault::Clear
 }
 
-// Looks at the record behind the first n. `turn` is the lowest input whose turn it is. The ports, the flow, the class and
-// the turn are looked at with the weight for a rank: they do not depend on it.
+// Looks at the record behind the first n. `turn` is the lowest input whose turn it is. The ports, the flow and the turn
+// are looked at with the weight for a rank: they do not depend on it.
 fn check_next(table: &[u8], memory: &[u8], turn: u32, n: usize, a: Arrival) -> Fault
     requires table { IsTable table.now }
     requires memory_len { length memory.now ≡ memory_size }

@@ -8,7 +8,8 @@ use mathlib.Core.List.{List, ◌++◌, append-nil}
 use lib.Dec.{eqb}
 use lib.ListN.{length, take, drop, get_or, replicate, drop_of_length-le}
 use lib.Seq.{take_at}
-use Rattle.model.specs.Fair.{no_memory, left_count, flow_count}
+use Rattle.cell.specs.Limits.{port_limit}
+use Rattle.model.specs.Fair.{no_memory, flow_count}
 use Rattle.layout.specs.Number.{bytes_of, word}
 use Rattle.layout.specs.Code.{put}
 use Rattle.layout.specs.Memory.{word_size, left_start, given_start, memory_size, memory_bytes, memory_of}
@@ -17,10 +18,10 @@ use Rattle.layout.proofs.Number.{length-bytes_of}
 use Rattle.layout.proofs.Put.{length-put}
 
 module _ (bs : List ℕ) where
-  -- the word of a class at an output, and that of a flow
-  pub left_word : (k : ℕ) → k < left_count → word bs (left_start + word_size * k) ≡ get_or (memory_of bs).left k 0
+  -- the word of an output, and that of a flow
+  pub left_word : (o : ℕ) → o < port_limit → word bs (left_start + word_size * o) ≡ get_or (memory_of bs).left o 0
   unfolding memory_of
-  left_word k h = sym (words_in-at left_count (drop left_start bs) k h ∙ word-drop left_start (word_size * k) bs)
+  left_word o h = sym (words_in-at port_limit (drop left_start bs) o h ∙ word-drop left_start (word_size * o) bs)
 
   pub given_word : (k : ℕ) → k < flow_count → word bs (given_start + word_size * k) ≡ get_or (memory_of bs).given k 0
   unfolding memory_of

@@ -2,9 +2,9 @@
 use Rattle.std.specs.Prelude.{ℕ, set}
 use Rattle.model.specs.Fair.{Memory}
 
--- of the last cell of a class that left an output
+-- of the last cell that left an output
 unfoldable pub with_left : Memory → ℕ → ℕ → Memory
-with_left m k rank = record { fair = m.fair; left = set m.left k rank; given = m.given }
+with_left m o rank = record { fair = m.fair; left = set m.left o rank; given = m.given }
 
 -- the last one given to a flow
 unfoldable pub with_given : Memory → ℕ → ℕ → Memory

@@ -1,7 +1,9 @@
-// The memory of a switch in its bytes: the marks of its fair outputs, the rank that last left each output, class by class,
-// and the last rank given to each flow, each a number of 32 bits. A caller shows that the bytes are there.
+// The memory of a switch in its bytes: the marks of its fair outputs, the rank that last left each output, and the last
+// rank given to each flow, each a number of 32 bits. A caller shows that the bytes are there.
+#![tactic(auto)]
 ghost use Rattle.std.specs.Prelude.{◌≡◌, ◌<◌, length, get_or};
-ghost use Rattle.model.specs.Fair.{is_fair, no_memory, left_count, flow_count};
+ghost use Rattle.cell.specs.Limits.{port_limit};
+ghost use Rattle.model.specs.Fair.{is_fair, no_memory, flow_count};
 ghost use Rattle.layout.specs.Memory.{memory_size, memory_bytes, memory_of};
 ghost use Rattle.fair_memory.specs.Code.{with_left, with_given};
 
@@ -27,12 +29,12 @@ pub fn is_marked(memory: &[u8], output: u32) -> bool
     false
 }
 
-// The rank of the last cell of a class that left an output.
-pub fn left_of(memory: &[u8], index: usize) -> u32
-    requires { (length memory.now ≡ memory_size) × (index < left_count) }
-    ensures { result ≡ get_or (memory_of memory.now).left index 0 }
+// The rank of the last cell that left an output.
+pub fn left_of(memory: &[u8], output: usize) -> u32
+    requires { (length memory.now ≡ memory_size) × (output < port_limit) }
+    ensures { result ≡ get_or (memory_of memory.now).left output 0 }
 {
-    word::read_u32(memory, LEFT_AT + WORD_BYTES * index)
+    word::read_u32(memory, LEFT_AT + WORD_BYTES * output)
 }
 
 // The last rank given to a flow.
@@ -43,13 +45,13 @@ pub fn given_of(memory: &[u8], index: usize) -> u32
     word::read_u32(memory, GIVEN_AT + WORD_BYTES * index)
 }
 
-// Puts the rank of the last cell of a class that left an output.
-pub fn write_left(memory: &mut [u8], index: usize, rank: u32)
-    requires { (length memory.old ≡ memory_size) × (index < left_count) }
+// Puts the rank of the last cell that left an output.
+pub fn write_left(memory: &mut [u8], output: usize, rank: u32)
+    requires { (length memory.old ≡ memory_size) × (output < port_limit) }
     ensures { memory_of memory.new
-        ≡ with_left (memory_of memory.old) index rank }
+        ≡ with_left (memory_of memory.old) output rank }
 {
-    word::write_u32(memory, LEFT_AT + WORD_BYTES * index, rank);
+    word::write_u32(memory, LEFT_AT + WORD_BYTES * output, rank);
 }
 
 // Puts the last rank given to a flow.

@@ -112,28 +112,13 @@ module _ (m : Memory) (a : Arrival) where
   rankable-weight h = not-true (bad_weight m a) (and_l (not (bad_weight m a)) (not (rank_end m a)) h)
 
   pub made-record : (r : ℕ) → a.rank ≤ rank_top → (bad_weight m a ≡ false → r ≡ made_rank m a) → rankable m a ≡ true
-      → record {
-        input = a.input;
-        output = a.output;
-        flow = a.flow;
-        class = a.class;
-        rank = r % (rank_top + 1);
-        tag = a.tag;
-      }
+      → record { input = a.input; output = a.output; flow = a.flow; rank = r % (rank_top + 1); tag = a.tag }
       ≡ make m a
   unfolding make
   made-record r small e h =
       let same : r ≡ made_rank m a = e (rankable-weight h) in
       let fits : r % (rank_top + 1) ≡ made_rank m a = omega (arith, made-small small h) in
-      λ k.
-      record {
-        input = a.input;
-        output = a.output;
-        flow = a.flow;
-        class = a.class;
-        rank = fits k;
-        tag = a.tag;
-      }
+      λ k. record { input = a.input; output = a.output; flow = a.flow; rank = fits k; tag = a.tag }
 
 ------------------------------------------------------------------------
 -- the records of a slot

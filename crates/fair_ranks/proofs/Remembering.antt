@@ -1,7 +1,7 @@
 -- What is remembered of a slot.
 --     record-put, -kept, -beyond       the memory after one record
 --     records-none, -next              after the records so far
---     departure-none, -put, -kept, -beyond      after one departure
+--     departure-none, -put, -kept      after one departure
 --     departures-none, -next           after those so far
 --     remember-all                     after both
 use Prim.Native.Nat.{ℕ, zero, suc, ◌+◌, ◌*◌, ◌/◌, ◌%◌, ◌^◌, ◌≤◌, ◌<◌}
@@ -18,8 +18,8 @@ use lib.Seq.{take-suc, drop-drop, set_out}
 use Rattle.laws.proofs.Tests.{cond-pass, cond-fail}
 use Rattle.cell.specs.declared.Arrival.{Arrival}
 use Rattle.cell.specs.declared.Cell.{Cell}
-use Rattle.model.specs.Fair.{Memory, is_fair, flow_index, flow_count, left_index, left_count, made_rank, make}
-use Rattle.model.specs.Fair.{given_after, left_after, remembered}
+use Rattle.cell.specs.Limits.{port_limit}
+use Rattle.model.specs.Fair.{Memory, is_fair, flow_index, flow_count, made_rank, make, given_after, left_after, remembered}
 use Rattle.layout.specs.Answer.{departure_size, cell_in, departure_in, departures_in}
 use Rattle.layout.specs.Memory.{memory_of, left_start, given_start}
 use Rattle.layout.specs.Number.{word}
@@ -31,13 +31,9 @@ pub length-given : (bs : List ℕ) → length (memory_of bs).given ≡ flow_coun
 unfolding memory_of
 length-given bs = length-words_in flow_count (drop given_start bs)
 
-pub length-left : (bs : List ℕ) → length (memory_of bs).left ≡ left_count
+pub length-left : (bs : List ℕ) → length (memory_of bs).left ≡ port_limit
 unfolding memory_of
-length-left bs = length-words_in left_count (drop left_start bs)
-
-same-both : (b : Bool) (l : List ℕ) → cond b l l ≡ l
-same-both true l = refl
-same-both false l = refl
+length-left bs = length-words_in port_limit (drop left_start bs)
 
 ------------------------------------------------------------------------
 -- one record
@@ -62,8 +58,12 @@ module _ (m : Memory) (a : Arrival) where
   record-beyond past =
       let given : m.given ≡ cond (is_fair m a.output) (set m.given (flow_index a) a.rank) m.given =
       sym (ap (λ l. cond (is_fair m a.output) l m.given) (set_out m.given (flow_index a) a.rank past)
-      ∙ same-both (is_fair m a.output) m.given) in
+      ∙ same (is_fair m a.output) m.given) in
       λ x. record { fair = m.fair; left = m.left; given = given x }
+    where
+      same : (b : Bool) (l : List ℕ) → cond b l l ≡ l
+      same true l = refl
+      same false l = refl
 
 ------------------------------------------------------------------------
 -- the records
@@ -109,28 +109,17 @@ module _ (m : Memory) (o : ℕ) where
   unfolding with_departure left_after
   departure-none d e = sym (ap (with_departure m o) e)
 
-  pub departure-put : (d : Option Cell) (c : Cell) (k : ℕ) → d ≡ some c → is_fair m o ≡ true → k ≡ left_index c.class o
-      → with_left m k c.rank ≡ with_departure m o d
+  pub departure-put : (d : Option Cell) (c : Cell) → d ≡ some c → is_fair m o ≡ true
+      → with_left m o c.rank ≡ with_departure m o d
   unfolding with_departure left_after with_left
-  departure-put d c k e fair at =
-      let left = ap (λ i. set m.left i c.rank) at
-      ∙ sym (cond-pass (is_fair m o) (set m.left (left_index c.class o) c.rank) m.left fair) in
-      (λ x. record { fair = m.fair; left = left x; given = m.given }) ∙ sym (ap (with_departure m o) e)
-
-  -- a class that no switch has
-  pub departure-beyond : (d : Option Cell) (c : Cell) → d ≡ some c → length m.left ≤ left_index c.class o
-      → m ≡ with_departure m o d
-  unfolding with_departure left_after
-  departure-beyond d c e past =
-      let left : m.left ≡ cond (is_fair m o) (set m.left (left_index c.class o) c.rank) m.left =
-      sym (ap (λ l. cond (is_fair m o) l m.left) (set_out m.left (left_index c.class o) c.rank past)
-      ∙ same-both (is_fair m o) m.left) in
+  departure-put d c e fair =
+      let left = sym (cond-pass (is_fair m o) (set m.left o c.rank) m.left fair) in
       (λ x. record { fair = m.fair; left = left x; given = m.given }) ∙ sym (ap (with_departure m o) e)
 
   pub departure-kept : (d : Option Cell) (c : Cell) → d ≡ some c → is_fair m o ≡ false → m ≡ with_departure m o d
   unfolding with_departure left_after
   departure-kept d c e other =
-      let left = sym (cond-fail (is_fair m o) (set m.left (left_index c.class o) c.rank) m.left other) in
+      let left = sym (cond-fail (is_fair m o) (set m.left o c.rank) m.left other) in
       (λ x. record { fair = m.fair; left = left x; given = m.given }) ∙ sym (ap (with_departure m o) e)
 
 -- what the bytes of one say
@@ -168,7 +157,7 @@ unfolding left_after
 left-snoc m o k [] d left e = ap (λ n. left_after m n (d ∷ []) left) (sym (e ∙ add-zero o))
 left-snoc m o k (none ∷ ds) d left e = left-snoc m (o + 1) k ds d left (omega arith)
 left-snoc m o k (some c ∷ ds) d left e =
-    left-snoc m (o + 1) k ds d (cond (is_fair m o) (set left (left_index c.class o) c.rank) left) (omega arith)
+    left-snoc m (o + 1) k ds d (cond (is_fair m o) (set left o c.rank) left) (omega arith)
 
 -- only the marks of a memory count
 left-marks : (m n : Memory) → m.fair ≡ n.fair → (o : ℕ) (ds : List (Option Cell)) (left : List ℕ)
@@ -177,8 +166,8 @@ unfolding left_after is_fair
 left-marks m n e o [] left = refl
 left-marks m n e o (none ∷ ds) left = left-marks m n e (o + 1) ds left
 left-marks m n e o (some c ∷ ds) left =
-    left-marks m n e (o + 1) ds (cond (is_fair m o) (set left (left_index c.class o) c.rank) left)
-    ∙ ap (λ f. left_after n (o + 1) ds (cond (eqb (f / 2 ^ o % 2) 1) (set left (left_index c.class o) c.rank) left)) e
+    left-marks m n e (o + 1) ds (cond (is_fair m o) (set left o c.rank) left)
+    ∙ ap (λ f. left_after n (o + 1) ds (cond (eqb (f / 2 ^ o % 2) 1) (set left o c.rank) left)) e
 
 pub departures-none : (m : Memory) (bs : List ℕ) → m ≡ with_departures m (departures_in 0 bs)
 unfolding with_departures left_after departures_in

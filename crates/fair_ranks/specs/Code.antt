@@ -4,10 +4,10 @@ use Rattle.std.specs.Prelude.{ℕ, max, cond, List, [], ◌∷◌, get_or, set}
 use Rattle.std.proofs.Math.Option.{Option}
 use Rattle.cell.specs.declared.Arrival.{Arrival}
 use Rattle.cell.specs.declared.Cell.{Cell}
-use Rattle.model.specs.Fair.{Memory, is_fair, flow_index, left_index, left_after}
+use Rattle.model.specs.Fair.{Memory, is_fair, flow_index, left_after}
 
 unfoldable pub last_rank : Memory → Arrival → ℕ
-last_rank m a = max (get_or m.given (flow_index a) 0) (get_or m.left (left_index a.class a.output) 0)
+last_rank m a = max (get_or m.given (flow_index a) 0) (get_or m.left a.output 0)
 
 -- the ranks given, after records
 unfoldable pub given_by : Memory → List Arrival → List ℕ → List ℕ

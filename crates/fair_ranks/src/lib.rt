@@ -1,17 +1,18 @@
 // Fair ranks, on the bytes of a memory: the rank that a record gets, and what an accepted slot leaves in the memory.
+#![tactic(auto)]
 ghost use Rattle.std.specs.Prelude.{true, false, List, map, ◌≡◌, ◌≤◌, ◌<◌, length, get_or, take};
 ghost use Rattle.laws.specs.Lists.{all?};
 ghost use Rattle.cell.specs.Limits.{port_limit};
 ghost use Rattle.cell.specs.declared.Arrival.{Arrival};
 ghost use Rattle.model.specs.CodeFair.{rankable};
-ghost use Rattle.model.specs.Fair.{flow_index, left_index, made_rank, make, bad_weight, rank_end, remembered};
+ghost use Rattle.model.specs.Fair.{flow_index, made_rank, make, bad_weight, rank_end, remembered};
 ghost use Rattle.layout.specs.Answer.{departure_size, departures_size, departure_in, departures_in};
 ghost use Rattle.layout.specs.Arrivals.{held_limit};
 ghost use Rattle.layout.specs.Memory.{memory_size, memory_of};
 ghost use Rattle.fair_ranks.specs.Code.{last_rank, with_record, with_records, with_departure, with_departures};
 
 use cell::{Arrival, Switch};
-use layout::{CLASS_FLOWS, DEPARTURE_BYTES, FLOWS, HELD, LEFTS, PORTS};
+use layout::{DEPARTURE_BYTES, FLOWS, HELD, PORTS};
 
 // A weight is 1 to 1,024.
 const WEIGHTS: u32 = 1024;
@@ -59,13 +60,13 @@ pub fn made_rank(memory: &[u8], a: Arrival) -> u64
     a.rank as u64
 }
 
-// The larger of the last rank given to a record's flow and the rank of the last cell of its class that left its output.
+// The larger of the last rank given to a record's flow and the rank of the last cell that left its output.
 fn last_rank(memory: &[u8], a: Arrival) -> u32
     requires { length memory.now ≡ memory_size }
     ensures { result ≡ last_rank (memory_of memory.now) a }
 {
     let given = last_given(memory, a);
-    let left = last_left(memory, a);
+    let left = last_left(memory, a.output as usize);
     if given < left {
         return left;
     }
@@ -84,14 +85,13 @@ fn last_given(memory: &[u8], a: Arrival) -> u32
     0
 }
 
-// The rank of the last cell of a record's class that left its output: 0 where no switch has the two.
-fn last_left(memory: &[u8], a: Arrival) -> u32
+// The rank of the last cell that left an output: 0 for one that no switch has.
+fn last_left(memory: &[u8], output: usize) -> u32
     requires { length memory.now ≡ memory_size }
-    ensures { result ≡ get_or (memory_of memory.now).left (left_index a.class a.output) 0 }
+    ensures { result ≡ get_or (memory_of memory.now).left output 0 }
 {
-    let index = left_index(a.class, a.output);
-    if index < LEFTS {
-        return fair_memory::left_of(memory, index);
+    if output < PORTS {
+        return fair_memory::left_of(memory, output);
     }
     0
 }
@@ -100,16 +100,7 @@ fn last_left(memory: &[u8], a: Arrival) -> u32
 fn flow_index(a: Arrival) -> usize
     ensures { result ≡ flow_index a }
 {
-    CLASS_FLOWS * (a.class as usize)
-        + (INPUT_FLOWS * (a.input as usize)
-            + (OUTPUT_FLOWS * (a.output as usize) + a.flow as usize))
-}
-
-// Where the rank of the last cell of a class that left an output stands.
-fn left_index(class: u32, output: u32) -> usize
-    ensures { result ≡ left_index class output }
-{
-    PORTS * (class as usize) + output as usize
+    INPUT_FLOWS * (a.input as usize) + (OUTPUT_FLOWS * (a.output as usize) + a.flow as usize)
 }
 
 // A record with its rank, where one can be made: then nothing of it is lost in 32 bits.
@@ -122,7 +113,6 @@ pub fn make(memory: &[u8], a: Arrival) -> Arrival
         input: a.input,
         output: a.output,
         flow: a.flow,
-        class: a.class,
         rank: (made_rank(memory, a) % (RANK_TOP + 1)) as u32,
         tag: a.tag,
     }
@@ -205,12 +195,8 @@ fn remember_departure(memory: &mut [u8], output: usize, sent: &[u8])
     if layout_answer::is_none(sent) {
         return;
     }
-    let port = output as u32;
-    if fair_memory::is_marked(memory, port) {
+    if fair_memory::is_marked(memory, output as u32) {
         let c = layout_answer::cell_in(sent);
-        let index = left_index(c.class, port);
-        if index < LEFTS {
-            fair_memory::write_left(memory, index, c.rank);
-        }
+        fair_memory::write_left(memory, output, c.rank);
     }
 }

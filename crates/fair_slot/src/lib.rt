@@ -1,4 +1,5 @@
 // A slot of the crossbar on the table that a host keeps: its cells, and the memory of its fair outputs.
+#![tactic(auto)]
 ghost use Rattle.std.specs.Prelude.{true, ◌≡◌, ◌≤◌, length, take};
 ghost use Rattle.std.proofs.Math.Option.{some};
 ghost use Rattle.laws.specs.Lists.{all?};
@@ -23,8 +24,8 @@ use layout_tally::counted;
 // Takes a slot on the lent table with the lent arrivals. The table is then the one after the slot, the first bytes of
 // the answer's buffer are its answer, and the tally counts it. A refusal is the first one of: 2, the table is broken or
 // the arrivals are no whole records; 10, the buffer is too short for the answer; 3, the clock's end; record by record
-// 4, 5, 16, 6, 14, 15, 7, 8. A refusal keeps the table and the buffer, and the tally counts a refused slot. Where no
-// output is fair, only the cells are looked at.
+// 4, 5, 6, 14, 15, 7, 8. A refusal keeps the table and the buffer, and the tally counts a refused slot. Where no output
+// is fair, only the cells are looked at.
 pub fn slot(table: &mut [u8], arrivals: &[u8], answer: &mut [u8], tally: &mut [u8]) -> Fault
     requires { length tally.old ≡ tally_size }
     ensures { SlotLeaves (lent_slot table.old arrivals.now (length answer.old))

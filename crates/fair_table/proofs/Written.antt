@@ -1,26 +1,29 @@
 -- The parts of a table, put one behind the other.
---     put-part         a lent part that comes back
---     fresh-written    the number, the cells and no memory are the table
---     fresh-room       the buffer keeps its length
+--     put-part                        a lent part that comes back
+--     fresh-written, older-written    the number, the cells and no memory are the table
+--     fresh-room                      the buffer keeps its length
 use Prim.Native.Nat.{ℕ, ◌+◌, ◌≤◌}
 use native.Mathlib.Omega.{arith}
+use mathlib.Core.Bool.{true}
 use mathlib.Core.List.{List, ◌++◌, append_assoc, append-nil}
 use mathlib.Core.Path.{◌≡◌, refl, sym, ap, ap₂, ◌∙◌}
 use lib.ListN.{length, take, drop, length-append, length-replicate, length-take, drop_of_length-le}
-use lib.Seq.{drop-drop}
+use lib.Seq.{drop-drop, take_all}
 use borrow.Rule.Slice.PartMut.{put_mid}
-use Rattle.model.specs.Fair.{Memory, no_memory, marked, left_count, flow_count}
+use Rattle.cell.specs.Limits.{port_limit}
+use Rattle.model.specs.Fair.{Memory, no_memory, marked, flow_count}
 use Rattle.model.specs.State.{Switch, fresh}
 use Rattle.layout.specs.Code.{put}
 use Rattle.layout.specs.Fair.{core_start, memory_start, fair_size, fair_bytes}
 use Rattle.layout.specs.Host.{filled}
 use Rattle.layout.specs.Memory.{word_size, memory_size, memory_bytes}
 use Rattle.layout.specs.Number.{bytes_of}
-use Rattle.layout.specs.Table.{table_size, encode}
+use Rattle.layout.specs.Table.{table_size, encode, state_of, is_table}
 use Rattle.layout.proofs.Host.{length-filled}
 use Rattle.layout.proofs.Memory.{length-memory_bytes}
 use Rattle.layout.proofs.Number.{length-bytes_of}
 use Rattle.layout.proofs.Put.{put_next}
+use Rattle.layout.proofs.Table.{decode-sound, decode-length, encode-decode, length-encode, is-table}
 use Rattle.layout_table.proofs.Fresh.{encode-fresh}
 
 -- a part that is lent and comes back
@@ -35,7 +38,7 @@ length-fresh n first =
 length_none : (marks : ℕ) → length (memory_bytes (no_memory marks)) ≡ memory_size
 unfolding no_memory
 length_none marks =
-    length-memory_bytes (no_memory marks) (length-replicate {A = ℕ} left_count 0) (length-replicate {A = ℕ} flow_count 0)
+    length-memory_bytes (no_memory marks) (length-replicate {A = ℕ} port_limit 0) (length-replicate {A = ℕ} flow_count 0)
 
 -- a buffer that is filled to its end
 filled-whole : (bs buffer : List ℕ) → length buffer ≤ length bs → filled bs buffer ≡ bs
@@ -97,3 +100,20 @@ fresh-room number ports first marks old room =
     (length-append (encode (fresh ports first)) (memory_bytes (no_memory marks))
     ∙ ap₂ ◌+◌ (length-fresh ports first) (length_none marks)) in
     length-filled (bytes_of word_size number ++ bytes) old (omega arith)
+
+-- the number; the bytes of an older table; no memory
+pub older-written : (number : ℕ) (core old one two three none : List ℕ) → is_table core ≡ true → fair_size ≤ length old
+    → one ≡ put 0 word_size (bytes_of word_size number) old
+    → two ≡ put core_start table_size (take table_size core) one
+    → none ≡ memory_bytes (no_memory 0)
+    → three ≡ put_mid memory_start memory_size two none
+    → three ≡ filled (fair_bytes number (marked 0 (state_of core))) old
+unfolding marked
+older-written number core old one two three none t room a b d e =
+    let table = is-table core t in
+    let cells : take table_size core ≡ encode (state_of core) =
+    take_all table_size core (omega (arith, decode-length core _ table)) ∙ sym (encode-decode core _ table) in
+    written number (state_of core) (no_memory 0) (length-encode (state_of core) (decode-sound core _ table)) (length_none 0) old
+    room one two three a
+    (b ∙ ap (λ l. put core_start table_size l one) cells)
+    (e ∙ put-part memory_start memory_size two none ∙ ap (λ l. put memory_start memory_size l two) d)

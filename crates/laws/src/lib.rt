@@ -1,1 +1,2 @@
 // Definitions and laws only: tests over lists, in specs/ and proofs/.
+#![tactic(auto)]

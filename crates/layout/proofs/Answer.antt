@@ -1,4 +1,4 @@
--- Laws of the answer as bytes: it has 648 of them, and a reader who knows N reads the answer back, whatever follows it.
+-- Laws of the answer as bytes: it has 584 of them, and a reader who knows N reads the answer back, whatever follows it.
 use Prim.Native.Nat.{ℕ, zero, suc, ◌+◌, ◌*◌, ◌-◌, ◌≤◌, ◌<◌}
 use mathlib.Core.Bool.{Bool, true, ◌&&◌}
 use mathlib.Core.Path.{◌≡◌, refl, sym, ◌∙◌, ap, ap₂}
@@ -29,8 +29,7 @@ unfoldable pub cell_fits : Cell → Bool
 cell_fits c =
     fits32 c.input
     && (fits32 c.output
-    && (fits32 c.flow
-    && (fits32 c.class && (fits32 c.rank && (fits32 c.tag && fits32 c.slot)))))
+    && (fits32 c.flow && (fits32 c.rank && (fits32 c.tag && fits32 c.slot))))
 
 unfoldable pub departure_fits : Option Cell → Bool
 departure_fits none = true
@@ -48,17 +47,15 @@ departure_in-departure_bytes (some c) h =
     let i : fits32 c.input ≡ true = search and_l in
     let o : fits32 c.output ≡ true = search (and_l, and_r) in
     let f : fits32 c.flow ≡ true = search (and_l, and_r) in
-    let l : fits32 c.class ≡ true = search (and_l, and_r) depth 9 in
-    let r : fits32 c.rank ≡ true = search (and_l, and_r) depth 9 in
-    let t : fits32 c.tag ≡ true = search (and_l, and_r) depth 9 in
-    let s : fits32 c.slot ≡ true = search (and_l, and_r) depth 9 in
+    let r : fits32 c.rank ≡ true = search (and_l, and_r) in
+    let t : fits32 c.tag ≡ true = search (and_l, and_r) in
+    let s : fits32 c.slot ≡ true = search (and_l, and_r) depth 7 in
     λ k.
     some
     (record {
       input = number_of-word c.input i k;
       output = number_of-word c.output o k;
       flow = number_of-word c.flow f k;
-      class = number_of-word c.class l k;
       rank = number_of-word c.rank r k;
       tag = number_of-word c.tag t k;
       slot = number_of-word c.slot s k;

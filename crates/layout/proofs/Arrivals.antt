@@ -1,4 +1,4 @@
--- Laws of the arrivals as bytes: a record and its 24 bytes are each other's, and so are the records of a slot and the
+-- Laws of the arrivals as bytes: a record and its 20 bytes are each other's, and so are the records of a slot and the
 -- bytes that it is lent.
 use Prim.Native.Nat.{ℕ, zero, suc, ◌+◌, ◌*◌, ◌/◌, ◌%◌, ◌≤◌}
 use mathlib.Core.Bool.{Bool, true, false}
@@ -34,14 +34,12 @@ arrival_of-arrival_bytes a h =
     let i : fits32 a.input ≡ true = search and_l in
     let o : fits32 a.output ≡ true = search (and_l, and_r) in
     let f : fits32 a.flow ≡ true = search (and_l, and_r) in
-    let l : fits32 a.class ≡ true = search (and_l, and_r) in
     let r : fits32 a.rank ≡ true = search (and_l, and_r) in
     let t : fits32 a.tag ≡ true = search (and_l, and_r) in
     λ k. record {
       input = number_of-word a.input i k;
       output = number_of-word a.output o k;
       flow = number_of-word a.flow f k;
-      class = number_of-word a.class l k;
       rank = number_of-word a.rank r k;
       tag = number_of-word a.tag t k;
     }
@@ -58,8 +56,7 @@ arrival_bytes-arrival_of bs h size =
     bytes_of-at 4 0 bs h (rw size (lit≤ tt)) _
     (bytes_of-at 4 4 bs h (rw size (lit≤ tt)) _
     (bytes_of-at 4 8 bs h (rw size (lit≤ tt)) _
-    (bytes_of-at 4 12 bs h (rw size (lit≤ tt)) _
-    (bytes_of-at 4 16 bs h (rw size (lit≤ tt)) _ (bytes_of-last 4 20 bs h size)))))
+    (bytes_of-at 4 12 bs h (rw size (lit≤ tt)) _ (bytes_of-last 4 16 bs h size))))
 
 -- a record of bytes fits
 pub arrival_of-fits : (bs : List ℕ) → bytes? bs ≡ true → length bs ≡ arrival_size → arrival_fits (arrival_of bs) ≡ true
@@ -68,9 +65,8 @@ arrival_of-fits bs h size =
     let i : fits32 (word bs 0) ≡ true = word_fits bs 0 h (rw size (lit≤ tt)) in
     let o : fits32 (word bs 4) ≡ true = word_fits bs 4 h (rw size (lit≤ tt)) in
     let f : fits32 (word bs 8) ≡ true = word_fits bs 8 h (rw size (lit≤ tt)) in
-    let l : fits32 (word bs 12) ≡ true = word_fits bs 12 h (rw size (lit≤ tt)) in
-    let r : fits32 (word bs 16) ≡ true = word_fits bs 16 h (rw size (lit≤ tt)) in
-    let t : fits32 (word bs 20) ≡ true = word_fits bs 20 h (rw size (lit≤ tt)) in
+    let r : fits32 (word bs 12) ≡ true = word_fits bs 12 h (rw size (lit≤ tt)) in
+    let t : fits32 (word bs 16) ≡ true = word_fits bs 16 h (rw size (lit≤ tt)) in
     search and_i depth 9
 
 ------------------------------------------------------------------------

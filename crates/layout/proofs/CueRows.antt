@@ -3,11 +3,8 @@ use mathlib.Core.List.{[], ◌∷◌}
 use mathlib.Core.Option.{none}
 use mathlib.Core.Path.{◌≡◌, refl}
 use lib.ListN.{replicate}
-use Rattle.layout.specs.Cues.{place_size, store_size, cue_of}
+use Rattle.layout.specs.Cues.{place_size, store_size, old_store_size, cue_of}
 use Rattle.layout.specs.Number.{bytes_of}
-use Rattle.layout.specs.Older.{old_fair_size}
-use Rattle.layout.specs.OlderCues.{old_store_size}
-use Rattle.layout.specs.Table.{table_size}
 use Rattle.layout.specs.Stores.{name_bytes, name_of, cue_by, pieces, store_header}
 
 -- the name ab in eight bytes, and read back; a byte behind a zero is no part of a name; a place that begins with zeros is free
@@ -22,11 +19,10 @@ names-stored = (refl, refl, refl, refl, refl)
 
 -- the header, the sizes, and pieces one after the other
 pub store-parts :
-    (store_header 3 ≡ 3 ∷ replicate 15 0)
-    × (place_size ≡ 49456)
-    × (store_size ≡ 197840)
-    × (old_store_size old_fair_size ≡ 98768)
-    × (old_store_size table_size ≡ 65712)
+    (store_header 2 ≡ 2 ∷ replicate 15 0)
+    × (place_size ≡ 24688)
+    × (store_size ≡ 98768)
+    × (old_store_size ≡ 65712)
     × (pieces 2 3 (1 ∷ 2 ∷ 3 ∷ 4 ∷ 5 ∷ 6 ∷ []) ≡ (1 ∷ 2 ∷ []) ∷ (3 ∷ 4 ∷ []) ∷ (5 ∷ 6 ∷ []) ∷ [])
 unfolding store_header bytes_of pieces
-store-parts = (refl, refl, refl, refl, refl, refl)
+store-parts = (refl, refl, refl, refl, refl)

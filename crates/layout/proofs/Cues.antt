@@ -18,10 +18,15 @@ use Rattle.layout.specs.Frame.{is_fair_table}
 use Rattle.layout.specs.Fair.{fair_number, fair_bytes, decode_fair}
 use Rattle.layout.specs.Cues.{store_size, decode_store, is_store, store_call, set_of, set_call}
 use Rattle.layout.specs.CodeCues.{cues_of}
-use Rattle.layout.specs.Cues.{drop_of, drop_call, return_of, return_call, sound_fair, fair_cues}
+use Rattle.layout.specs.Cues.{drop_of, drop_call, return_of, return_call, sound_fair, fair_cues, older_cues}
 use Rattle.layout.proofs.Fair.{length-fair_bytes, fair_of-fair_bytes, decode_with-some, decode_fair-fair_bytes}
 use Rattle.layout.proofs.Fair.{is_table_with-some}
 use Rattle.layout.proofs.Stores.{Fit, decode_store-cues}
+use Rattle.layout.proofs.Table.{length-encode, state_of-encode}
+
+-- both tables fit
+pub older-fit : Fit older_cues
+older-fit = record { long = length-encode; back = state_of-encode }
 
 -- a sound switch with its memory
 module _ (x : Fair Switch) (h : sound_fair x ≡ true) where

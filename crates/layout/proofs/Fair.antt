@@ -7,38 +7,37 @@
 --     framed-.., framed-whole                     what the frame says, and bytes whose frame is right by their parts
 --     decode_with-tests, decode_fair-, decode_fair_oq-tests    whether bytes are accepted, by the frame and the cells
 --     is_table_with-some, is-table-with, is_table_with-none    whether they are
---     fair-not-.., fair-length                    no bytes are a table of two layouts
+--     first_word.., not-..                        no bytes are a table of two layouts
 use Prim.Native.Nat.{ℕ, ◌+◌, ◌^◌, ◌≤◌}
 use mathlib.Core.Bool.{Bool, true, false, cond, ◌&&◌, true≢false}
-use mathlib.Core.Logic.{◌≢◌}
 use mathlib.Core.Path.{◌≡◌, refl, sym, ◌∙◌, ap, ap₂}
 use mathlib.Core.List.{List, ◌++◌}
 use mathlib.Core.Option.{Option, none, some, some-injective, some-ne-none}
 use native.Mathlib.Omega.{arith}
-use borrow.Author.Tests.{ltb-true, eqb-true, eq-eqb, ne_eqb}
+use borrow.Author.Tests.{ltb-true, eqb-true, eq-eqb}
 use lib.Dec.{eqb}
 use lib.ListN.{length, take, drop, take-append-drop, length-append, length-drop}
 use lib.Pow.{pow_mono}
 use lib.Seq.{take_at, drop_at, drop-drop, length-take-le}
 use Rattle.laws.proofs.Tests.{by-fail, clash, and_i, and_l, and_r}
 use Rattle.cell.specs.Limits.{fits32, port_limit, ports_in_range}
-use Rattle.model.specs.Fair.{Memory, Fair, left_count, flow_count, marks_in_range, sound_memory}
+use Rattle.model.specs.Fair.{Memory, Fair, flow_count, marks_in_range, sound_memory}
 use Rattle.model.specs.Oq.{all_buffered, sound_oq}
 use Rattle.model.specs.Sound.{sound}
 use Rattle.model.specs.State.{Switch}
-use Rattle.model.proofs.OqSound.{sound-oq-table}
 use Rattle.layout.specs.CodeFair.{is_fair_oq_table}
 use Rattle.layout.specs.Frame.{ports_start, is_framed, is_table_with, is_fair_table}
 use Rattle.layout.specs.Fair.{fair_number, fair_number_oq, core_start, memory_start, fair_size, fair_bytes, core_in}
 use Rattle.layout.specs.Fair.{memory_in, fair_of, decode_with, decode_fair, decode_fair_oq}
 use Rattle.layout.specs.Memory.{word_size, memory_size, memory_bytes, memory_of}
-use Rattle.layout.specs.Number.{bytes_of, number_at, word, same_bytes}
-use Rattle.layout.specs.Older.{old_number, old_fair_size, oldest_size_oq, is_numbered, renewed, renewed_oq, older, older_oq}
-use Rattle.layout.specs.Table.{table_size, encode, state_of, decode, is_table}
+use Rattle.layout.specs.Number.{bytes_of, number_of, number_at, word, same_bytes}
+use Rattle.layout.specs.Oq.{oq_number, decode_oq, encode_oq}
+use Rattle.layout.specs.Table.{layout_number, table_size, encode, state_of, decode, is_table}
 use Rattle.layout.proofs.Memory.{WordsFit, word-drop, length-memory_bytes, memory_of-memory_bytes, memory_of-fits}
 use Rattle.layout.proofs.Memory.{memory_bytes-memory_of}
 use Rattle.layout.proofs.Number.{bytes?, bytes?-take, bytes?-drop, below-fits32, length-bytes_of, bytes_of-number_of}
 use Rattle.layout.proofs.Number.{word-here, same_bytes-refl, same_bytes-exact}
+use Rattle.layout.proofs.Oq.{decode_oq-some}
 use Rattle.layout.proofs.Records.{number_at-part}
 use Rattle.layout.proofs.Table.{length-encode, state_of-encode, decode-encode, decode-sound, encode-decode}
 use Rattle.layout.proofs.Table.{is_table-some, is-table, sound-ports}
@@ -61,7 +60,7 @@ module _ (ports : ℕ) (m : Memory) (h : sound_memory ports m ≡ true) where
   sound-fits : ports ≤ port_limit → WordsFit m
   unfolding sound_memory
   sound-fits few =
-      let left : eqb (length m.left) left_count ≡ true = search (and_l, and_r) in
+      let left : eqb (length m.left) port_limit ≡ true = search (and_l, and_r) in
       let given : eqb (length m.given) flow_count ≡ true = search (and_l, and_r) in
       record {
         marks = marks-fit ports m.fair few sound-marks;
@@ -390,47 +389,40 @@ module _ (bs : List ℕ) (b : bytes? bs ≡ true) where
       ap (λ o. elim o [ some x ↦ true | none ↦ false ]) (decode_fair_oq-tests bs b) ∙ cond-test _ bs
 
 ------------------------------------------------------------------------
--- no bytes are a table of two layouts: their first words differ, or their lengths
+-- no bytes are a table of two layouts: their first words differ
+
+first_word : (bs : List ℕ) (s : Switch) → decode bs ≡ some s → word bs 0 ≡ layout_number
+unfolding encode word number_at number_of bytes_of
+first_word bs s e = ap (λ l. word l 0) (sym (encode-decode bs s e))
+
+first-word-oq : (bs : List ℕ) (s : Switch) → decode_oq bs ≡ some s → word bs 0 ≡ oq_number
+unfolding encode_oq word number_at number_of bytes_of
+first-word-oq bs s e = ap (λ l. word l 0) (decode_oq-some bs s e).0
 
 first-word-with : (number : ℕ) (sound_core : Switch → Bool) → fits32 number ≡ true
     → (bs : List ℕ) (x : Fair Switch) → decode_with number sound_core bs ≡ some x → word bs 0 ≡ number
 first-word-with number sound_core fits bs x e =
     ap (λ l. word l 0) (decode_with-some number sound_core bs x e).0 ∙ number-fair_bytes number x fits
 
-pub fair-not-fair-oq : (bs : List ℕ) (x y : Fair Switch) → decode_fair bs ≡ some x → decode_fair_oq bs ≡ some y → ⊥
-fair-not-fair-oq bs x y e f =
-    omega (
-      arith,
-      first-word-with fair_number sound number_fits bs x e,
-      first-word-with fair_number_oq sound_oq number-fits-oq bs y f,
-    )
+first-word-fair : (bs : List ℕ) (x : Fair Switch) → decode_fair bs ≡ some x → word bs 0 ≡ fair_number
+first-word-fair = first-word-with fair_number sound number_fits
 
-pub fair-length : (bs : List ℕ) (x : Fair Switch) → decode_fair bs ≡ some x → length bs ≡ fair_size
-fair-length bs x e =
-    let h = decode_with-some fair_number sound bs x e in
-    ap length h.0 ∙ length-fair_bytes fair_number x h.1 h.2
+first-word-fair-oq : (bs : List ℕ) (x : Fair Switch) → decode_fair_oq bs ≡ some x → word bs 0 ≡ fair_number_oq
+first-word-fair-oq = first-word-with fair_number_oq sound_oq number-fits-oq
 
-pub fair-oq-length : (bs : List ℕ) (x : Fair Switch) → decode_fair_oq bs ≡ some x → length bs ≡ fair_size
-fair-oq-length bs x e =
-    let h = decode_with-some fair_number_oq sound_oq bs x e in
-    ap length h.0 ∙ length-fair_bytes fair_number_oq x (sound-oq-table x.core h.1) h.2
+module _ (bs : List ℕ) (x : Fair Switch) (e : decode_fair bs ≡ some x) where
+  pub fair-not-older : (s : Switch) → decode bs ≡ some s → ⊥
+  fair-not-older s f = omega (arith, first-word-fair bs x e, first_word bs s f)
 
-module _ (bs : List ℕ) (size : length bs ≡ fair_size) where
-  no-renewed : (number : ℕ) (new next : Option (List ℕ)) → cond (is_numbered old_fair_size number bs) new next ≡ next
-  unfolding is_numbered
-  no-renewed number new next =
-      let other : length bs ≢ old_fair_size = omega arith in
-      rw (ne_eqb _ _ other)
+  pub fair-not-older-oq : (s : Switch) → decode_oq bs ≡ some s → ⊥
+  fair-not-older-oq s f = omega (arith, first-word-fair bs x e, first-word-oq bs s f)
 
-  pub fair-not-older : older bs ≡ none
-  unfolding older renewed
-  fair-not-older =
-      let other : length bs ≢ table_size = omega arith in
-      rw (ne_eqb _ _ other, no-renewed old_number, older)
+  pub fair-not-fair-oq : (y : Fair Switch) → decode_fair_oq bs ≡ some y → ⊥
+  fair-not-fair-oq y f = omega (arith, first-word-fair bs x e, first-word-fair-oq bs y f)
 
-  pub fair-not-older-oq : older_oq bs ≡ none
-  unfolding older_oq renewed_oq is_numbered
-  fair-not-older-oq =
-      let other : length bs ≢ oldest_size_oq = omega arith in
-      let older : length bs ≢ old_fair_size = omega arith in
-      rw (ne_eqb _ _ other, ne_eqb _ _ older, older_oq)
+module _ (bs : List ℕ) (x : Fair Switch) (e : decode_fair_oq bs ≡ some x) where
+  pub fair-oq-not-older : (s : Switch) → decode bs ≡ some s → ⊥
+  fair-oq-not-older s f = omega (arith, first-word-fair-oq bs x e, first_word bs s f)
+
+  pub fair-oq-not-older-oq : (s : Switch) → decode_oq bs ≡ some s → ⊥
+  fair-oq-not-older-oq s f = omega (arith, first-word-fair-oq bs x e, first-word-oq bs s f)

@@ -1,6 +1,5 @@
 pub mod Answer
 pub mod Arrivals
-pub mod ByteRows
 pub mod CueRows
 pub mod Cues
 pub mod Engine
@@ -12,7 +11,9 @@ pub mod Memory
 pub mod Number
 pub mod Older
 pub mod OlderCues
+pub mod Oq
 pub mod OqRead
+pub mod OqRows
 pub mod Parts
 pub mod Pieces
 pub mod Put

@@ -12,7 +12,7 @@ use lib.Dec.{eqb, leb}
 use lib.ListN.{length, length-map}
 use Rattle.cell.specs.declared.Arrival.{Arrival}
 use Rattle.cell.specs.Cell.{accepted, arrival_fits}
-use Rattle.cell.specs.Limits.{clock_end, fits32, flow_limit, class_limit, port_limit}
+use Rattle.cell.specs.Limits.{clock_end, fits32, flow_limit, port_limit}
 use Rattle.laws.specs.Lists.{keep, all?, first?, up_to}
 use Rattle.laws.proofs.Least.{mem-least-in}
 use Rattle.laws.proofs.Lists.{all?-i, all?-map, all?-mono, mem-keep-in}
@@ -61,10 +61,8 @@ entry-fits ports clock k e p b t h =
     let o : fits32 e.cell.output ≡ true = below-fits32 _ (omega (arith, h.output)) in
     let small : e.cell.flow < flow_limit = ltb-true e.cell.flow flow_limit h.flow in
     let f : fits32 e.cell.flow ≡ true = below-fits32 _ (omega arith) in
-    let low : e.cell.class < class_limit = ltb-true e.cell.class class_limit h.class in
-    let l : fits32 e.cell.class ≡ true = below-fits32 _ (omega arith) in
     let s : fits32 e.cell.slot ≡ true = below-fits32 _ (omega (arith, h.slot)) in
-    and_i _ _ i (and_i _ _ o (and_i _ _ f (and_i _ _ l (and_i _ _ h.rank (and_i _ _ h.tag s)))))
+    and_i _ _ i (and_i _ _ o (and_i _ _ f (and_i _ _ h.rank (and_i _ _ h.tag s))))
 
 module _ (ports clock : ℕ) (sections : List (List Entry)) (h : sound_sections ports clock 0 sections ≡ true)
     (p : ports ≤ port_limit) (n : length sections ≡ ports) (t : clock ≤ clock_end + 1) where

@@ -1,4 +1,4 @@
--- Laws of a memory as bytes: it has 33,028 of them, it is read back from them, and any bytes of that length are a
+-- Laws of a memory as bytes: it has 8,260 of them, it is read back from them, and any bytes of that length are a
 -- memory's. A word is read and put by its place. All is said of any number of words: there are many.
 --     words_in-at, -put       a word at its place, and the words after one was put
 --     words_in-before         bytes that stand behind the words do not count
@@ -14,8 +14,8 @@ use lib.ListN.{take-append-drop, length-append, length-drop, drop_of_length-le, 
 use lib.Seq.{drop_at, drop-drop, take-add, take-append-le, drop-append-le, length-take-le}
 use Rattle.laws.specs.Lists.{all?}
 use Rattle.laws.proofs.Tests.{and_i, and_l, and_r}
-use Rattle.cell.specs.Limits.{fits32}
-use Rattle.model.specs.Fair.{Memory, no_memory, left_count, flow_count}
+use Rattle.cell.specs.Limits.{fits32, port_limit}
+use Rattle.model.specs.Fair.{Memory, no_memory, flow_count}
 use Rattle.layout.specs.Number.{bytes_of, number_at, number_of, word, words_in}
 use Rattle.layout.specs.Code.{put}
 use Rattle.layout.specs.Memory.{word_size, left_start, given_start, memory_size, words_bytes}
@@ -166,12 +166,12 @@ words_in-put (suc n) bs (suc k) v room h fit =
 -- so many words of 32 bits as a memory has
 pub record WordsFit (m : Memory) : Type 0 where
   pub marks : fits32 m.fair ≡ true
-  pub left_size : length m.left ≡ left_count
+  pub left_size : length m.left ≡ port_limit
   pub left_fit : all? fits32 m.left ≡ true
   pub given_size : length m.given ≡ flow_count
   pub given_fit : all? fits32 m.given ≡ true
 
-pub length-memory_bytes : (m : Memory) → length m.left ≡ left_count → length m.given ≡ flow_count
+pub length-memory_bytes : (m : Memory) → length m.left ≡ port_limit → length m.given ≡ flow_count
     → length (memory_bytes m) ≡ memory_size
 unfolding memory_bytes
 length-memory_bytes m left given =
@@ -186,10 +186,10 @@ words-behind p ws rest d n size many fit =
     ∙ words_in-words_bytes ws rest fit
 
 module _ (m : Memory) (h : WordsFit m) where
-  left_back : words_in left_count (drop left_start (memory_bytes m)) ≡ m.left
+  left_back : words_in port_limit (drop left_start (memory_bytes m)) ≡ m.left
   unfolding memory_bytes
   left_back =
-      words-behind (bytes_of word_size m.fair) m.left (words_bytes m.given) left_start left_count
+      words-behind (bytes_of word_size m.fair) m.left (words_bytes m.given) left_start port_limit
       (length-bytes_of word_size m.fair) h.left_size h.left_fit
 
   given_back : words_in flow_count (drop given_start (memory_bytes m)) ≡ m.given
@@ -215,7 +215,7 @@ module _ (m : Memory) (h : WordsFit m) where
 
 -- any bytes of that length are a memory's
 module _ (bs : List ℕ) (h : bytes? bs ≡ true) (size : length bs ≡ memory_size) where
-  left-room : word_size * left_count ≤ length (drop left_start bs)
+  left-room : word_size * port_limit ≤ length (drop left_start bs)
   left-room = simp length-drop (omega arith)
 
   given-room : word_size * flow_count ≤ length (drop given_start bs)
@@ -226,8 +226,8 @@ module _ (bs : List ℕ) (h : bytes? bs ≡ true) (size : length bs ≡ memory_s
   memory_of-fits =
       record {
         marks = word_fits bs 0 h (omega arith);
-        left_size = length-words_in left_count (drop left_start bs);
-        left_fit = words_in-fits left_count (drop left_start bs) (bytes?-drop left_start bs h) left-room;
+        left_size = length-words_in port_limit (drop left_start bs);
+        left_fit = words_in-fits port_limit (drop left_start bs) (bytes?-drop left_start bs h) left-room;
         given_size = length-words_in flow_count (drop given_start bs);
         given_fit = words_in-fits flow_count (drop given_start bs) (bytes?-drop given_start bs h) given-room;
       }
@@ -241,17 +241,17 @@ module _ (bs : List ℕ) (h : bytes? bs ≡ true) (size : length bs ≡ memory_s
       ∙ words_bytes-words_in flow_count (drop given_start bs) [] (bytes?-drop given_start bs h) given-room
       (sym (drop_of_length-le (drop given_start bs) end)) in
       bytes_of-at word_size 0 bs h (omega arith) _
-      (words_bytes-words_in left_count (drop left_start bs) _ (bytes?-drop left_start bs h) left-room
-      (givens ∙ sym (drop-drop (word_size * left_count) left_start bs)))
+      (words_bytes-words_in port_limit (drop left_start bs) _ (bytes?-drop left_start bs h) left-room
+      (givens ∙ sym (drop-drop (word_size * port_limit) left_start bs)))
 
 -- the memory after a word was put: the rank that last left an output, or the last one given to a flow
 module _ (bs : List ℕ) (size : length bs ≡ memory_size) (k v : ℕ) (fit : fits32 v ≡ true) where
-  module _ (less : k < left_count) where
-    left-put : words_in left_count (drop left_start (put (left_start + word_size * k) word_size (bytes_of word_size v) bs))
-        ≡ set (words_in left_count (drop left_start bs)) k v
+  module _ (less : k < port_limit) where
+    left-put : words_in port_limit (drop left_start (put (left_start + word_size * k) word_size (bytes_of word_size v) bs))
+        ≡ set (words_in port_limit (drop left_start bs)) k v
     left-put =
-        ap (words_in left_count) (drop-put-past left_start (word_size * k) word_size (bytes_of word_size v) bs (omega arith))
-        ∙ words_in-put left_count (drop left_start bs) k v (simp length-drop (omega arith)) less fit
+        ap (words_in port_limit) (drop-put-past left_start (word_size * k) word_size (bytes_of word_size v) bs (omega arith))
+        ∙ words_in-put port_limit (drop left_start bs) k v (simp length-drop (omega arith)) less fit
 
     given-kept : drop given_start (put (left_start + word_size * k) word_size (bytes_of word_size v) bs) ≡ drop given_start bs
     given-kept =
@@ -268,15 +268,15 @@ module _ (bs : List ℕ) (size : length bs ≡ memory_size) (k v : ℕ) (fit : f
         record { fair = marks i; left = left-put i; given = words_in flow_count (given-kept i) }
 
   module _ (less : k < flow_count) where
-    left-kept : words_in left_count (drop left_start (put (given_start + word_size * k) word_size (bytes_of word_size v) bs))
-        ≡ words_in left_count (drop left_start bs)
+    left-kept : words_in port_limit (drop left_start (put (given_start + word_size * k) word_size (bytes_of word_size v) bs))
+        ≡ words_in port_limit (drop left_start bs)
     left-kept =
-        let behind : ℕ = word_size * left_count + word_size * k in
+        let behind : ℕ = word_size * port_limit + word_size * k in
         let at : given_start + word_size * k ≡ left_start + behind = omega arith in
-        ap (λ a. words_in left_count (drop left_start (put a word_size (bytes_of word_size v) bs))) at
-        ∙ ap (words_in left_count) (drop-put-past left_start behind word_size (bytes_of word_size v) bs (omega arith))
+        ap (λ a. words_in port_limit (drop left_start (put a word_size (bytes_of word_size v) bs))) at
+        ∙ ap (words_in port_limit) (drop-put-past left_start behind word_size (bytes_of word_size v) bs (omega arith))
         ∙ words_in-before behind word_size (bytes_of word_size v) (drop left_start bs) (simp length-drop (omega arith))
-        left_count (omega arith)
+        port_limit (omega arith)
 
     given-put : words_in flow_count (drop given_start (put (given_start + word_size * k) word_size (bytes_of word_size v) bs))
         ≡ set (words_in flow_count (drop given_start bs)) k v
@@ -302,6 +302,6 @@ zero-words n m =
 
 pub memory_bytes-none : (marks : ℕ)
     → memory_bytes (no_memory marks)
-    ≡ bytes_of word_size marks ++ replicate (word_size * left_count + word_size * flow_count) 0
+    ≡ bytes_of word_size marks ++ replicate (word_size * port_limit + word_size * flow_count) 0
 unfolding memory_bytes no_memory
-memory_bytes-none marks = ap (λ l. bytes_of word_size marks ++ l) (zero-words left_count flow_count)
+memory_bytes-none marks = ap (λ l. bytes_of word_size marks ++ l) (zero-words port_limit flow_count)

@@ -76,10 +76,6 @@ module _ (bs : List ℕ) (k : ℕ) where
   unfolding entry_at entry_of record_at
   entry_at-flow = record_at-byte 1 (lit≤ tt)
 
-  pub entry_at-class : (entry_at bs k).cell.class ≡ get_or bs (record_start k + 3) 0
-  unfolding entry_at entry_of record_at
-  entry_at-class = record_at-byte 3 (lit≤ tt)
-
   pub place_byte_at-byte : place_byte_at bs k ≡ get_or bs (record_start k + 2) 0
   unfolding place_byte_at
   place_byte_at-byte = record_at-byte 2 (lit≤ tt)

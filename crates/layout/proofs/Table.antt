@@ -176,13 +176,11 @@ module _ (ports clock : ℕ) (few : ports ≤ port_limit) (early : fits32 clock 
       let i : eqb c.input input ≡ true = search and_l in
       let o : ltb c.output ports ≡ true = search (and_l, and_r) in
       let f : ltb c.flow 8 ≡ true = search (and_l, and_r) in
-      let l : ltb c.class 4 ≡ true = search (and_l, and_r) depth 9 in
-      let r : fits32 c.rank ≡ true = search (and_l, and_r) depth 9 in
-      let t : fits32 c.tag ≡ true = search (and_l, and_r) depth 9 in
-      let s : ltb c.slot clock ≡ true = search (and_l, and_r) depth 9 in
+      let r : fits32 c.rank ≡ true = search (and_l, and_r) in
+      let t : fits32 c.tag ≡ true = search (and_l, and_r) in
+      let s : ltb c.slot clock ≡ true = search (and_l, and_r) depth 7 in
       let output : c.output < 256 = omega (arith, ltb-true) in
       let flow : c.flow < 256 = omega (arith, ltb-true) in
-      let class : c.class < 256 = omega (arith, ltb-true) in
       let slot : c.slot < 256 ^ 4 = omega (arith, ltb-true, fits32-below clock early) in
       let place : place_of (number_of (bytes_of 1 (place_byte e.place))) ≡ e.place = place_of-bytes_of e.place in
       λ k.
@@ -191,7 +189,6 @@ module _ (ports clock : ℕ) (few : ports ≤ port_limit) (early : fits32 clock 
           input = sym (eqb-true c.input input i) k;
           output = number_of-bytes_of 1 c.output output k;
           flow = number_of-bytes_of 1 c.flow flow k;
-          class = number_of-bytes_of 1 c.class class k;
           rank = number_of-word c.rank r k;
           tag = number_of-word c.tag t k;
           slot = number_of-bytes_of 4 c.slot slot k;

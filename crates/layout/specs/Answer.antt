@@ -1,4 +1,4 @@
--- The bytes of a slot's answer: for each of sixteen outputs 1 and its departure's seven fields, or eight zeros where it
+-- The bytes of a slot's answer: for each of sixteen outputs 1 and its departure's six fields, or seven zeros where it
 -- sends none; then the proposals of the first phase and of the second; then for each of sixteen outputs how many of its
 -- crosspoints held a cell in the first phase, and the same for the second, 0 at the outputs that the switch does not have.
 -- Every number has 32 bits.
@@ -10,7 +10,7 @@ use Rattle.model.specs.Crossbar.{Answer, refused_answer}
 use Rattle.layout.specs.Number.{bytes_of, word, words_in}
 
 abbrev pub departure_size : ℕ
-departure_size = 32
+departure_size = 28
 
 abbrev pub departures_size : ℕ
 departures_size = port_limit * departure_size
@@ -28,18 +28,17 @@ second_occupancy = first_occupancy + occupancies_size
 abbrev pub answer_size : ℕ
 answer_size = second_occupancy + occupancies_size
 
--- a number and the seven fields of a cell
-abbrev pub eight_bytes : ℕ → Cell → List ℕ
-eight_bytes sent c =
+-- a number and the six fields of a cell
+abbrev pub seven_bytes : ℕ → Cell → List ℕ
+seven_bytes sent c =
     bytes_of 4 sent
     ++ (bytes_of 4 c.input
     ++ (bytes_of 4 c.output
-    ++ (bytes_of 4 c.flow
-    ++ (bytes_of 4 c.class ++ (bytes_of 4 c.rank ++ (bytes_of 4 c.tag ++ bytes_of 4 c.slot))))))
+    ++ (bytes_of 4 c.flow ++ (bytes_of 4 c.rank ++ (bytes_of 4 c.tag ++ bytes_of 4 c.slot)))))
 
 unfoldable pub departure_bytes : Option Cell → List ℕ
 departure_bytes none = replicate departure_size 0
-departure_bytes (some c) = eight_bytes 1 c
+departure_bytes (some c) = seven_bytes 1 c
 
 -- so many departures, none at the outputs that the switch does not have
 unfoldable pub departures_bytes : ℕ → List (Option Cell) → List ℕ
@@ -66,10 +65,9 @@ cell_in bs =
       input = word bs 4;
       output = word bs 8;
       flow = word bs 12;
-      class = word bs 16;
-      rank = word bs 20;
-      tag = word bs 24;
-      slot = word bs 28;
+      rank = word bs 16;
+      tag = word bs 20;
+      slot = word bs 24;
     }
 
 unfoldable pub departure_in : List ℕ → Option Cell

@@ -1,4 +1,4 @@
--- The arrivals of a slot as bytes: records of 24 bytes, six numbers of 32 bits each. Any bits are a record.
+-- The arrivals of a slot as bytes: records of 20 bytes, five numbers of 32 bits each. Any bits are a record.
 use Rattle.std.specs.Prelude.{ℕ, zero, suc, ◌+◌, ◌/◌, ◌%◌, true, false, List, [], ◌∷◌, ◌++◌, eqb, length, take, drop}
 use Rattle.std.proofs.Math.Option.{Option, none, some}
 use Rattle.cell.specs.declared.Arrival.{Arrival}
@@ -6,29 +6,20 @@ use Rattle.cell.specs.Limits.{port_limit}
 use Rattle.layout.specs.Number.{bytes_of, word}
 
 abbrev pub arrival_size : ℕ
-arrival_size = 24
+arrival_size = 20
 
 -- so many records are looked at: inputs rise and are below 16, so that the seventeenth has a fault or stands behind one
 abbrev pub held_limit : ℕ
 held_limit = port_limit + 1
 
--- input, output, flow, class, rank, tag
+-- input, output, flow, rank, tag
 unfoldable pub arrival_bytes : Arrival → List ℕ
 arrival_bytes a =
     bytes_of 4 a.input
-    ++ (bytes_of 4 a.output
-    ++ (bytes_of 4 a.flow ++ (bytes_of 4 a.class ++ (bytes_of 4 a.rank ++ bytes_of 4 a.tag))))
+    ++ (bytes_of 4 a.output ++ (bytes_of 4 a.flow ++ (bytes_of 4 a.rank ++ bytes_of 4 a.tag)))
 
 unfoldable pub arrival_of : List ℕ → Arrival
-arrival_of bs =
-    record {
-      input = word bs 0;
-      output = word bs 4;
-      flow = word bs 8;
-      class = word bs 12;
-      rank = word bs 16;
-      tag = word bs 20;
-    }
+arrival_of bs = record { input = word bs 0; output = word bs 4; flow = word bs 8; rank = word bs 12; tag = word bs 16 }
 
 unfoldable pub arrivals_bytes : List Arrival → List ℕ
 arrivals_bytes [] = []

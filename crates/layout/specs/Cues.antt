@@ -1,16 +1,18 @@
--- The cue stores of the host and its calls on them. A cue holds a switch with its memory, as the host's table does.
-use Rattle.std.specs.Prelude.{ℕ, Bool, true, false, ◌&&◌, List, ltb, length}
+-- The cue stores of the host and its calls on them. A cue holds a switch with its memory, as the host's table does; in an
+-- older store it holds a switch alone.
+use Rattle.std.specs.Prelude.{ℕ, Bool, true, false, ◌&&◌, List, map, ltb, length}
 use Rattle.std.proofs.Math.Option.{Option, none, some}
 use Rattle.cell.specs.declared.Refusal.TheVariants.{BrokenTable, ShortBuffer}
 use Rattle.cell.specs.Refusal.{number as refusal_number}
 use Rattle.model.specs.Checks.{Outcome, done, refused}
 use Rattle.model.specs.Cues.{Cue, Cues, no_cues, set_cue, drop_cue, return_to}
-use Rattle.model.specs.Fair.{Fair, sound_memory}
+use Rattle.model.specs.Fair.{Fair, sound_memory, marked}
 use Rattle.model.specs.Sound.{sound as sound_switch}
 use Rattle.model.specs.State.{Switch}
 use Rattle.layout.specs.Fair.{fair_number, fair_size, fair_bytes, fair_of, decode_fair}
 use Rattle.layout.specs.Host.{filled}
 use Rattle.layout.specs.Stores.{Layout, place_size_by, store_size_by, store_bytes_by, cue_by, decode_by}
+use Rattle.layout.specs.Table.{layout_number, table_size, encode, state_of}
 
 unfoldable pub sound_fair : Fair Switch → Bool
 sound_fair x = sound_switch x.core && sound_memory x.core.ports x.memory
@@ -18,6 +20,10 @@ sound_fair x = sound_switch x.core && sound_memory x.core.ports x.memory
 abbrev pub fair_cues : Layout (Fair Switch)
 fair_cues =
     record { number = fair_number; size = fair_size; bytes = fair_bytes fair_number; state = fair_of; sound = sound_fair }
+
+abbrev pub older_cues : Layout Switch
+older_cues =
+    record { number = layout_number; size = table_size; bytes = encode; state = state_of; sound = sound_switch }
 
 abbrev pub place_size : ℕ
 place_size = place_size_by fair_cues
@@ -83,3 +89,30 @@ store_after store (refused r place) = store
 unfoldable pub table_returned : List ℕ → Outcome (Fair Switch) → List ℕ
 table_returned table (done x) = fair_bytes fair_number x
 table_returned table (refused r place) = table
+
+------------------------------------------------------------------------
+-- the older store
+
+abbrev pub old_store_size : ℕ
+old_store_size = store_size_by older_cues
+
+abbrev pub decode_old_store : List ℕ → Option (Cues Switch)
+decode_old_store = decode_by older_cues
+
+-- the same cue, of another switch
+unfoldable pub cue_with : {S T : Type 0} → (S → T) → Option (Cue S) → Option (Cue T)
+cue_with f none = none
+cue_with f (some c) = some (record { name = c.name; switch = f c.switch })
+
+-- the same cues in the new layout: no output is fair, and all else is kept
+unfoldable pub converted : Cues Switch → Cues (Fair Switch)
+converted cues = map (cue_with (marked 0)) cues
+
+-- Writing an older store in the new layout: 2 where it is not sound by its own rules, then 10.
+unfoldable pub convert_cues_call : List ℕ → List ℕ → Outcome (Cues (Fair Switch))
+convert_cues_call old buffer =
+    elim (decode_old_store old) [
+      | none ↦ refused BrokenTable 0
+      | some cues ↦
+          elim (ltb (length buffer) store_size) [ true ↦ refused ShortBuffer 0 | false ↦ done (converted cues) ]
+    ]

@@ -1,6 +1,6 @@
 -- The host's calls of a switch on bytes: start, check and slot. One text for both engines, the crossbar and the output-queued
--- switch. For a slot the order is 2, 10, 3, then record by record 4, 5, 16, 6, 14, 15, 7, 8; at start 1 comes before 4,
--- and 4 before 10. Bytes of a buffer past its answer are kept.
+-- switch. For a slot the order is 2, 10, 3, then record by record 4, 5, 6, 14, 15, 7, 8; at start 1 comes before 4, and 4
+-- before 10. Bytes of a buffer past its answer are kept.
 use Rattle.std.specs.Prelude.{ℕ, Bool, true, false, List, ◌≡◌, ltb, eqb, length}
 use Rattle.std.proofs.Math.Option.{Option, none, some}
 use Rattle.laws.specs.Lists.{count}

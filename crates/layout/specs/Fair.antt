@@ -12,10 +12,10 @@ use Rattle.layout.specs.Table.{encode, state_of, table_size}
 use Rattle.layout.specs.Memory.{word_size, memory_size, memory_bytes, memory_of}
 
 abbrev pub fair_number : ℕ
-fair_number = 3
+fair_number = 2
 
 abbrev pub fair_number_oq : ℕ
-fair_number_oq = 103
+fair_number_oq = 102
 
 -- where the table of the cells stands, and the memory
 abbrev pub core_start : ℕ

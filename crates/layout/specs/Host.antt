@@ -1,5 +1,5 @@
 -- Results as numbers, buffers filled, and a slot on the table of the cells alone, where ranks stand: 2, 10, 3, then record
--- by record 4, 5, 16, 6, 7, 8. Bytes of a buffer past its answer are kept. The host's calls are in Engine, those of cues in Cues.
+-- by record 4 to 8. Bytes of a buffer past its answer are kept. The host's calls are in Engine, those of cues in Cues.
 use Rattle.std.specs.Prelude.{ℕ, ◌+◌, ◌*◌, true, false, List, ◌++◌, ltb, eqb, length, drop}
 use Rattle.std.proofs.Math.Option.{Option, none, some}
 use Rattle.cell.specs.declared.Arrival.{Arrival}

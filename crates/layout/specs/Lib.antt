@@ -13,7 +13,7 @@ pub mod Host
 pub mod Memory
 pub mod Number
 pub mod Older
-pub mod OlderCues
+pub mod Oq
 pub mod Stores
 pub mod Table
 pub mod TallyBytes

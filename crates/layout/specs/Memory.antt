@@ -1,7 +1,8 @@
--- The bytes of a switch's memory: the marks of its fair outputs, the rank of the last cell of each class that left each
--- output, and the last rank given to each flow, numbers of 32 bits. Any bytes of this length are those of a memory.
+-- The bytes of a switch's memory: the marks of its fair outputs, the rank of the last cell that left each output, and
+-- the last rank given to each flow, numbers of 32 bits. Any bytes of this length are those of a memory.
 use Rattle.std.specs.Prelude.{ℕ, ◌+◌, ◌*◌, List, [], ◌∷◌, ◌++◌, drop}
-use Rattle.model.specs.Fair.{Memory, left_count, flow_count}
+use Rattle.cell.specs.Limits.{port_limit}
+use Rattle.model.specs.Fair.{Memory, flow_count}
 use Rattle.layout.specs.Number.{bytes_of, word, words_in}
 
 abbrev pub word_size : ℕ
@@ -12,7 +13,7 @@ abbrev pub left_start : ℕ
 left_start = word_size
 
 abbrev pub given_start : ℕ
-given_start = left_start + word_size * left_count
+given_start = left_start + word_size * port_limit
 
 abbrev pub memory_size : ℕ
 memory_size = given_start + word_size * flow_count
@@ -29,6 +30,6 @@ unfoldable pub memory_of : List ℕ → Memory
 memory_of bs =
     record {
       fair = word bs 0;
-      left = words_in left_count (drop left_start bs);
+      left = words_in port_limit (drop left_start bs);
       given = words_in flow_count (drop given_start bs);
     }

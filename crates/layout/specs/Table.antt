@@ -1,4 +1,4 @@
--- The bytes of the cells' table, which stands in the table of a host (Fair) and was all of the oldest one: a layout number, N,
+-- The bytes of the cells' table, which stands in the table of a host (Fair) and was all of an older one: a layout number, N,
 -- the clock, four bytes of zero, the number of entries of each input, one byte each, and sixteen sections of 64 records of 16
 -- bytes. Unused records are zero. A table is the bytes of one sound state, and each sound state has one table.
 use Rattle.std.specs.Prelude.{ℕ, zero, suc, ◌+◌, ◌*◌, ◌-◌, Bool, true, false, ◌&&◌, List, [], ◌∷◌, ◌++◌, ◌≡◌, eqb, length, take, drop, replicate}
@@ -36,13 +36,13 @@ place_byte buffered = 3
 unfoldable pub place_of : ℕ → Place
 place_of b = elim (eqb b 1) [ true ↦ listed | false ↦ elim (eqb b 2) [ true ↦ crossed | false ↦ buffered ] ]
 
--- output, flow, place, class, rank, tag, slot; the input is the section's number
+-- output, flow, place, a zero, rank, tag, slot; the input is the section's number
 unfoldable pub entry_bytes : Entry → List ℕ
 entry_bytes e =
     bytes_of 1 e.cell.output
     ++ (bytes_of 1 e.cell.flow
     ++ (bytes_of 1 (place_byte e.place)
-    ++ (bytes_of 1 e.cell.class
+    ++ (bytes_of 1 0
     ++ (bytes_of 4 e.cell.rank ++ (bytes_of 4 e.cell.tag ++ bytes_of 4 e.cell.slot)))))
 
 unfoldable pub entry_of : ℕ → List ℕ → Entry
@@ -52,7 +52,6 @@ entry_of input bs =
         input = input;
         output = number_at 1 0 bs;
         flow = number_at 1 1 bs;
-        class = number_at 1 3 bs;
         rank = word bs 4;
         tag = word bs 8;
         slot = word bs 12;

@@ -1,5 +1,6 @@
 // The bytes of the table, of the arrivals, of the answer, of the tally and of the cue store: definitions in specs/ and
 // laws in proofs/. Here are their sizes, for all code that reads or writes them, each made of the others.
+#![tactic(auto)]
 pub mod result;
 pub mod run;
 pub mod word;
@@ -22,29 +23,23 @@ pub const ENTRY_BYTES: usize = 16;
 
 pub const TABLE_BYTES: usize = HEADER_BYTES + ENTRIES * ENTRY_BYTES;
 
-// The bytes of a switch's memory: the marks of its fair outputs, the rank that last left each output, class by class, and
-// the last rank given to each flow, where they stand. Those of class 0 stand first.
+// The bytes of a switch's memory: the marks of its fair outputs, the rank that last left each output, and the last rank
+// given to each flow, where they stand.
 pub const WORD_BYTES: usize = 4;
 
-pub const CLASSES: usize = Switch::CLASSES as usize;
-
-pub const CLASS_FLOWS: usize = PORTS * PORTS * Switch::FLOWS as usize;
-
-pub const FLOWS: usize = CLASSES * CLASS_FLOWS;
-
-pub const LEFTS: usize = CLASSES * PORTS;
+pub const FLOWS: usize = PORTS * PORTS * Switch::FLOWS as usize;
 
 pub const LEFT_AT: usize = WORD_BYTES;
 
-pub const GIVEN_AT: usize = LEFT_AT + WORD_BYTES * LEFTS;
+pub const GIVEN_AT: usize = LEFT_AT + WORD_BYTES * PORTS;
 
 pub const MEMORY_BYTES: usize = GIVEN_AT + WORD_BYTES * FLOWS;
 
 // The bytes of the table that a host keeps: the number of its layout, then a table of cells, then a memory, where they
 // stand. The number is the engine's own.
-pub const FAIR_NUMBER: u32 = 3;
+pub const FAIR_NUMBER: u32 = 2;
 
-pub const FAIR_NUMBER_OQ: u32 = 103;
+pub const FAIR_NUMBER_OQ: u32 = 102;
 
 pub const CORE_AT: usize = WORD_BYTES;
 
@@ -52,18 +47,7 @@ pub const MEMORY_AT: usize = CORE_AT + TABLE_BYTES;
 
 pub const FAIR_BYTES: usize = MEMORY_AT + MEMORY_BYTES;
 
-// The bytes of an older table, whose memory is of class 0 alone.
-pub const OLD_NUMBER: u32 = 2;
-
-pub const OLD_NUMBER_OQ: u32 = 102;
-
-pub const OLD_GIVEN_AT: usize = LEFT_AT + WORD_BYTES * PORTS;
-
-pub const OLD_MEMORY_BYTES: usize = OLD_GIVEN_AT + WORD_BYTES * CLASS_FLOWS;
-
-pub const OLD_FAIR_BYTES: usize = MEMORY_AT + OLD_MEMORY_BYTES;
-
-// The bytes of the output-queued switch's oldest table: a number of its own, then a table.
+// The bytes of the output-queued switch's older table: a number of its own, then a table.
 pub const OQ_NUMBER: u32 = 101;
 
 pub const OQ_NUMBER_BYTES: usize = 4;
@@ -72,7 +56,7 @@ pub const OQ_TABLE_BYTES: usize = OQ_NUMBER_BYTES + TABLE_BYTES;
 
 // The bytes of an answer: a departure for each output, then the proposals of both phases, then those phases'
 // occupancies, a number for each output, where they stand.
-pub const DEPARTURE_BYTES: usize = 32;
+pub const DEPARTURE_BYTES: usize = 28;
 
 pub const DEPARTURES_BYTES: usize = PORTS * DEPARTURE_BYTES;
 
@@ -88,7 +72,7 @@ pub const ANSWER_BYTES: usize = SECOND_OCCUPANCY + PORTS * 4;
 
 // The bytes of an arrival's record, and how many records are looked at: the inputs of a list rise, so that one more
 // than there are ports has a fault or stands behind one.
-pub const ARRIVAL_BYTES: usize = 24;
+pub const ARRIVAL_BYTES: usize = 20;
 
 pub const HELD: usize = PORTS + 1;
 
@@ -106,11 +90,7 @@ pub const PLACE_BYTES: usize = NAME_BYTES + FAIR_BYTES;
 
 pub const STORE_BYTES: usize = STORE_HEADER_BYTES + CUES * PLACE_BYTES;
 
-// The bytes of an older cue store, whose tables have a memory of class 0, and of the oldest one, whose tables have none.
-pub const OLD_PLACE_BYTES: usize = NAME_BYTES + OLD_FAIR_BYTES;
+// The bytes of an older cue store, whose tables have no memory.
+pub const OLD_PLACE_BYTES: usize = NAME_BYTES + TABLE_BYTES;
 
 pub const OLD_STORE_BYTES: usize = STORE_HEADER_BYTES + CUES * OLD_PLACE_BYTES;
-
-pub const OLDEST_PLACE_BYTES: usize = NAME_BYTES + TABLE_BYTES;
-
-pub const OLDEST_STORE_BYTES: usize = STORE_HEADER_BYTES + CUES * OLDEST_PLACE_BYTES;

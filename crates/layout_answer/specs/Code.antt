@@ -8,7 +8,7 @@ use Rattle.layout.specs.Answer.{departures_in}
 
 -- the cell whose fields stand where none is sent
 unfoldable pub no_cell : Cell
-no_cell = record { input = 0; output = 0; flow = 0; class = 0; rank = 0; tag = 0; slot = 0 }
+no_cell = record { input = 0; output = 0; flow = 0; rank = 0; tag = 0; slot = 0 }
 
 -- how many of the sixteen outputs send a cell
 unfoldable pub sent_in : List ℕ → ℕ

@@ -1,12 +1,13 @@
 // The bytes of a slot's answer: a departure for each of sixteen outputs, 1 and the fields of its cell or zeros, then
 // the proposals of the two phases, then for each phase how many crosspoints of each output held a cell. A caller shows
 // that the bytes are there.
+#![tactic(auto)]
 ghost use Rattle.std.specs.Prelude.{◌++◌, ◌≡◌, ◌+◌, ◌≤◌, eqb, length};
 ghost use Rattle.std.proofs.Math.Option.{none, some};
 ghost use Rattle.cell.specs.Limits.{port_limit};
 ghost use Rattle.layout.specs.Number.{bytes_of, word};
 ghost use Rattle.layout.specs.Answer.{departure_size, departures_size, occupancies_size, answer_size, departure_bytes};
-ghost use Rattle.layout.specs.Answer.{eight_bytes, words_bytes, cell_in};
+ghost use Rattle.layout.specs.Answer.{seven_bytes, words_bytes, cell_in};
 ghost use Rattle.layout.specs.Code.{put};
 ghost use Rattle.layout_answer.specs.Code.{no_cell, sent_in};
 
@@ -19,7 +20,7 @@ pub fn write_departure(answer: &mut [u8], at: usize, c: Cell)
     ensures { answer.new
         ≡ put at departure_size (departure_bytes (some c)) answer.old }
 {
-    write_eight(answer, at, 1, c);
+    write_seven(answer, at, 1, c);
 }
 
 // Puts that of one that sends none.
@@ -28,7 +29,7 @@ pub fn write_none(answer: &mut [u8], at: usize)
     ensures { answer.new
         ≡ put at departure_size (departure_bytes none) answer.old }
 {
-    write_eight(answer, at, 0, no_cell());
+    write_seven(answer, at, 0, no_cell());
 }
 
 // What stands in the answer where no cell leaves.
@@ -39,26 +40,24 @@ fn no_cell() -> Cell
         input: 0,
         output: 0,
         flow: 0,
-        class: 0,
         rank: 0,
         tag: 0,
         slot: 0,
     }
 }
 
-// Eight numbers of 32 bits one behind the other.
-fn write_eight(answer: &mut [u8], at: usize, sent: u32, c: Cell)
+// Seven numbers of 32 bits one behind the other.
+fn write_seven(answer: &mut [u8], at: usize, sent: u32, c: Cell)
     requires { at + departure_size ≤ length answer.old }
-    ensures { answer.new ≡ put at departure_size (eight_bytes sent c) answer.old }
+    ensures { answer.new ≡ put at departure_size (seven_bytes sent c) answer.old }
 {
     word::write_u32(answer, at, sent);
     word::write_u32(answer, at + 4, c.input);
     word::write_u32(answer, at + 8, c.output);
     word::write_u32(answer, at + 12, c.flow);
-    word::write_u32(answer, at + 16, c.class);
-    word::write_u32(answer, at + 20, c.rank);
-    word::write_u32(answer, at + 24, c.tag);
-    word::write_u32(answer, at + 28, c.slot);
+    word::write_u32(answer, at + 16, c.rank);
+    word::write_u32(answer, at + 20, c.tag);
+    word::write_u32(answer, at + 24, c.slot);
 }
 
 // Puts the proposals of the two phases, the eight bytes behind the departures.
@@ -125,9 +124,8 @@ pub fn cell_in(sent: &[u8]) -> Cell
         input: word::read_u32(sent, 4),
         output: word::read_u32(sent, 8),
         flow: word::read_u32(sent, 12),
-        class: word::read_u32(sent, 16),
-        rank: word::read_u32(sent, 20),
-        tag: word::read_u32(sent, 24),
-        slot: word::read_u32(sent, 28),
+        rank: word::read_u32(sent, 16),
+        tag: word::read_u32(sent, 20),
+        slot: word::read_u32(sent, 24),
     }
 }

@@ -27,19 +27,17 @@ module _ (bs : List ℕ) (k : ℕ) where
 
   -- the record whose fields are read
   pub arrival_at-fields : (a : Arrival) → a.input ≡ word bs (arrival_size * k) → a.output ≡ word bs (arrival_size * k + 4)
-      → a.flow ≡ word bs (arrival_size * k + 8) → a.class ≡ word bs (arrival_size * k + 12) → a.rank ≡ word bs (arrival_size * k + 16)
-      → a.tag ≡ word bs (arrival_size * k + 20)
+      → a.flow ≡ word bs (arrival_size * k + 8) → a.rank ≡ word bs (arrival_size * k + 12) → a.tag ≡ word bs (arrival_size * k + 16)
       → a ≡ arrival_at bs k
   unfolding arrival_at arrival_of
-  arrival_at-fields a i o f c r t =
+  arrival_at-fields a i o f r t =
       let first : arrival_size * k ≡ arrival_size * k + 0 = omega arith in
       λ x. record {
         input = (i ∙ ap (word bs) first ∙ arrival_at-word 0 (omega arith)) x;
         output = (o ∙ arrival_at-word 4 (omega arith)) x;
         flow = (f ∙ arrival_at-word 8 (omega arith)) x;
-        class = (c ∙ arrival_at-word 12 (omega arith)) x;
-        rank = (r ∙ arrival_at-word 16 (omega arith)) x;
-        tag = (t ∙ arrival_at-word 20 (omega arith)) x;
+        rank = (r ∙ arrival_at-word 12 (omega arith)) x;
+        tag = (t ∙ arrival_at-word 16 (omega arith)) x;
       }
 
 -- one more

@@ -1,4 +1,5 @@
 // The records of lent arrivals, read from their bytes.
+#![tactic(auto)]
 ghost use Rattle.std.specs.Prelude.{◌≡◌, ◌+◌, ◌*◌, ◌/◌, ◌≤◌, min, length, take};
 ghost use Rattle.layout.specs.Arrivals.{arrival_size, arrivals_of, held_limit};
 ghost use Rattle.layout_arrivals.specs.Code.{arrival_at};
@@ -16,7 +17,6 @@ pub fn read_records(arrivals: &[u8]) -> [Arrival; HELD]
         input: 0,
         output: 0,
         flow: 0,
-        class: 0,
         rank: 0,
         tag: 0,
     };
@@ -39,9 +39,8 @@ fn record_at(arrivals: &[u8], k: usize) -> Arrival
         input: layout::word::read_u32(arrivals, at),
         output: layout::word::read_u32(arrivals, at + 4),
         flow: layout::word::read_u32(arrivals, at + 8),
-        class: layout::word::read_u32(arrivals, at + 12),
-        rank: layout::word::read_u32(arrivals, at + 16),
-        tag: layout::word::read_u32(arrivals, at + 20),
+        rank: layout::word::read_u32(arrivals, at + 12),
+        tag: layout::word::read_u32(arrivals, at + 16),
     }
 }
 

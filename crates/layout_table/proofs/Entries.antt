@@ -1,5 +1,5 @@
--- An entry is written as four numbers of 32 bits and copied as two of 64 bits. The first four bytes of its record tell its
--- flow and its place.
+-- An entry is written as four numbers of 32 bits and copied as two of 64 bits. The first two bytes of its record tell its
+-- flow, and the first four its flow and place.
 use Prim.Native.Nat.{ℕ, suc, ◌+◌, ◌*◌, ◌/◌, ◌%◌, ◌^◌, ◌≤◌, ◌<◌}
 use native.Mathlib.Omega.{arith}
 use mathlib.Core.Path.{◌≡◌, sym, ◌∙◌, ap, ap₂}
@@ -19,9 +19,9 @@ use Rattle.layout.specs.Code.{record_start, record_at, place_byte_at, put}
 use Rattle.layout.specs.Table.{entry_size, table_size, entry_bytes, entry_limit}
 use Rattle.layout.proofs.Halves.{read-halves, put-halves, number_at-halves, number_at-byte}
 use Rattle.layout.proofs.Number.{bytes?, bytes?-take, bytes?-drop, bytes_of-number_of, number_at-below}
-use Rattle.layout.proofs.Records.{entry_at-output, entry_at-flow, entry_at-class, place_byte_at-byte}
+use Rattle.layout.proofs.Records.{entry_at-output, entry_at-flow, place_byte_at-byte}
 use Rattle.layout_table.specs.CodeEntries.{entry_with, flow_word}
-use Rattle.layout_table.proofs.Places.{place-i}
+use Rattle.layout_table.proofs.Places.{place-i, exact-zero}
 
 -- a byte and a number behind it
 bytes_of-split : (w b m : ℕ) → b < 256 → bytes_of (suc w) (b + 256 * m) ≡ bytes_of 1 b ++ bytes_of w m
@@ -31,27 +31,25 @@ bytes_of-split w b m h =
     let others : (b + 256 * m) / 256 ≡ m = omega arith in
     ap₂ ◌∷◌ first (ap (bytes_of w) others)
 
--- the first number has the output, the flow, the place and the class
-head_bytes : (o f p l : ℕ) → o < 256 → f < 256 → p < 256
-    → bytes_of 4 (o + 256 * f + 65536 * p + 16777216 * l)
-    ≡ bytes_of 1 o ++ (bytes_of 1 f ++ (bytes_of 1 p ++ bytes_of 1 l))
-head_bytes o f p l ho hf hp =
-    let nested : o + 256 * f + 65536 * p + 16777216 * l ≡ o + 256 * (f + 256 * (p + 256 * l)) = omega arith in
+-- the first number has the output, the flow and the place
+head_bytes : (o f p : ℕ) → o < 256 → f < 256 → p < 256
+    → bytes_of 4 (o + 256 * f + 65536 * p) ≡ bytes_of 1 o ++ (bytes_of 1 f ++ (bytes_of 1 p ++ bytes_of 1 0))
+head_bytes o f p ho hf hp =
+    let nested : o + 256 * f + 65536 * p ≡ o + 256 * (f + 256 * (p + 256 * 0)) = omega arith in
     ap (bytes_of 4) nested
-    ∙ bytes_of-split 3 o (f + 256 * (p + 256 * l)) ho
+    ∙ bytes_of-split 3 o (f + 256 * (p + 256 * 0)) ho
     ∙ ap (λ bs. bytes_of 1 o ++ bs)
-    (bytes_of-split 2 f (p + 256 * l) hf ∙ ap (λ bs. bytes_of 1 f ++ bs) (bytes_of-split 1 p l hp))
+    (bytes_of-split 2 f (p + 256 * 0) hf ∙ ap (λ bs. bytes_of 1 f ++ bs) (bytes_of-split 1 p 0 hp))
 
 pub entry-words : (c : Cell) (p : ℕ) → c.output < 256 → c.flow < 256 → 1 ≤ p → p ≤ 3
-    → ((bytes_of 4 (c.output + 256 * c.flow + 65536 * p + 16777216 * c.class) ++ bytes_of 4 c.rank)
-    ++ bytes_of 4 c.tag)
+    → ((bytes_of 4 (c.output + 256 * c.flow + 65536 * p) ++ bytes_of 4 c.rank) ++ bytes_of 4 c.tag)
     ++ bytes_of 4 c.slot
     ≡ entry_bytes (entry_with c p)
 unfolding entry_bytes entry_with
 entry-words c p ho hf low high =
     ap (λ bs. ((bs ++ bytes_of 4 c.rank) ++ bytes_of 4 c.tag) ++ bytes_of 4 c.slot)
-    (head_bytes c.output c.flow p c.class ho hf (omega arith)
-    ∙ ap (λ b. bytes_of 1 c.output ++ (bytes_of 1 c.flow ++ (bytes_of 1 b ++ bytes_of 1 c.class)))
+    (head_bytes c.output c.flow p ho hf (omega arith)
+    ∙ ap (λ b. bytes_of 1 c.output ++ (bytes_of 1 c.flow ++ (bytes_of 1 b ++ bytes_of 1 0)))
     (sym (place-i p low high)))
     ∙ simp append_assoc
 
@@ -74,49 +72,33 @@ record-copied k n from to low high old mid new b size few less f t l h first sec
     ∙ ap₂ (λ x y. put x 16 (take 16 (drop y old)) old) t f
 
 -- two cells of one input are of one flow exactly if the numbers of their flows are equal
-pub flow-word : (c d : Cell) → c.input ≡ d.input → c.output < 256 → d.output < 256 → c.flow < 256 → d.flow < 256
+pub flow-word : (c d : Cell) → c.input ≡ d.input → c.output < 256 → d.output < 256
     → eqb (flow_word c) (flow_word d) ≡ same_flow c d
-flow-word c d input hc hd fc fd =
+flow-word c d input hc hd =
     same (eqb (flow_word c) (flow_word d)) (same_flow c d)
     (λ h.
-    let equal : flow_word c ≡ flow_word d = eqb-true _ _ h in
-    flow-i (record { input = input; output = omega arith; class = omega arith; flow = omega arith }))
+    let equal : c.output + 256 * c.flow ≡ d.output + 256 * d.flow = eqb-true _ _ h in
+    flow-i (record { input = input; output = omega arith; flow = omega arith }))
     (λ h.
     let f = flow-e c d h in
-    eq-eqb (flow_word c) (flow_word d) (omega (arith, f.output, f.class, f.flow)))
+    eq-eqb _ _ (ap₂ (λ o n. o + 256 * n) f.output f.flow))
 
--- the first number of a record
-module _ (bs : List ℕ) (k : ℕ) (room : record_start k + 4 ≤ length bs) where
-  pub head-word : word bs (record_start k) ≡ flow_word (entry_at bs k).cell + 65536 * place_byte_at bs k
-  unfolding word
-  head-word =
-      let at = record_start k in
-      let halves : number_at 4 at bs ≡ number_at 2 at bs + 65536 * number_at 2 (at + 2) bs =
-      number_at-halves 2 2 at bs (omega arith) in
-      let low : number_at 2 at bs ≡ number_at 1 at bs + 256 * number_at 1 (at + 1) bs =
-      number_at-halves 1 1 at bs (omega arith) in
-      let high : number_at 2 (at + 2) bs ≡ number_at 1 (at + 2) bs + 256 * number_at 1 (at + 2 + 1) bs =
-      number_at-halves 1 1 (at + 2) bs (omega arith) in
-      let last : at + 2 + 1 ≡ at + 3 = omega arith in
-      let class : number_at 1 (at + 2 + 1) bs ≡ (entry_at bs k).cell.class =
-      number_at-byte (at + 2 + 1) bs ∙ ap (λ n. get_or bs n 0) last ∙ sym (entry_at-class bs k) in
-      let output : number_at 1 at bs ≡ (entry_at bs k).cell.output = number_at-byte at bs ∙ sym (entry_at-output bs k) in
-      let flow : number_at 1 (at + 1) bs ≡ (entry_at bs k).cell.flow =
-      number_at-byte (at + 1) bs ∙ sym (entry_at-flow bs k) in
-      let place : number_at 1 (at + 2) bs ≡ place_byte_at bs k = number_at-byte (at + 2) bs ∙ sym (place_byte_at-byte bs k) in
-      omega arith
-
-  -- its bytes but that of the place
-  module _ (byte : (i : ℕ) → get_or bs i 0 < 256) where
-    pub head-output : (entry_at bs k).cell.output < 256
-    head-output = rw entry_at-output (byte _)
-
-    pub head-flow : (entry_at bs k).cell.flow < 256
-    head-flow = rw entry_at-flow (byte _)
-
-    head-place : place_byte_at bs k < 256
-    head-place = rw place_byte_at-byte (byte _)
-
-    pub head-flows : word bs (record_start k) % 65536 + word bs (record_start k) / 16777216 * 16777216
-        ≡ flow_word (entry_at bs k).cell
-    head-flows = omega (arith, head-word, head-output, head-flow, head-place)
+-- the first number of a record that is the bytes of its entry
+pub head-word : (bs : List ℕ) (k : ℕ) → record_start k + 4 ≤ length bs → record_at bs k ≡ entry_bytes (entry_at bs k)
+    → word bs (record_start k) ≡ flow_word (entry_at bs k).cell + 65536 * place_byte_at bs k
+unfolding word
+head-word bs k room exact =
+    let at = record_start k in
+    let halves : number_at 4 at bs ≡ number_at 2 at bs + 65536 * number_at 2 (at + 2) bs =
+    number_at-halves 2 2 at bs (omega arith) in
+    let low : number_at 2 at bs ≡ number_at 1 at bs + 256 * number_at 1 (at + 1) bs =
+    number_at-halves 1 1 at bs (omega arith) in
+    let high : number_at 2 (at + 2) bs ≡ number_at 1 (at + 2) bs + 256 * number_at 1 (at + 2 + 1) bs =
+    number_at-halves 1 1 (at + 2) bs (omega arith) in
+    let last : at + 2 + 1 ≡ at + 3 = omega arith in
+    let zero : ◌≡◌ {A = ℕ} (number_at 1 (at + 2 + 1) bs) 0 =
+    number_at-byte (at + 2 + 1) bs ∙ ap (λ n. get_or bs n 0) last ∙ exact-zero bs k (sym exact) in
+    let output : number_at 1 at bs ≡ (entry_at bs k).cell.output = number_at-byte at bs ∙ sym (entry_at-output bs k) in
+    let flow : number_at 1 (at + 1) bs ≡ (entry_at bs k).cell.flow = number_at-byte (at + 1) bs ∙ sym (entry_at-flow bs k) in
+    let place : number_at 1 (at + 2) bs ≡ place_byte_at bs k = number_at-byte (at + 2) bs ∙ sym (place_byte_at-byte bs k) in
+    omega arith

@@ -1,17 +1,21 @@
--- The byte of a place, and the bytes of a slice.
-use Prim.Native.Nat.{ℕ, ◌≤◌}
+-- The byte of a place, the zero behind it, and the bytes of a slice.
+use Prim.Native.Nat.{ℕ, ◌+◌, ◌≤◌}
 use mathlib.Core.Bool.{Bool, true, false}
 use mathlib.Core.Path.{◌≡◌, refl, sym, ◌∙◌, ap}
 use mathlib.Core.List.{List}
 use native.Mathlib.Omega.{arith}
 use borrow.Author.Tests.{eq-eqb, eqb-true, eqb-false}
-use lib.Dec.{eqb}
+use lib.Dec.{eqb, lit≤}
 use lib.ListN.{get_or}
 use mir.Syntax.{w8}
 use mir.Val.{Fits}
-use Rattle.model.specs.State.{listed, crossed, buffered, is_listed, is_crossed, is_buffered}
-use Rattle.layout.specs.Table.{place_byte, place_of}
+use Rattle.model.specs.State.{Entry, listed, crossed, buffered, is_listed, is_crossed, is_buffered}
+use Rattle.layout.specs.Number.{bytes_of, number_of, number_at}
+use Rattle.layout.specs.Table.{place_byte, place_of, entry_bytes}
+use Rattle.layout.specs.Entry.{entry_at}
+use Rattle.layout.specs.Code.{record_start, record_at}
 use Rattle.layout.proofs.Number.{bytes?, bytes?-i}
+use Rattle.layout.proofs.Records.{record_at-byte}
 
 ------------------------------------------------------------------------
 -- the byte of a place
@@ -56,6 +60,18 @@ place_of-buffered b low high = go (eqb b 1) refl (eqb b 2) refl
     go true e two f = ap (λ n. eqb n 3) (sym (eqb-true b 1 e))
     go false e true f = ap (λ n. eqb n 3) (sym (eqb-true b 2 f))
     go false e false f = sym (eq-eqb b 3 (omega (arith, eqb-false b 1 e, eqb-false b 2 f)))
+
+------------------------------------------------------------------------
+-- the zero of a record
+
+entry_bytes-zero : (e : Entry) → ◌≡◌ {A = ℕ} (number_at 1 3 (entry_bytes e)) 0
+unfolding entry_bytes number_at number_of bytes_of
+entry_bytes-zero e = refl
+
+-- where its bytes are those of its entry, the zero is
+pub exact-zero : (bs : List ℕ) (k : ℕ) → entry_bytes (entry_at bs k) ≡ record_at bs k
+    → ◌≡◌ {A = ℕ} (get_or bs (record_start k + 3) 0) 0
+exact-zero bs k e = sym (record_at-byte bs k 3 (lit≤ tt)) ∙ ap (number_at 1 3) (sym e) ∙ entry_bytes-zero (entry_at bs k)
 
 ------------------------------------------------------------------------
 -- the bytes of a slice are bytes

@@ -1,8 +1,8 @@
 // The fields of a table's records. The record k = 64 * input + position stands at byte 32 + 16 * k.
 // A caller shows that the bytes have a table's length and that there is such a record; the bytes may be any.
 ghost use Rattle.std.specs.Prelude.{◌≡◌, ◌+◌, ◌%◌, ◌<◌, ◌≤◌, length, set};
-ghost use Rattle.cell.specs.Order.{key_in_class, key};
-ghost use Rattle.cell.specs.Limits.{port_limit, flow_limit, class_limit};
+ghost use Rattle.cell.specs.Order.{key};
+ghost use Rattle.cell.specs.Limits.{port_limit};
 ghost use Rattle.layout.specs.Table.{table_size, place_of, entry_bytes, entry_limit, entry_size};
 ghost use Rattle.layout.specs.Entry.{entry_at};
 ghost use Rattle.layout.specs.Code.{place_byte_at, record_start, record_at, put, HasEntry};
@@ -27,7 +27,6 @@ pub fn cell_of(bytes: &[u8], k: usize) -> Cell
         input: (k / CELLS) as u32,
         output: output_of(bytes, k) as u32,
         flow: flow_of(bytes, k) as u32,
-        class: class_of(bytes, k) as u32,
         rank: rank_of(bytes, k),
         tag: tag_of(bytes, k),
         slot: slot_of(bytes, k),
@@ -48,41 +47,31 @@ pub fn flow_of(bytes: &[u8], k: usize) -> u8
     bytes[start_of(k) + 1]
 }
 
-pub fn class_of(bytes: &[u8], k: usize) -> u8
-    requires { HasEntry bytes.now k }
-    ensures { result ≡ (entry_at bytes.now k).cell.class }
-{
-    bytes[start_of(k) + 3]
-}
-
 // The number of a cell's flow among those of its input: two entries of one section are of one flow exactly if these
 // are equal.
-pub fn flow_word(c: Cell) -> u32
-    requires { (c.output < 256) × (c.flow < 256) × (c.class < 256) }
+pub fn flow_word(c: Cell) -> u16
+    requires { (c.output < 256) × (c.flow < 256) }
     ensures { result ≡ flow_word c }
 {
-    c.output + 256 * c.flow + 16777216 * c.class
+    (c.output + 256 * c.flow) as u16
 }
 
-// That of an entry: the first four bytes of its record, without that of its place.
-pub fn flow_word_of(bytes: &[u8], k: usize) -> u32
+// That of an entry: the first two bytes of its record.
+pub fn flow_word_of(bytes: &[u8], k: usize) -> u16
     requires { HasEntry bytes.now k }
     ensures { (result ≡ flow_word (entry_at bytes.now k).cell)
-        × ((entry_at bytes.now k).cell.output < 256) × ((entry_at bytes.now k).cell.flow < 256) }
+        × ((entry_at bytes.now k).cell.output < 256) }
 {
-    let first = layout::word::read_u32(bytes, start_of(k));
-    first % 65536 + first / 16777216 * 16777216
+    output_of(bytes, k) as u16 + 256 * flow_of(bytes, k) as u16
 }
 
-// The number of an entry's flow among the 512 that its input can have.
+// The number of an entry's flow among the 128 that its input can have.
 pub fn flow_number(bytes: &[u8], k: usize) -> usize
     requires has_entry { HasEntry bytes.now k }
-    requires k_bound { ((entry_at bytes.now k).cell.output < port_limit) × ((entry_at bytes.now k).cell.flow < flow_limit)
-        × ((entry_at bytes.now k).cell.class < class_limit) }
-    ensures { (result ≡ flow_number (entry_at bytes.now k)) × (result < 512) }
+    requires k_bound { ((entry_at bytes.now k).cell.output < port_limit) × ((entry_at bytes.now k).cell.flow < 8) }
+    ensures { (result ≡ flow_number (entry_at bytes.now k)) × (result < 128) }
 {
-    32 * output_of(bytes, k) as usize
-        + (8 * class_of(bytes, k) as usize + flow_of(bytes, k) as usize)
+    8 * output_of(bytes, k) as usize + flow_of(bytes, k) as usize
 }
 
 // The byte of its place.
@@ -138,14 +127,6 @@ pub fn key_of(bytes: &[u8], k: usize) -> u64
     cell::key(cell_of(bytes, k))
 }
 
-// That of its cell's output priority within a class.
-pub fn key_in_class_of(bytes: &[u8], k: usize) -> u64
-    requires { HasEntry bytes.now k }
-    ensures { result ≡ key_in_class (entry_at bytes.now k).cell }
-{
-    cell::key_in_class(cell_of(bytes, k))
-}
-
 // The first byte of a record.
 pub fn start_of(k: usize) -> usize
     requires { k < entry_limit }
@@ -157,16 +138,12 @@ pub fn start_of(k: usize) -> usize
 // Writes an entry into a record.
 pub fn write_entry(bytes: &mut [u8], k: usize, c: Cell, place: u8)
     requires has_entry { HasEntry bytes.old k }
-    requires output_bound { (c.output < 256) × (c.flow < 256) × (c.class < 256) × (1 ≤ place) × (place ≤ 3) }
+    requires output_bound { (c.output < 256) × (c.flow < 256) × (1 ≤ place) × (place ≤ 3) }
     ensures { bytes.new
         ≡ put (record_start k) entry_size (entry_bytes (entry_with c place)) bytes.old }
 {
     let at = start_of(k);
-    layout::word::write_u32(
-        bytes,
-        at,
-        c.output + 256 * c.flow + 65536 * place as u32 + 16777216 * c.class,
-    );
+    layout::word::write_u32(bytes, at, c.output + 256 * c.flow + 65536 * place as u32);
     layout::word::write_u32(bytes, at + 4, c.rank);
     layout::word::write_u32(bytes, at + 8, c.tag);
     layout::word::write_u32(bytes, at + 12, c.slot);

@@ -1,4 +1,5 @@
 // The code that reads and writes the table's bytes.
+#![tactic(auto)]
 pub mod entry;
 pub mod header;
 pub mod priority;

@@ -1,6 +1,5 @@
 // Output priority between the entries of a table, and the choice of an output between two of them.
 ghost use Rattle.std.specs.Prelude.{◌≡◌, ◌<◌, length};
-ghost use Rattle.cell.specs.Limits.{clock_end};
 ghost use Rattle.cell.specs.Order.{over, key as cell_key};
 ghost use Rattle.layout.specs.Code.{ports_in};
 ghost use Rattle.layout.specs.Entry.{entry_at};
@@ -36,17 +35,18 @@ pub fn is_over(table: &[u8], k: usize, other: u16) -> bool
     ensures { result ≡ over (ports_in table.now) (entry_at table.now k).cell
         (entry_at table.now other).cell }
 {
-    cell::over(
-        header::ports_of(table) as u32,
-        entry::cell_of(table, k),
-        entry::cell_of(table, other as usize),
+    goes_first(
+        table,
+        entry::key_of(table, k),
+        k,
+        entry::key_of(table, other as usize),
+        other as usize,
     )
 }
 
 // The same by the keys of both. Only where these are equal the ports and the cells are read.
 pub fn goes_first(table: &[u8], key: u64, k: usize, rival: u64, other: usize) -> bool
     requires table_len { (length table.now ≡ table_size) × (k < entry_limit) × (other < entry_limit) }
-    requires k_bound { ((entry_at table.now k).cell.slot < clock_end) × ((entry_at table.now other).cell.slot < clock_end) }
     requires key_value { (key ≡ cell_key (entry_at table.now k).cell) × (rival ≡ cell_key (entry_at table.now other).cell) }
     ensures { result ≡ over (ports_in table.now) (entry_at table.now k).cell
         (entry_at table.now other).cell }
@@ -54,5 +54,9 @@ pub fn goes_first(table: &[u8], key: u64, k: usize, rival: u64, other: usize) ->
     if key != rival {
         return key < rival;
     }
-    is_over(table, k, other as u16)
+    cell::wins_tie(
+        header::ports_of(table) as u32,
+        entry::cell_of(table, k),
+        entry::cell_of(table, other),
+    )
 }

@@ -18,10 +18,10 @@ use Rattle.laws.proofs.Tests.{or-false-l, or-false-r}
 use Rattle.laws.proofs.Pairwise.{pairwise-nil, pairwise_cons}
 use Rattle.cell.specs.declared.Cell.{Cell}
 use Rattle.cell.specs.declared.Refusal.{Refusal}
-use Rattle.cell.specs.declared.Refusal.TheVariants.{NoSuchPort, NoSuchFlow, NoSuchClass, InputOrder, RankOrder, Full}
+use Rattle.cell.specs.declared.Refusal.TheVariants.{NoSuchPort, NoSuchFlow, InputOrder, RankOrder, Full}
 use Rattle.cell.specs.Flow.{same_flow}
-use Rattle.cell.specs.Limits.{flow_in_range, class_in_range, input_full}
-use Rattle.model.specs.Checks.{no_such_port, no_such_flow, no_such_class, out_of_turn, falling_rank, full, fault, fault_from, first_fault}
+use Rattle.cell.specs.Limits.{flow_in_range, input_full}
+use Rattle.model.specs.Checks.{no_such_port, no_such_flow, out_of_turn, falling_rank, full, fault, fault_from, first_fault}
 use Rattle.model.proofs.CheckOrder.{faults-first, faults-next}
 use Rattle.model.proofs.Bags.{SameBag, bag-some?}
 
@@ -66,11 +66,10 @@ module _ (ports : ℕ) (waiting waiting' : List Cell) (bag : SameBag waiting wai
 ------------------------------------------------------------------------
 -- records without a fault
 
--- one record: its ports, its flow and its class exist, it comes in turn, no rank falls, its input has room
+-- one record: its ports and flow exist, it comes in turn, no rank falls, its input has room
 pub record Faultless (ports : ℕ) (waiting : List Cell) (before : Option Cell) (c : Cell) : Type 0 where
   pub port : no_such_port ports c ≡ false
   pub flow : no_such_flow c ≡ false
-  pub class : no_such_class c ≡ false
   pub turn : out_of_turn before c ≡ false
   pub rank : falling_rank waiting c ≡ false
   pub room : full waiting c ≡ false
@@ -79,30 +78,26 @@ pub faultless : (ports : ℕ) (waiting : List Cell) (before : Option Cell) (c : 
     → fault ports waiting before c ≡ none → Faultless ports waiting before c
 unfolding fault
 faultless ports waiting before c h =
-    go (no_such_port ports c) refl (no_such_flow c) refl (no_such_class c) refl (out_of_turn before c) refl
-    (falling_rank waiting c) refl (full waiting c) refl h
+    go (no_such_port ports c) refl (no_such_flow c) refl (out_of_turn before c) refl (falling_rank waiting c) refl
+    (full waiting c) refl h
   where
-    go : (p : Bool) → no_such_port ports c ≡ p → (f : Bool) → no_such_flow c ≡ f → (k : Bool) → no_such_class c ≡ k
-        → (t : Bool) → out_of_turn before c ≡ t → (r : Bool) → falling_rank waiting c ≡ r
-        → (u : Bool) → full waiting c ≡ u
-        → cond p (some NoSuchPort) (cond f (some NoSuchFlow) (cond k (some NoSuchClass) (cond t (some InputOrder)
-        (cond r (some RankOrder) (cond u (some Full) none))))) ≡ none
+    go : (p : Bool) → no_such_port ports c ≡ p → (f : Bool) → no_such_flow c ≡ f → (t : Bool) → out_of_turn before c ≡ t
+        → (r : Bool) → falling_rank waiting c ≡ r → (u : Bool) → full waiting c ≡ u
+        → cond p (some NoSuchPort) (cond f (some NoSuchFlow) (cond t (some InputOrder)
+        (cond r (some RankOrder) (cond u (some Full) none)))) ≡ none
         → Faultless ports waiting before c
-    go true p f f' k k' t t' r r' u u' e = absurd (some-ne-none NoSuchPort e)
-    go false p true f k k' t t' r r' u u' e = absurd (some-ne-none NoSuchFlow e)
-    go false p false f true k t t' r r' u u' e = absurd (some-ne-none NoSuchClass e)
-    go false p false f false k true t r r' u u' e = absurd (some-ne-none InputOrder e)
-    go false p false f false k false t true r u u' e = absurd (some-ne-none RankOrder e)
-    go false p false f false k false t false r true u e = absurd (some-ne-none Full e)
-    go false p false f false k false t false r false u e =
-        record { port = p; flow = f; class = k; turn = t; rank = r; room = u }
+    go true p f f' t t' r r' u u' e = absurd (some-ne-none NoSuchPort e)
+    go false p true f t t' r r' u u' e = absurd (some-ne-none NoSuchFlow e)
+    go false p false f true t r r' u u' e = absurd (some-ne-none InputOrder e)
+    go false p false f false t true r u u' e = absurd (some-ne-none RankOrder e)
+    go false p false f false t false r true u e = absurd (some-ne-none Full e)
+    go false p false f false t false r false u e = record { port = p; flow = f; turn = t; rank = r; room = u }
 
 -- all of them: and the inputs rise from record to record
 pub record Admitted (ports : ℕ) (waiting : List Cell) (cs : List Cell) : Type 0 where
   pub inputs : (c : Cell) → Memᴰ c cs → c.input < ports
   pub outputs : (c : Cell) → Memᴰ c cs → c.output < ports
   pub flows : (c : Cell) → Memᴰ c cs → flow_in_range c.flow ≡ true
-  pub classes : (c : Cell) → Memᴰ c cs → class_in_range c.class ≡ true
   pub turns : pairwise (λ c d. ltb c.input d.input) cs ≡ true
   pub ranks : (c : Cell) → Memᴰ c cs → falling_rank waiting c ≡ false
   pub rooms : (c : Cell) → Memᴰ c cs → full waiting c ≡ false
@@ -133,10 +128,6 @@ module _ (ports : ℕ) (waiting : List Cell) where
   flow-known : (c : Cell) → no_such_flow c ≡ false → flow_in_range c.flow ≡ true
   unfolding no_such_flow
   flow-known c h = not-false (flow_in_range c.flow) h
-
-  class-known : (c : Cell) → no_such_class c ≡ false → class_in_range c.class ≡ true
-  unfolding no_such_class
-  class-known c h = not-false (class_in_range c.class) h
 
   -- the first has no fault, nor have the others
   faults-none : (place : ℕ) (before : Option Cell) (c : Cell) (cs : List Cell)
@@ -172,7 +163,6 @@ module _ (ports : ℕ) (waiting : List Cell) where
         inputs = λ c m. absurd (Memᴰ.not-nil m);
         outputs = λ c m. absurd (Memᴰ.not-nil m);
         flows = λ c m. absurd (Memᴰ.not-nil m);
-        classes = λ c m. absurd (Memᴰ.not-nil m);
         turns = pairwise-nil (λ c d. ltb c.input d.input);
         ranks = λ c m. absurd (Memᴰ.not-nil m);
         rooms = λ c m. absurd (Memᴰ.not-nil m);
@@ -184,7 +174,6 @@ module _ (ports : ℕ) (waiting : List Cell) where
         inputs = each (λ d. d.input < ports) c cs (port-input ports c w.0.port) later.inputs;
         outputs = each (λ d. d.output < ports) c cs (port-output ports c w.0.port) later.outputs;
         flows = each (λ d. flow_in_range d.flow ≡ true) c cs (flow-known c w.0.flow) later.flows;
-        classes = each (λ d. class_in_range d.class ≡ true) c cs (class-known c w.0.class) later.classes;
         turns =
             pairwise_cons (λ c d. ltb c.input d.input) c cs
             (λ d m. lt-ltb c.input d.input (rising (place + 1) c cs w.1 m))

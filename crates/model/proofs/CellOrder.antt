@@ -62,17 +62,7 @@ same-cell-path c d h =
     let input : c.input ≡ d.input = search (and_l, eqb-true) in
     let output : c.output ≡ d.output = search (and_l, and_r, eqb-true) depth 9 in
     let flow : c.flow ≡ d.flow = search (and_l, and_r, eqb-true) depth 9 in
-    let class : c.class ≡ d.class = search (and_l, and_r, eqb-true) depth 9 in
     let rank : c.rank ≡ d.rank = search (and_l, and_r, eqb-true) depth 9 in
     let tag : c.tag ≡ d.tag = search (and_l, and_r, eqb-true) depth 9 in
     let slot : c.slot ≡ d.slot = search (and_l, and_r, eqb-true) depth 9 in
-    λ i.
-    record {
-      input = input i;
-      output = output i;
-      flow = flow i;
-      class = class i;
-      rank = rank i;
-      tag = tag i;
-      slot = slot i;
-    }
+    λ i. record { input = input i; output = output i; flow = flow i; rank = rank i; tag = tag i; slot = slot i }

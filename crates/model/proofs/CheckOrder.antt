@@ -1,7 +1,7 @@
 -- The order of the refusals of a slot. Each law says: this fault comes first, whatever else is wrong.
 --     slot-broken     2, no whole number of records, before the clock is looked at
 --     slot-clock-end  3, before any record is looked at
---     fault-port .. fault-full   4, 5, 16, 6, 7, 8 of one record, in this order
+--     fault-port .. fault-full   4 to 8 of one record, in this order
 --     faults-first, faults-next  record by record, places counted from 1
 --     fault-above                a record is refused with 4 or more
 use Prim.Native.Nat.{ℕ, ◌+◌, ◌≤◌}
@@ -14,10 +14,10 @@ use borrow.Author.Tests.{eq-eqb}
 use Rattle.cell.specs.declared.Arrival.{Arrival}
 use Rattle.cell.specs.declared.Cell.{Cell}
 use Rattle.cell.specs.declared.Refusal.{Refusal}
-use Rattle.cell.specs.declared.Refusal.TheVariants.{BrokenTable, ClockEnd, NoSuchPort, NoSuchFlow, NoSuchClass, InputOrder}
-use Rattle.cell.specs.declared.Refusal.TheVariants.{RankOrder, Full}
+use Rattle.cell.specs.declared.Refusal.TheVariants.{BrokenTable, ClockEnd, NoSuchPort, NoSuchFlow, InputOrder, RankOrder}
+use Rattle.cell.specs.declared.Refusal.TheVariants.{Full}
 use Rattle.cell.specs.Refusal.{number}
-use Rattle.model.specs.Checks.{refused, no_such_port, no_such_flow, no_such_class, out_of_turn, falling_rank, full, fault}
+use Rattle.model.specs.Checks.{refused, no_such_port, no_such_flow, out_of_turn, falling_rank, full, fault}
 use Rattle.model.specs.Checks.{fault_from}
 use Rattle.model.specs.Crossbar.{slot}
 use Rattle.model.specs.State.{Switch}
@@ -39,26 +39,20 @@ module _ (ports : ℕ) (waiting : List Cell) (before : Option Cell) (c : Cell) w
   unfolding fault
   fault-flow p f = rw (p, f)
 
-  pub fault-class : no_such_port ports c ≡ false → no_such_flow c ≡ false → no_such_class c ≡ true
-      → fault ports waiting before c ≡ some NoSuchClass
+  pub fault-turn : no_such_port ports c ≡ false → no_such_flow c ≡ false → out_of_turn before c ≡ true
+      → fault ports waiting before c ≡ some InputOrder
   unfolding fault
-  fault-class p f k = rw (p, f, k)
+  fault-turn p f t = rw (p, f, t)
 
-  pub fault-turn : no_such_port ports c ≡ false → no_such_flow c ≡ false → no_such_class c ≡ false
-      → out_of_turn before c ≡ true → fault ports waiting before c ≡ some InputOrder
+  pub fault-rank : no_such_port ports c ≡ false → no_such_flow c ≡ false → out_of_turn before c ≡ false
+      → falling_rank waiting c ≡ true → fault ports waiting before c ≡ some RankOrder
   unfolding fault
-  fault-turn p f k t = rw (p, f, k, t)
+  fault-rank p f t r = rw (p, f, t, r)
 
-  pub fault-rank : no_such_port ports c ≡ false → no_such_flow c ≡ false → no_such_class c ≡ false
-      → out_of_turn before c ≡ false → falling_rank waiting c ≡ true → fault ports waiting before c ≡ some RankOrder
+  pub fault-full : no_such_port ports c ≡ false → no_such_flow c ≡ false → out_of_turn before c ≡ false
+      → falling_rank waiting c ≡ false → full waiting c ≡ true → fault ports waiting before c ≡ some Full
   unfolding fault
-  fault-rank p f k t r = rw (p, f, k, t, r)
-
-  pub fault-full : no_such_port ports c ≡ false → no_such_flow c ≡ false → no_such_class c ≡ false
-      → out_of_turn before c ≡ false → falling_rank waiting c ≡ false → full waiting c ≡ true
-      → fault ports waiting before c ≡ some Full
-  unfolding fault
-  fault-full p f k t r u = rw (p, f, k, t, r, u)
+  fault-full p f t r u = rw (p, f, t, r, u)
 
 module _ (ports : ℕ) (waiting : List Cell) (place : ℕ) (before : Option Cell) (c : Cell) (cs : List Cell) where
   pub faults-first : {r : Refusal} → fault ports waiting before c ≡ some r
@@ -75,18 +69,17 @@ pub fault-above : (ports : ℕ) (waiting : List Cell) (before : Option Cell) (c 
     → fault ports waiting before c ≡ some r → 4 ≤ number r
 unfolding fault
 fault-above ports waiting before c r =
-    go (no_such_port ports c) (no_such_flow c) (no_such_class c) (out_of_turn before c) (falling_rank waiting c) (full waiting c)
+    go (no_such_port ports c) (no_such_flow c) (out_of_turn before c) (falling_rank waiting c) (full waiting c)
   where
     by : (x : Refusal) → 4 ≤ number x → some x ≡ some r → 4 ≤ number r
     by x h e = subst (λ y. 4 ≤ number y) (some-injective x r e) h
 
-    go : (p f l t k u : Bool)
-        → cond p (some NoSuchPort) (cond f (some NoSuchFlow) (cond l (some NoSuchClass) (cond t (some InputOrder)
-        (cond k (some RankOrder) (cond u (some Full) none))))) ≡ some r → 4 ≤ number r
-    go true f l t k u e = by NoSuchPort (omega arith) e
-    go false true l t k u e = by NoSuchFlow (omega arith) e
-    go false false true t k u e = by NoSuchClass (omega arith) e
-    go false false false true k u e = by InputOrder (omega arith) e
-    go false false false false true u e = by RankOrder (omega arith) e
-    go false false false false false true e = by Full (omega arith) e
-    go false false false false false false e = absurd (none-ne-some r e)
+    go : (p f t k u : Bool)
+        → cond p (some NoSuchPort) (cond f (some NoSuchFlow) (cond t (some InputOrder) (cond k (some RankOrder)
+        (cond u (some Full) none)))) ≡ some r → 4 ≤ number r
+    go true f t k u e = by NoSuchPort (omega arith) e
+    go false true t k u e = by NoSuchFlow (omega arith) e
+    go false false true k u e = by InputOrder (omega arith) e
+    go false false false true u e = by RankOrder (omega arith) e
+    go false false false false true e = by Full (omega arith) e
+    go false false false false false e = absurd (none-ne-some r e)

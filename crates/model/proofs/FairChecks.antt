@@ -29,7 +29,7 @@ use Rattle.cell.specs.Cell.{accepted, arrival_fits}
 use Rattle.cell.specs.Limits.{port_limit, clock_end, fits32}
 use Rattle.cell.specs.Refusal.{number}
 use Rattle.model.specs.State.{Switch, cells}
-use Rattle.model.specs.Checks.{Outcome, done, refused, no_such_port, no_such_flow, no_such_class, out_of_turn, falling_rank, full}
+use Rattle.model.specs.Checks.{Outcome, done, refused, no_such_port, no_such_flow, out_of_turn, falling_rank, full}
 use Rattle.model.specs.Checks.{fault, fault_from, first_fault}
 use Rattle.model.specs.Crossbar.{Course, run, slot}
 use Rattle.model.specs.Oq.{run_oq, slot_oq}
@@ -41,31 +41,29 @@ use Rattle.model.proofs.Admitted.{faultless, few-records}
 use Rattle.model.proofs.CheckOrder.{faults-first, faults-next, fault-above}
 
 ------------------------------------------------------------------------
--- 4, 5, 16 and 6 alone
+-- 4, 5 and 6 alone
 
 module _ (ports : ℕ) (before : Option Cell) (c : Cell) where
   pub fault-empty-none : fault ports [] before c ≡ none
-      → (no_such_port ports c ≡ false) × (no_such_flow c ≡ false) × (no_such_class c ≡ false) × (out_of_turn before c ≡ false)
-  fault-empty-none h = let w = faultless ports [] before c h in (w.port, w.flow, w.class, w.turn)
+      → (no_such_port ports c ≡ false) × (no_such_flow c ≡ false) × (out_of_turn before c ≡ false)
+  fault-empty-none h = let w = faultless ports [] before c h in (w.port, w.flow, w.turn)
 
-  pub fault-empty-clear : no_such_port ports c ≡ false → no_such_flow c ≡ false → no_such_class c ≡ false
-      → out_of_turn before c ≡ false → fault ports [] before c ≡ none
+  pub fault-empty-clear : no_such_port ports c ≡ false → no_such_flow c ≡ false → out_of_turn before c ≡ false
+      → fault ports [] before c ≡ none
   unfolding fault falling_rank full some? count
-  fault-empty-clear p f k t = rw (p, f, k, t)
+  fault-empty-clear p f t = rw (p, f, t)
 
   pub fault-empty-some : {r : Refusal} → fault ports [] before c ≡ some r → (waiting : List Cell)
       → fault ports waiting before c ≡ some r
   unfolding fault
-  fault-empty-some {r} h waiting =
-      go (no_such_port ports c) refl (no_such_flow c) refl (no_such_class c) refl (out_of_turn before c) refl
+  fault-empty-some {r} h waiting = go (no_such_port ports c) refl (no_such_flow c) refl (out_of_turn before c) refl
     where
-      go : (p : Bool) → no_such_port ports c ≡ p → (f : Bool) → no_such_flow c ≡ f → (k : Bool) → no_such_class c ≡ k
-          → (t : Bool) → out_of_turn before c ≡ t → fault ports waiting before c ≡ some r
-      go true p f f' k k' t t' = rw p (rw p at h)
-      go false p true f k k' t t' = rw (p, f) (rw (p, f) at h)
-      go false p false f true k t t' = rw (p, f, k) (rw (p, f, k) at h)
-      go false p false f false k true t = rw (p, f, k, t) (rw (p, f, k, t) at h)
-      go false p false f false k false t = absurd (some-ne-none r (sym h ∙ fault-empty-clear p f k t))
+      go : (p : Bool) → no_such_port ports c ≡ p → (f : Bool) → no_such_flow c ≡ f → (t : Bool) → out_of_turn before c ≡ t
+          → fault ports waiting before c ≡ some r
+      go true p f f' t t' = rw p (rw p at h)
+      go false p true f t t' = rw (p, f) (rw (p, f) at h)
+      go false p false f true t = rw (p, f, t) (rw (p, f, t) at h)
+      go false p false f false t = absurd (some-ne-none r (sym h ∙ fault-empty-clear p f t))
 
 ------------------------------------------------------------------------
 -- records that can be ranked
@@ -112,9 +110,8 @@ module _ (m : Memory) (a : Arrival) where
       let i : fits32 a.input ≡ true = search (and_l, and_r) depth 9 in
       let o : fits32 a.output ≡ true = search (and_l, and_r) depth 9 in
       let w : fits32 a.flow ≡ true = search (and_l, and_r) depth 9 in
-      let k : fits32 a.class ≡ true = search (and_l, and_r) depth 9 in
       let t : fits32 a.tag ≡ true = search (and_l, and_r) depth 9 in
-      rw (i, o, w, k, rank-fits r h, t)
+      rw (i, o, w, rank-fits r h, t)
 
 pub made-fit : (m : Memory) (records : List Arrival) → all? (rankable m) records ≡ true
     → all? arrival_fits records ≡ true → all? arrival_fits (map (make m) records) ≡ true

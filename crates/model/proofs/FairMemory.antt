@@ -6,13 +6,13 @@
 --     given-rises, given_holds          in an accepted slot no rank given falls, and each new cell's is remembered
 use Prim.Native.Nat.{ℕ, zero, suc, ◌+◌, ◌≤◌, ◌<◌, max}
 use native.Mathlib.Omega.{arith}
-use mathlib.Core.Bool.{Bool, true, false, cond, not}
-use mathlib.Core.Path.{◌≡◌, refl, sym, ◌∙◌}
+use mathlib.Core.Bool.{Bool, true, false, cond}
+use mathlib.Core.Path.{◌≡◌, refl, ◌∙◌}
 use mathlib.Core.Logic.{◌⊎◌, inl, inr}
 use mathlib.Core.List.Memᴰ
 use mathlib.Core.List.{List, [], ◌∷◌, ◌++◌, Memᴰ}
 use mathlib.Core.Option.{Option, none, some}
-use borrow.Author.Tests.{ltb-true, ltb-false, eqb-true, eqb-false, eq-eqb, not-true, not-false}
+use borrow.Author.Tests.{ltb-true, ltb-false, eqb-true, eqb-false, eq-eqb, not-false}
 use lib.Dec.{ltb, eqb}
 use lib.ListN.{length, replicate, set, get_or, length-set, length-replicate}
 use lib.Seq.{set_out, get_or-set_same, get_or-set_other}
@@ -22,8 +22,8 @@ use Rattle.laws.proofs.Pairwise.{pairwise-head, pairwise-tail}
 use Rattle.laws.proofs.Tests.{and_l, and_r}
 use Rattle.cell.specs.declared.Arrival.{Arrival}
 use Rattle.cell.specs.declared.Cell.{Cell}
-use Rattle.cell.specs.Limits.{fits32}
-use Rattle.model.specs.Fair.{flow_count, left_count, flow_index, left_index, Memory, no_memory, is_fair, marks_in_range, sound_memory, made_rank}
+use Rattle.cell.specs.Limits.{port_limit, fits32}
+use Rattle.model.specs.Fair.{flow_count, flow_index, Memory, no_memory, is_fair, marks_in_range, sound_memory, made_rank}
 use Rattle.model.specs.Fair.{stride, rank_end, given_after, left_after, remembered}
 use Rattle.model.specs.CodeFair.{rankable}
 use Rattle.model.proofs.FairChecks.{rankable-end}
@@ -34,7 +34,7 @@ use Rattle.model.proofs.FairChecks.{rankable-end}
 -- by its parts
 pub record Remembers (ports : ℕ) (m : Memory) : Type 0 where
   pub marks : marks_in_range ports m.fair ≡ true
-  pub outputs : length m.left ≡ left_count
+  pub outputs : length m.left ≡ port_limit
   pub flows : length m.given ≡ flow_count
   pub left-fits : all? fits32 m.left ≡ true
   pub given-fits : all? fits32 m.given ≡ true
@@ -42,11 +42,11 @@ pub record Remembers (ports : ℕ) (m : Memory) : Type 0 where
 pub memory-e : (ports : ℕ) (m : Memory) → sound_memory ports m ≡ true → Remembers ports m
 unfolding sound_memory
 memory-e ports m h =
-    let l : eqb (length m.left) left_count ≡ true = search (and_l, and_r) depth 9 in
+    let l : eqb (length m.left) port_limit ≡ true = search (and_l, and_r) depth 9 in
     let g : eqb (length m.given) flow_count ≡ true = search (and_l, and_r) depth 9 in
     record {
       marks = search (and_l, and_r) depth 9;
-      outputs = eqb-true (length m.left) left_count l;
+      outputs = eqb-true (length m.left) port_limit l;
       flows = eqb-true (length m.given) flow_count g;
       left-fits = search (and_l, and_r) depth 9;
       given-fits = search (and_l, and_r) depth 9;
@@ -57,7 +57,7 @@ unfolding sound_memory
 memory-i ports m r =
     rw (
       r.marks,
-      eq-eqb (length m.left) left_count r.outputs,
+      eq-eqb (length m.left) port_limit r.outputs,
       eq-eqb (length m.given) flow_count r.flows,
       r.left-fits,
       r.given-fits,
@@ -74,9 +74,9 @@ memory-fresh ports marks h =
     memory-i ports (no_memory marks)
     (record {
       marks = h;
-      outputs = length-replicate {A = ℕ} left_count 0;
+      outputs = length-replicate {A = ℕ} port_limit 0;
       flows = length-replicate {A = ℕ} flow_count 0;
-      left-fits = all_replicate left_count;
+      left-fits = all_replicate port_limit;
       given-fits = all_replicate flow_count;
     })
 
@@ -106,8 +106,8 @@ module _ (m : Memory) where
   length-left o [] left = refl
   length-left o (none ∷ ds) left = length-left (o + 1) ds left
   length-left o (some c ∷ ds) left =
-      length-left (o + 1) ds (cond (is_fair m o) (set left (left_index c.class o) c.rank) left)
-      ∙ length-word (is_fair m o) left (left_index c.class o) c.rank
+      length-left (o + 1) ds (cond (is_fair m o) (set left o c.rank) left)
+      ∙ length-word (is_fair m o) left o c.rank
 
   -- a rank that can be made fits
   fair_fits : (a : Arrival) → is_fair m a.output ≡ true → rankable m a ≡ true → fits32 (made_rank m a) ≡ true
@@ -134,8 +134,8 @@ module _ (m : Memory) where
   left-fits o [] left ranks f = f
   left-fits o (none ∷ ds) left ranks f = left-fits (o + 1) ds left (λ c i. ranks c (Memᴰ.tail i)) f
   left-fits o (some c ∷ ds) left ranks f =
-      left-fits (o + 1) ds (cond (is_fair m o) (set left (left_index c.class o) c.rank) left) (λ d i. ranks d (Memᴰ.tail i))
-      (word_fits (is_fair m o) left (left_index c.class o) c.rank f (λ e. ranks c (Memᴰ.head refl)))
+      left-fits (o + 1) ds (cond (is_fair m o) (set left o c.rank) left) (λ d i. ranks d (Memᴰ.tail i))
+      (word_fits (is_fair m o) left o c.rank f (λ e. ranks c (Memᴰ.head refl)))
 
   pub left-trailing : (o : ℕ) (ds : List (Option Cell)) (k : ℕ) (left : List ℕ)
       → left_after m o (ds ++ replicate k none) left ≡ left_after m o ds left
@@ -143,7 +143,7 @@ module _ (m : Memory) where
   left-trailing o [] zero left = refl
   left-trailing o [] (suc k) left = left-trailing (o + 1) [] k left
   left-trailing o (none ∷ ds) k left = left-trailing (o + 1) ds k left
-  left-trailing o (some c ∷ ds) k left = left-trailing (o + 1) ds k (cond (is_fair m o) (set left (left_index c.class o) c.rank) left)
+  left-trailing o (some c ∷ ds) k left = left-trailing (o + 1) ds k (cond (is_fair m o) (set left o c.rank) left)
 
 -- what an accepted slot leaves is sound
 pub memory-after : (ports : ℕ) (m : Memory) (records : List Arrival) (ds : List (Option Cell))
@@ -170,12 +170,9 @@ remembered-fair m records ds o = refl
 ------------------------------------------------------------------------
 -- no rank given falls
 
--- no two records have one word
-abbrev pub other_word : Arrival → Arrival → Bool
-other_word a b = not (eqb (flow_index a) (flow_index b))
-
+-- the word of each record is behind that of the one before it
 abbrev pub own_words : List Arrival → Bool
-own_words records = pairwise other_word records
+own_words records = pairwise (λ a b. ltb (flow_index a) (flow_index b)) records
 
 module _ (given : List ℕ) (i v : ℕ) where
   set-rises : get_or given i 0 ≤ v → (k : ℕ) → get_or given k 0 ≤ get_or (set given i v) k 0
@@ -193,7 +190,7 @@ module _ (m : Memory) where
   unfolding made_rank
   made-above a h =
       let e : made_rank m a
-      ≡ max (get_or m.given (flow_index a) 0) (get_or m.left (left_index a.class a.output) 0) + stride a.rank = rw h in
+      ≡ max (get_or m.given (flow_index a) 0) (get_or m.left a.output 0) + stride a.rank = rw h in
       omega arith
 
   -- the word that the first record leaves
@@ -213,13 +210,14 @@ module _ (m : Memory) where
       go : (fair : Bool)
           → get_or (cond fair (set given (flow_index a) (made_rank m a)) given) (flow_index b) 0 ≤ made_rank m b
       go true =
-          let other = eqb-false (flow_index a) (flow_index b) (not-true _ (pairwise-head other_word own i)) in
-          rw (get_or-set_other given (flow_index a) (flow_index b) (made_rank m a) 0 (λ e. other (sym e)))
+          let less : flow_index a < flow_index b =
+          ltb-true (flow_index a) (flow_index b) (pairwise-head (λ a b. ltb (flow_index a) (flow_index b)) own i) in
+          rw (get_or-set_other given (flow_index a) (flow_index b) (made_rank m a) 0 (omega arith))
           (above b (Memᴰ.tail i) e)
       go false = above b (Memᴰ.tail i) e
 
   words-next : (a : Arrival) (records : List Arrival) → own_words (a ∷ records) ≡ true → own_words records ≡ true
-  words-next a records own = pairwise-tail other_word a records own
+  words-next a records own = pairwise-tail (λ a b. ltb (flow_index a) (flow_index b)) a records own
 
   given-rises-from : (records : List Arrival) (given : List ℕ) → own_words records ≡ true → Above records given
       → (k : ℕ) → get_or given k 0 ≤ get_or (given_after m records given) k 0

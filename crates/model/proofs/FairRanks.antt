@@ -5,14 +5,14 @@
 --     departures-fit      the ranks of the cells that leave fit a word
 use Prim.Native.Nat.{ℕ, zero, suc, ◌+◌, ◌*◌, ◌≤◌, ◌<◌}
 use native.Mathlib.Omega.{arith}
-use mathlib.Core.Bool.{Bool, true, false, cond, not, ◌&&◌}
+use mathlib.Core.Bool.{Bool, true, false, cond, ◌&&◌}
 use mathlib.Core.Path.{◌≡◌, refl, sym, ◌∙◌, ap, ap₂, subst}
 use mathlib.Core.Logic.{◌⊎◌, inl, inr}
 use mathlib.Core.List.Memᴰ
 use mathlib.Core.List.{List, [], ◌∷◌, map, Memᴰ}
 use mathlib.Core.Option
 use mathlib.Core.Option.{Option, none, some, none-ne-some, some-injective}
-use borrow.Author.Tests.{ltb-true, leb-true, ne_eqb}
+use borrow.Author.Tests.{ltb-true, lt-ltb, leb-true}
 use lib.Dec.{ltb, leb, eqb}
 use lib.ListN.{get_or}
 use Rattle.laws.specs.Lists.{keep, some?, first?, up_to}
@@ -22,34 +22,33 @@ use Rattle.laws.proofs.Tests.{by-fail, and_l, and_r}
 use Rattle.cell.specs.declared.Arrival.{Arrival}
 use Rattle.cell.specs.declared.Cell.{Cell}
 use Rattle.cell.specs.declared.Refusal.{Refusal}
-use Rattle.cell.specs.declared.Refusal.TheVariants.{ClockEnd, NoSuchPort, NoSuchFlow, NoSuchClass, InputOrder, RankOrder, Full}
+use Rattle.cell.specs.declared.Refusal.TheVariants.{ClockEnd, NoSuchPort, NoSuchFlow, InputOrder, RankOrder, Full}
 use Rattle.cell.specs.declared.Refusal.TheVariants.{BadWeight, RankEnd}
 use Rattle.cell.specs.Cell.{accepted}
 use Rattle.cell.specs.Flow.{same_flow}
-use Rattle.cell.specs.Limits.{port_limit, flow_limit, class_limit, clock_end, fits32, ports_in_range}
+use Rattle.cell.specs.Limits.{port_limit, flow_limit, clock_end, fits32, ports_in_range}
 use Rattle.cell.specs.Refusal.{number}
 use Rattle.cell.proofs.Flow.{flow-e}
 use Rattle.model.specs.State.{Entry, Switch, cells}
-use Rattle.model.specs.Checks.{Outcome, done, refused, no_such_port, no_such_flow, no_such_class, out_of_turn, falling_rank, full}
+use Rattle.model.specs.Checks.{Outcome, done, refused, no_such_port, no_such_flow, out_of_turn, falling_rank, full}
 use Rattle.model.specs.Checks.{fault}
 use Rattle.model.specs.Crossbar.{Course, leaving, departures_of, run}
 use Rattle.model.specs.Emulation.{NeverFalls}
-use Rattle.model.specs.Fair.{class_flows, flow_index, Memory, is_fair, sound_memory, made_rank, make, bad_weight, rank_end}
+use Rattle.model.specs.Fair.{flow_index, Memory, is_fair, sound_memory, made_rank, make, bad_weight, rank_end}
 use Rattle.model.specs.Fair.{record_fault, record_fault_from, given_after, remembered, Fair}
 use Rattle.model.specs.Phase.{Waiting, waiting}
 use Rattle.model.specs.Sound.{sound_sections}
 use Rattle.model.proofs.Admitted.{Admitted, admitted}
 use Rattle.model.proofs.FairChecks.{becoming, records-first, records-next, record-clear-first, fair-end}
 use Rattle.model.proofs.FairChecks.{fair-fault, fair-runs}
-use Rattle.model.proofs.FairMemory.{memory-e, remembered-fair, other_word, own_words, made-above, given-rises, given_holds}
+use Rattle.model.proofs.FairMemory.{memory-e, remembered-fair, own_words, made-above, given-rises, given_holds}
 use Rattle.model.proofs.Numbering.{entry_of, mem-waiting, stands-entry}
 use Rattle.model.proofs.SlackDeparture.{leaving-in}
 use Rattle.model.proofs.SoundOrderly.{sound-section}
 
 -- the word of a cell's flow
 unfoldable pub word_of : Cell → ℕ
-word_of c =
-    class_flows * c.class + (port_limit * flow_limit * c.input + (flow_limit * c.output + c.flow))
+word_of c = port_limit * flow_limit * c.input + (flow_limit * c.output + c.flow)
 
 abbrev pub RanksGiven : Memory → List Cell → Type 0
 RanksGiven m waiting =
@@ -62,20 +61,19 @@ fault-not-fall : (ports : ℕ) (waiting : List Cell) (before : Option Cell) (c :
     → fault ports waiting before c ≡ some RankOrder → ⊥
 unfolding fault
 fault-not-fall ports waiting before c h k =
-    go (no_such_port ports c) (no_such_flow c) (no_such_class c) (out_of_turn before c) (full waiting c) (rw h at k)
+    go (no_such_port ports c) (no_such_flow c) (out_of_turn before c) (full waiting c) (rw h at k)
   where
     by : (x : Refusal) → (number x ≡ 7 → ⊥) → some x ≡ some RankOrder → ⊥
     by x other e = other (ap number (some-injective x RankOrder e))
 
-    go : (p f k t u : Bool)
-        → cond p (some NoSuchPort) (cond f (some NoSuchFlow) (cond k (some NoSuchClass) (cond t (some InputOrder)
-        (cond u (some Full) none)))) ≡ some RankOrder → ⊥
-    go true f k t u e = by NoSuchPort (λ q. omega arith) e
-    go false true k t u e = by NoSuchFlow (λ q. omega arith) e
-    go false false true t u e = by NoSuchClass (λ q. omega arith) e
-    go false false false true u e = by InputOrder (λ q. omega arith) e
-    go false false false false true e = by Full (λ q. omega arith) e
-    go false false false false false e = none-ne-some RankOrder e
+    go : (p f t u : Bool)
+        → cond p (some NoSuchPort) (cond f (some NoSuchFlow) (cond t (some InputOrder) (cond u (some Full) none)))
+        ≡ some RankOrder → ⊥
+    go true f t u e = by NoSuchPort (λ q. omega arith) e
+    go false true t u e = by NoSuchFlow (λ q. omega arith) e
+    go false false true u e = by InputOrder (λ q. omega arith) e
+    go false false false true e = by Full (λ q. omega arith) e
+    go false false false false e = none-ne-some RankOrder e
 
 module _ (ports clock : ℕ) (waiting : List Cell) (m : Memory) (given : RanksGiven m waiting) where
   -- the rank made is at least the last one given, and so at least that of every waiting cell of the flow
@@ -92,7 +90,7 @@ module _ (ports clock : ℕ) (waiting : List Cell) (m : Memory) (given : RanksGi
           let below = given d w.1 (rw f.output fair) in
           let above = made-above m a fair in
           let same : get_or m.given (word_of d) 0 ≡ get_or m.given (flow_index a) 0 =
-          rw (f.input, f.output, f.class, f.flow) in
+          rw (f.input, f.output, f.flow) in
           let less = ltb-true (made_rank m a) d.rank
           (and_r (same_flow d (accepted clock (make m a))) (ltb (made_rank m a) d.rank) w.2) in
           omega arith
@@ -230,7 +228,6 @@ module _ (ports clock : ℕ) (waiting : List Cell) (m : Memory) (records : List 
     input : a.input < port_limit
     output : a.output < port_limit
     flow : a.flow < flow_limit
-    class : a.class < class_limit
 
   inside : (a : Arrival) → Memᴰ a records → Inside a
   unfolding ports_in_range accepted make cell
@@ -241,22 +238,21 @@ module _ (ports clock : ℕ) (waiting : List Cell) (m : Memory) (records : List 
         input = omega (arith, fine.inputs (cell a) j);
         output = omega (arith, fine.outputs (cell a) j);
         flow = ltb-true a.flow flow_limit (fine.flows (cell a) j);
-        class = ltb-true a.class class_limit (fine.classes (cell a) j);
       }
 
-  -- inputs rise, so the words of the flows differ
+  -- inputs rise, and so do the words of the flows
   own : own_words records ≡ true
   unfolding flow_index accepted make cell
   own =
-      pairwise-mono (λ a b. ltb a.input b.input) other_word records later
+      pairwise-mono (λ a b. ltb a.input b.input) (λ a b. ltb (flow_index a) (flow_index b)) records later
       (sym (pairwise_map (λ c d. ltb c.input d.input) cell records) ∙ fine.turns)
     where
       later : (a b : Arrival) → Memᴰ a records → Memᴰ b records → ltb a.input b.input ≡ true
-          → other_word a b ≡ true
+          → ltb (flow_index a) (flow_index b) ≡ true
       later a b i j t =
           let first = inside a i in
           let second = inside b j in
-          ap not (ne_eqb (flow_index a) (flow_index b) (λ e. omega (arith, ltb-true a.input b.input t)))
+          lt-ltb (flow_index a) (flow_index b) (omega (arith, ltb-true a.input b.input t))
 
   -- a new cell's rank is remembered
   new-rank : (a : Arrival) → Memᴰ a records → is_fair m (cell a).output ≡ true

@@ -1,5 +1,4 @@
 pub mod Accord
-pub mod AccordClass
 pub mod AccordCues
 pub mod AccordFair
 pub mod AccordOq

@@ -29,7 +29,7 @@ use Rattle.cell.specs.declared.Cell.{Cell}
 use Rattle.cell.specs.Cell.{accepted, arrival_fits}
 use Rattle.cell.specs.Flow.{same_flow}
 use Rattle.cell.specs.Limits.{cell_limit, section_room, fits32}
-use Rattle.cell.proofs.Flow.{flow-sym, flow-class}
+use Rattle.cell.proofs.Flow.{flow-sym}
 use Rattle.cell.proofs.Order.{over-in-flow}
 use Rattle.model.specs.State.{Place, listed, Entry, Switch, cells, is_listed, is_crossed}
 use Rattle.model.specs.Checks.{falling_rank, full, first_fault}
@@ -291,7 +291,7 @@ module _ (ports clock : ℕ) (sections : List (List Entry)) (h : sound_sections 
       → Follows ports (flatten sections) c
   arrival-follows c slot rank e m s =
       let older : e.cell.slot < c.slot = omega (arith, sound-slot e m) in
-      over-in-flow ports e.cell c (flow-class e.cell c s)
+      over-in-flow ports e.cell c
       (rank_rises (map (λ e. e.cell) (flatten sections)) c e.cell rank (Memᴰ.map (λ e. e.cell) m) s)
       older
 
@@ -371,7 +371,6 @@ module _ (s : Switch) (records : List Arrival) (h : sound s ≡ true)
         input = refl;
         output = arrival-admitted.outputs c m;
         flow = arrival-admitted.flows c m;
-        class = arrival-admitted.classes c m;
         rank = accepted-rank s.clock records fits c m;
         tag = accepted-tag s.clock records fits c m;
         slot = omega (arith, accepted-slot s.clock records c m);

@@ -22,7 +22,7 @@ use Rattle.laws.proofs.Lists.{none?-e, none?-i, none?-clash, none?-mono, none?-w
 use Rattle.laws.proofs.Lists.{keep-pass, keep-fail, keep-nil, mem-keep-in}
 use Rattle.cell.specs.declared.Cell.{Cell}
 use Rattle.cell.specs.Flow.{same_flow}
-use Rattle.cell.specs.Limits.{ports_in_range, flow_in_range, class_in_range, fits32, section_room}
+use Rattle.cell.specs.Limits.{ports_in_range, flow_in_range, fits32, section_room}
 use Rattle.cell.specs.Order.{over}
 use Rattle.cell.proofs.Flow.{flow-sym, flow-trans}
 use Rattle.cell.proofs.Order.{over-trans}
@@ -237,7 +237,6 @@ pub record SoundEntry (ports clock k : ℕ) (e : Entry) : Type 0 where
   pub input : e.cell.input ≡ k
   pub output : e.cell.output < ports
   pub flow : flow_in_range e.cell.flow ≡ true
-  pub class : class_in_range e.cell.class ≡ true
   pub rank : fits32 e.cell.rank ≡ true
   pub tag : fits32 e.cell.tag ≡ true
   pub slot : e.cell.slot < clock
@@ -249,7 +248,6 @@ entry-e ports clock k e h =
       input = search (and_l, eqb-true);
       output = search (and_l, and_r, ltb-true) depth 9;
       flow = search (and_l, and_r) depth 9;
-      class = search (and_l, and_r) depth 9;
       rank = search (and_l, and_r) depth 9;
       tag = search (and_l, and_r) depth 9;
       slot = search (and_l, and_r, ltb-true) depth 9;
@@ -257,7 +255,7 @@ entry-e ports clock k e h =
 
 pub entry-i : (ports clock k : ℕ) (e : Entry) → SoundEntry ports clock k e → sound_entry ports clock k e ≡ true
 unfolding sound_entry
-entry-i ports clock k e s = search (and_i, eq-eqb, lt-ltb) depth 12
+entry-i ports clock k e s = search (and_i, eq-eqb, lt-ltb) depth 9
 
 ------------------------------------------------------------------------
 -- one section
@@ -357,7 +355,6 @@ section-later ports clock k es s =
           input = t.input;
           output = t.output;
           flow = t.flow;
-          class = t.class;
           rank = t.rank;
           tag = t.tag;
           slot = omega (arith, t.slot);

@@ -35,7 +35,6 @@ entry-moved ports clock k p w s =
       input = s.input;
       output = s.output;
       flow = s.flow;
-      class = s.class;
       rank = s.rank;
       tag = s.tag;
       slot = s.slot;

@@ -136,20 +136,13 @@ unfoldable pub switch_with : ℕ → ℕ → Tables → Switch
 switch_with n clock t =
     record { ports = n; clock = clock; sections = sections_from 0 t.lists t.crosspoints t.buffers }
 
--- input, output, flow, class, rank, tag
-unfoldable pub class_arrival : ℕ → ℕ → ℕ → ℕ → ℕ → ℕ → Arrival
-class_arrival i o f k r t = record { input = i; output = o; flow = f; class = k; rank = r; tag = t }
+-- input, output, flow, rank, tag
+unfoldable pub arrival : ℕ → ℕ → ℕ → ℕ → ℕ → Arrival
+arrival i o f r t = record { input = i; output = o; flow = f; rank = r; tag = t }
 
 -- the cell that such a record becomes in a slot
-unfoldable pub class_cell : ℕ → ℕ → ℕ → ℕ → ℕ → ℕ → ℕ → Cell
-class_cell i o f k r t s = record { input = i; output = o; flow = f; class = k; rank = r; tag = t; slot = s }
-
--- both of class 0
-unfoldable pub arrival : ℕ → ℕ → ℕ → ℕ → ℕ → Arrival
-arrival i o f r t = class_arrival i o f 0 r t
-
 unfoldable pub cell : ℕ → ℕ → ℕ → ℕ → ℕ → ℕ → Cell
-cell i o f r t s = class_cell i o f 0 r t s
+cell i o f r t s = record { input = i; output = o; flow = f; rank = r; tag = t; slot = s }
 
 unfoldable pub call : List Arrival → Expected → Call
 call records e = record { arrivals = records; expected = e }

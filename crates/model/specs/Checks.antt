@@ -1,4 +1,4 @@
--- Scope 6: the checks of a record, 4, 5, 16, 6, 7, 8, in their order. All three switches use them, each fed
+-- Scope 6: the checks of a record, 4 to 8, in their order. All three switches use them, each fed
 -- the cells that wait in it before the slot. A record is looked at as the cell that it would become. 14 and 15, which come
 -- among them at fair outputs, are in Fair.
 use Rattle.std.specs.Prelude.{ℕ, ◌+◌, Bool, false, cond, not, ◌&&◌, ◌||◌, List, [], ◌∷◌, ltb, leb, eqb, replicate}
@@ -6,9 +6,9 @@ use Rattle.std.proofs.Math.Option.{Option, none, some}
 use Rattle.laws.specs.Lists.{some?, count}
 use Rattle.cell.specs.declared.Cell.{Cell}
 use Rattle.cell.specs.declared.Refusal.{Refusal}
-use Rattle.cell.specs.declared.Refusal.TheVariants.{NoSuchPort, NoSuchFlow, NoSuchClass, InputOrder, RankOrder, Full}
+use Rattle.cell.specs.declared.Refusal.TheVariants.{NoSuchPort, NoSuchFlow, InputOrder, RankOrder, Full}
 use Rattle.cell.specs.Flow.{same_flow}
-use Rattle.cell.specs.Limits.{flow_in_range, class_in_range, input_full}
+use Rattle.cell.specs.Limits.{flow_in_range, input_full}
 use Rattle.cell.specs.declared.Fault.{Fault}
 use Rattle.cell.specs.declared.Fault.TheVariants.{Clear, At}
 
@@ -34,10 +34,6 @@ no_such_port ports c = leb ports c.input || leb ports c.output
 unfoldable pub no_such_flow : Cell → Bool
 no_such_flow c = not (flow_in_range c.flow)
 
--- 16: a class is above 3
-unfoldable pub no_such_class : Cell → Bool
-no_such_class c = not (class_in_range c.class)
-
 -- 6: an input is not above that of the record before it
 unfoldable pub out_of_turn : Option Cell → Cell → Bool
 out_of_turn none c = false
@@ -55,11 +51,10 @@ unfoldable pub fault : ℕ → List Cell → Option Cell → Cell → Option Ref
 fault ports waiting before c =
     cond (no_such_port ports c) (some NoSuchPort)
     (cond (no_such_flow c) (some NoSuchFlow)
-    (cond (no_such_class c) (some NoSuchClass)
     (cond (out_of_turn before c) (some InputOrder)
     (cond (falling_rank waiting c) (some RankOrder)
     (cond (full waiting c) (some Full)
-    none)))))
+    none))))
 
 -- the first fault of the records from this place on, and its place
 unfoldable pub fault_from : ℕ → List Cell → ℕ → Option Cell → List Cell → Option (Refusal × ℕ)
@@ -70,7 +65,7 @@ fault_from ports waiting place before (c ∷ cs) =
       | none ↦ fault_from ports waiting (place + 1) (some c) cs
     ]
 
--- record by record 4, 5, 16, 6, 7, 8: the first fault refuses the slot with its number and the record's place
+-- record by record 4 to 8: the first fault refuses the slot with its number and the record's place
 unfoldable pub first_fault : ℕ → List Cell → List Cell → Option (Refusal × ℕ)
 first_fault ports waiting cs = fault_from ports waiting 1 none cs
 

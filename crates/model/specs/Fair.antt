@@ -1,6 +1,6 @@
 -- Fair ranks. At a fair output the rank of a record is a weight, and the switch makes the rank of its cell from what it
--- remembers: the last rank given to each flow, and the rank of the last cell of each class that left each output. One text
--- for the three switches, each of which has a memory of its own.
+-- remembers: the last rank given to each flow, and the rank of the last cell that left each output. One text for the
+-- three switches, each of which has a memory of its own.
 use Rattle.std.specs.Prelude.{ℕ, ◌+◌, ◌*◌, ◌/◌, ◌%◌, ◌^◌, max, Bool, true, false, cond, not, ◌&&◌, List, [], ◌∷◌, map, ltb, leb, eqb, length, replicate, set, get_or}
 use Rattle.std.proofs.Math.Option.{Option, none, some}
 use Rattle.laws.specs.Lists.{all?}
@@ -9,7 +9,7 @@ use Rattle.cell.specs.declared.Cell.{Cell}
 use Rattle.cell.specs.declared.Refusal.{Refusal}
 use Rattle.cell.specs.declared.Refusal.TheVariants.{BadSize, BrokenTable, ClockEnd, NoSuchPort, BadWeight, RankEnd}
 use Rattle.cell.specs.Cell.{accepted}
-use Rattle.cell.specs.Limits.{port_limit, flow_limit, class_limit, clock_end, fits32, ports_in_range}
+use Rattle.cell.specs.Limits.{port_limit, flow_limit, clock_end, fits32, ports_in_range}
 use Rattle.model.specs.State.{Switch, fresh, cells}
 use Rattle.model.specs.Checks.{Outcome, done, refused, fault}
 use Rattle.model.specs.Crossbar.{Course, run}
@@ -30,26 +30,15 @@ stride_top = 1048576
 unfoldable pub stride : ℕ → ℕ
 stride w = stride_top / w
 
--- A word of memory for each flow: class, input, output and flow number.
-abbrev pub class_flows : ℕ
-class_flows = port_limit * (port_limit * flow_limit)
-
+-- A word of memory for each flow: input, output and flow number.
 abbrev pub flow_count : ℕ
-flow_count = class_limit * class_flows
+flow_count = port_limit * (port_limit * flow_limit)
 
 unfoldable pub flow_index : Arrival → ℕ
-flow_index a =
-    class_flows * a.class + (port_limit * flow_limit * a.input + (flow_limit * a.output + a.flow))
+flow_index a = port_limit * flow_limit * a.input + (flow_limit * a.output + a.flow)
 
--- and one for each class at each output
-abbrev pub left_count : ℕ
-left_count = class_limit * port_limit
-
-unfoldable pub left_index : ℕ → ℕ → ℕ
-left_index class output = port_limit * class + output
-
--- Which outputs are fair, output o by bit o of a number; the rank of the last cell of each class that left each output;
--- and the last rank given to each flow. A rank is 0 where there was none.
+-- Which outputs are fair, output o by bit o of a number; the rank of the last cell that left each output; and the last
+-- rank given to each flow. A rank is 0 where there was none.
 pub record Memory : Type 0 where
   pub fair : ℕ
   pub left : List ℕ
@@ -57,7 +46,7 @@ pub record Memory : Type 0 where
 
 -- nothing has left yet, and nothing was given
 unfoldable pub no_memory : ℕ → Memory
-no_memory marks = record { fair = marks; left = replicate left_count 0; given = replicate flow_count 0 }
+no_memory marks = record { fair = marks; left = replicate port_limit 0; given = replicate flow_count 0 }
 
 unfoldable pub is_fair : Memory → ℕ → Bool
 is_fair m o = eqb (m.fair / 2 ^ o % 2) 1
@@ -70,29 +59,22 @@ marks_in_range ports marks = ltb marks (2 ^ ports)
 unfoldable pub sound_memory : ℕ → Memory → Bool
 sound_memory ports m =
     marks_in_range ports m.fair
-    && (eqb (length m.left) left_count
+    && (eqb (length m.left) port_limit
     && (eqb (length m.given) flow_count
     && (all? fits32 m.left && all? fits32 m.given)))
 
 -- The rank of a record's cell. At a fair output: the larger of the last rank given to its flow and the rank of the last
--- cell of its class that left that output, plus the stride of the weight.
+-- cell that left that output, plus the stride of the weight.
 unfoldable pub made_rank : Memory → Arrival → ℕ
 made_rank m a =
     cond (is_fair m a.output)
-    (max (get_or m.given (flow_index a) 0) (get_or m.left (left_index a.class a.output) 0) + stride a.rank)
+    (max (get_or m.given (flow_index a) 0) (get_or m.left a.output 0) + stride a.rank)
     a.rank
 
 -- the record with that rank
 unfoldable pub make : Memory → Arrival → Arrival
 make m a =
-    record {
-      input = a.input;
-      output = a.output;
-      flow = a.flow;
-      class = a.class;
-      rank = made_rank m a;
-      tag = a.tag;
-    }
+    record { input = a.input; output = a.output; flow = a.flow; rank = made_rank m a; tag = a.tag }
 
 -- 14: a weight is not 1 to 1,024
 unfoldable pub bad_weight : Memory → Arrival → Bool
@@ -102,7 +84,7 @@ bad_weight m a = is_fair m a.output && not (weight_in_range a.rank)
 unfoldable pub rank_end : Memory → Arrival → Bool
 rank_end m a = is_fair m a.output && not (fits32 (made_rank m a))
 
--- The checks of a record: 4, 5, 16 and 6, which look at no waiting cell; then 14 and 15; then, by the rank made, 7 and 8.
+-- The checks of a record: 4, 5 and 6, which look at no waiting cell; then 14 and 15; then, by the rank made, 7 and 8.
 unfoldable pub record_fault : ℕ → ℕ → List Cell → Memory → Option Cell → Arrival → Option Refusal
 record_fault ports clock waiting m before a =
     let c = accepted clock (make m a) in
@@ -135,7 +117,7 @@ unfoldable pub left_after : Memory → ℕ → List (Option Cell) → List ℕ �
 left_after m o [] left = left
 left_after m o (none ∷ departures) left = left_after m (o + 1) departures left
 left_after m o (some c ∷ departures) left =
-    left_after m (o + 1) departures (cond (is_fair m o) (set left (left_index c.class o) c.rank) left)
+    left_after m (o + 1) departures (cond (is_fair m o) (set left o c.rank) left)
 
 unfoldable pub remembered : Memory → List Arrival → List (Option Cell) → Memory
 remembered m records departures =
@@ -157,7 +139,7 @@ marked marks s = record { core = s; memory = no_memory marks }
 -- A switch is given by its N, its clock and its waiting cells, and by what a slot of its cells does.
 module _ {S R : Type 0} (ports clock : S → ℕ) (waiting : S → List Cell) (runs : S → List Cell → R) where
   -- One slot. The arrivals are lent as records, or are no whole number of records; then the clock's end; then record by
-  -- record 4, 5, 16, 6, 14, 15, 7, 8, by the cells in the switch and the memory before the slot.
+  -- record 4, 5, 6, 14, 15, 7, 8, by the cells in the switch and the memory before the slot.
   unfoldable pub slot_of : Fair S → Option (List Arrival) → Outcome R
   slot_of x none = refused BrokenTable 0
   slot_of x (some records) =

@@ -8,7 +8,7 @@ use Rattle.laws.specs.Lists.{up_to}
 use Rattle.cell.specs.declared.Arrival.{Arrival}
 use Rattle.cell.specs.declared.Cell.{Cell}
 use Rattle.model.specs.Calls.{Tables, tables, Call, call, Expected, sends, refuses, passes, occupies, crossbar_runs, all_run}
-use Rattle.model.specs.Calls.{switch_with, arrival, cell, class_arrival}
+use Rattle.model.specs.Calls.{switch_with, arrival, cell}
 use Rattle.model.specs.Fair.{marked}
 use Rattle.model.specs.Sound.{sound}
 
@@ -26,7 +26,7 @@ given (lent ports first t calls clock) =
 
 -- the record that becomes this cell
 unfoldable pub record_of : Cell → Arrival
-record_of c = class_arrival c.input c.output c.flow c.class c.rank c.tag
+record_of c = arrival c.input c.output c.flow c.rank c.tag
 
 -- a slot that accepts these cells: the tables after arrival, after phase one and after phase two, the departures and
 -- the proposals of both phases

@@ -1,6 +1,5 @@
 pub mod Calls
 pub mod Checks
-pub mod ClassRows
 pub mod CodeFair
 pub mod CodeSlackness
 pub mod Crossbar

@@ -2,7 +2,7 @@
 use Rattle.std.specs.Prelude.{ℕ, ◌+◌, Bool, true, not, ◌&&◌, ◌||◌, List, [], ◌∷◌, ltb, leb, eqb, length}
 use Rattle.laws.specs.Lists.{keep, none?, all?, pairwise}
 use Rattle.cell.specs.Flow.{same_flow}
-use Rattle.cell.specs.Limits.{ports_in_range, flow_in_range, class_in_range, fits32, section_room}
+use Rattle.cell.specs.Limits.{ports_in_range, flow_in_range, fits32, section_room}
 use Rattle.cell.specs.Order.{over}
 use Rattle.model.specs.State.{Entry, Switch, is_listed, is_crossed}
 
@@ -12,10 +12,9 @@ sound_entry ports clock input e =
     eqb e.cell.input input
     && (ltb e.cell.output ports
     && (flow_in_range e.cell.flow
-    && (class_in_range e.cell.class
     && (fits32 e.cell.rank
     && (fits32 e.cell.tag
-    && ltb e.cell.slot clock)))))
+    && ltb e.cell.slot clock))))
 
 -- in a list the cells of a flow stand together in output priority: the next one is of the same flow and comes after,
 -- or no later one is of the same flow

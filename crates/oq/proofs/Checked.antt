@@ -4,20 +4,21 @@
 --     broken, in-a-list, in-no-list     a table whose cells all wait in buffers: its check, then whether none of
 --                                       them is in a list, then none at a crosspoint
 --     other-frame, by-core              framed
+--     other-size, other-number, by-inner   the older table, with the number in front
 use Prim.Native.Nat.{ℕ, ◌+◌, ◌*◌, ◌-◌, ◌≤◌, ◌<◌}
 use native.Mathlib.Nat.{zero-add}
 use native.Mathlib.Omega.{arith}
 use mathlib.Core.Bool.{Bool, true, false, ◌&&◌}
 use mathlib.Core.List.Memᴰ
 use mathlib.Core.List.{List, [], Memᴰ, flatten}
-use mathlib.Core.Path.{◌≡◌, refl, sym, ap, ◌∙◌}
-use borrow.Author.Tests.{eqb-true, eq-eqb}
+use mathlib.Core.Path.{◌≡◌, refl, sym, ap, ap₂, ◌∙◌}
+use borrow.Author.Tests.{eqb-true, eq-eqb, ne_eqb}
 use lib.Dec.{eqb}
-use lib.ListN.{length, get_or}
+use lib.ListN.{length, take, drop, get_or}
 use Rattle.laws.specs.Lists.{all?, none?, between, numbers_from, up_to}
 use Rattle.laws.proofs.Lists.{all?-at, all?-places, none?-e, none?-i}
 use Rattle.laws.proofs.Numbers.{mem-numbers_from, numbers_from-mem, numbers_from-at}
-use Rattle.laws.proofs.Tests.{same, by-fail, and_i, and_l, and_r, and-false-l}
+use Rattle.laws.proofs.Tests.{same, by-fail, and_i, and_l, and_r, and-false-l, and_false_r}
 use Rattle.sets.specs.Sets.{set_from}
 use Rattle.sets.proofs.Members.{set_from-empty}
 use Rattle.cell.specs.Limits.{port_limit, section_room}
@@ -27,16 +28,22 @@ use Rattle.model.proofs.Bags.{mem-flatten}
 use Rattle.model.proofs.OqSound.{all-buffered-at, all-buffered-i}
 use Rattle.layout.specs.Code.{ports_in, first_record, entries_between, section_at}
 use Rattle.layout.specs.Entry.{entry_at, count_in}
+use Rattle.layout.specs.Number.{word}
 use Rattle.layout.specs.CodeFair.{is_fair_oq_table}
 use Rattle.layout.specs.Frame.{is_framed}
+use Rattle.layout.specs.CodeOq.{is_oq_table}
 use Rattle.layout.specs.Fair.{fair_number_oq, core_in}
+use Rattle.layout.specs.Oq.{oq_number, oq_number_size, state_of_oq}
+use Rattle.layout.specs.CodeOq.{oq_table_size}
 use Rattle.layout.specs.Table.{state_of, is_table, IsTable}
 use Rattle.layout.proofs.Fair.{is_fair_oq_table-tests}
 use Rattle.layout.proofs.Number.{bytes?}
+use Rattle.layout.proofs.Oq.{is_oq_table-tests}
 use Rattle.layout.proofs.Table.{decode-sound, sound-length, is-table}
 use Rattle.slot_check.specs.Handed.{Handed}
 use Rattle.slot_view.proofs.Handed.{entry-port}
 use Rattle.slot_view.proofs.Placed.{decode-ports, decode-ports-few, decode-sections}
+use Rattle.layout.proofs.Parts.{part-behind}
 
 ------------------------------------------------------------------------
 -- a set for each input
@@ -166,7 +173,7 @@ module _ (t : List ℕ) (g : IsTable t) where
     all-buffered-sets = same (all_buffered (state_of t)) no-others told tells
 
 ------------------------------------------------------------------------
--- the tests of the code, behind the frame and from it on
+-- the tests of the code, behind the number and from it on
 
 -- a table in which every cell waits in a buffer
 abbrev wholly : List ℕ → Bool
@@ -197,3 +204,32 @@ module _ (bs : List ℕ) (h : bytes? bs ≡ true) where
 
   pub by-core : is_framed fair_number_oq bs ≡ true → wholly (core_in bs) ≡ is_fair_oq_table bs
   by-core f = sym (is_fair_oq_table-tests bs h ∙ ap (λ x. x && wholly (core_in bs)) f)
+
+-- bytes with the number in front
+module _ (bs : List ℕ) (h : bytes? bs ≡ true) where
+  inner : Bool
+  inner = wholly (drop oq_number_size bs)
+
+  by_tests : is_oq_table bs ≡ eqb (length bs) oq_table_size && (eqb (word bs 0) oq_number && inner)
+  unfolding inner state_of_oq
+  by_tests = is_oq_table-tests bs h
+
+  pub other-size : (length bs ≡ oq_table_size → ⊥) → false ≡ is_oq_table bs
+  other-size n =
+      sym (by_tests
+      ∙ and-false-l (eqb (length bs) oq_table_size) (eqb (word bs 0) oq_number && inner) (ne_eqb (length bs) oq_table_size n))
+
+  pub other-number : (word bs 0 ≡ oq_number → ⊥) → false ≡ is_oq_table bs
+  other-number n =
+      sym (by_tests
+      ∙ and_false_r (eqb (length bs) oq_table_size) (eqb (word bs 0) oq_number && inner)
+      (and-false-l (eqb (word bs 0) oq_number) inner (ne_eqb (word bs 0) oq_number n)))
+
+  pub by-inner : length bs ≡ oq_table_size → word bs 0 ≡ oq_number
+      → (b : Bool) → b ≡ wholly (take (length bs - oq_number_size) (drop oq_number_size bs)) → b ≡ is_oq_table bs
+  unfolding inner
+  by-inner size number b e =
+      e
+      ∙ ap wholly (part-behind bs oq_number_size)
+      ∙ sym (by_tests
+      ∙ ap₂ (λ x y. x && (y && inner)) (eq-eqb (length bs) oq_table_size size) (eq-eqb (word bs 0) oq_number number))

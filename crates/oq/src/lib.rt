@@ -1,4 +1,5 @@
 // What a host calls of the output-queued switch: numbers and byte slices, no call with a condition on what it is lent.
+#![tactic(auto)]
 mod check;
 pub mod convert;
 mod slot;
@@ -42,7 +43,7 @@ pub extern "C" fn oq_check(table: &[u8]) -> u32
 // of the answer's buffer are its departures, and the tally counts it. A refusal is its number and 256 times the
 // record's place (from 1; 0 for 2, 10 and 3), the first one of: 2, the table is broken, the arrivals are no whole
 // records or the tally has another length; 10, the buffer is too short for the departures; 3, the clock's end; record
-// by record 4, 5, 16, 6, 14, 15, 7, 8. A refused slot has no departures, and nothing of that is written: the answer's
+// by record 4, 5, 6, 14, 15, 7, 8. A refused slot has no departures, and nothing of that is written: the answer's
 // buffer keeps its bytes, and so does the table, which remembers nothing of it. The tally counts a refused slot; a
 // tally of another length is kept too.
 #[unsafe(no_mangle)]

@@ -23,7 +23,7 @@ use oq_slot::sound_slot;
 
 // Takes a slot on the lent table with the lent arrivals. A refusal is the first one of: 2, the table is broken or the
 // arrivals are no whole records; 10, the buffer is too short for the answer; 3, the clock's end; record by record 4, 5,
-// 16, 6, 14, 15, 7, 8. A refusal keeps the table and the buffer.
+// 6, 14, 15, 7, 8. A refusal keeps the table and the buffer.
 pub(crate) fn take_slot(table: &mut [u8], arrivals: &[u8], answer: &mut [u8]) -> Fault
     ensures { LentLeaves (lent_call table.old arrivals.now (length answer.old))
         table.old arrivals.now answer.old

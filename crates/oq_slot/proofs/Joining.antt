@@ -19,7 +19,7 @@ use Rattle.laws.proofs.Lists.{get_or-mem, all?-append}
 use Rattle.cell.specs.declared.Arrival.{Arrival}
 use Rattle.cell.specs.declared.Cell.{Cell}
 use Rattle.cell.specs.Cell.{accepted, arrival_fits}
-use Rattle.cell.specs.Limits.{section_room, port_limit, flow_limit, class_limit}
+use Rattle.cell.specs.Limits.{section_room, port_limit, flow_limit}
 use Rattle.model.specs.Oq.{join_buffer, join_buffers}
 use Rattle.model.specs.Sound.{sound}
 use Rattle.model.specs.State.{buffered, Entry, Switch}
@@ -199,7 +199,6 @@ module _ (table : List ℕ) (records : List Arrival) (g : Arriving table records
                 );
             output = omega (arith, few, fit.output);
             flow = omega (arith, ltb-true c.flow flow_limit fit.flow);
-            class = omega (arith, ltb-true c.class class_limit fit.class);
           }
         where
           few : s.ports ≤ port_limit

@@ -34,7 +34,6 @@ pub record MayJoin (a : Arrival) (table : List ℕ) : Type 0 where
   pub room : count_in table a.input < section_room
   pub output : a.output < 256
   pub flow : a.flow < 256
-  pub class : a.class < 256
 
 -- the table after a slot: that of its switch, or as it was
 unfoldable pub table_served : List ℕ → Outcome Served → List ℕ

@@ -1,5 +1,6 @@
 // A slot of the output-queued switch, on the table of a switch whose cells all wait in buffers: new cells go to the
 // buffer of their output at once, then each output sends the best of its buffer.
+#![tactic(auto)]
 ghost use Rattle.std.specs.Prelude.{true, ◌≡◌, ◌+◌, ◌*◌, ◌-◌, ◌≤◌, ◌<◌, length, take};
 ghost use Rattle.std.proofs.Math.Option.{some};
 ghost use Rattle.cell.specs.Cell.{accepted};
@@ -29,7 +30,7 @@ use slot_loading::choose_cell;
 use slot_view::NO_KEY;
 
 // Takes a slot with the first of the held records. A refusal is the first one of: 3, the clock's end; record by record
-// 4, 5, 16, 6, 7, 8; it keeps the table and the answer's buffer. For a caller that keeps such a table and counts nothing.
+// 4 to 8; it keeps the table and the answer's buffer. For a caller that keeps such a table and counts nothing.
 pub fn sound_slot(
     table: &mut [u8],
     records: [Arrival; HELD],

@@ -17,8 +17,8 @@ use Rattle.player_turns.specs.Driver.{Held, place, Run, stops}
 use Rattle.player_turns.proofs.Driver.{run-over}
 use Rattle.player.specs.Code.{Finished, status_of}
 
-pub opening-not : (classed : Bool) → Opening ≡ Playing classed → ⊥
-opening-not classed e = let z : ◌≡◌ {A = ℕ} 0 1 = cc in omega arith
+pub opening-not : Opening ≡ Playing → ⊥
+opening-not e = let z : ◌≡◌ {A = ℕ} 0 1 = cc in omega arith
 
 over-finished : (stage : Stage) (l : ℕ) (table : List ℕ) → Over (standing stage l table) → Finished stage
 unfolding standing
@@ -52,6 +52,6 @@ finished engine last stage l text table buffer table' buffer' stage' l' taken n 
 pub status-few : (stage : Stage) → status_of stage ≤ 1
 unfolding status_of
 status-few Opening = omega arith
-status-few (Playing classed) = omega arith
+status-few Playing = omega arith
 status-few Ended = omega arith
 status-few TurnedBack = omega arith

@@ -9,6 +9,6 @@ Finished stage = (stage ≡ Ended) ⊎ (stage ≡ TurnedBack)
 -- played to its end, or refused
 unfoldable pub status_of : Stage → ℕ
 status_of Opening = 1
-status_of (Playing classed) = 1
+status_of Playing = 1
 status_of Ended = 0
 status_of TurnedBack = 1

@@ -1,5 +1,6 @@
 // The player as two programs, one for each switch: the arguments in, an exit status out. They answer --help and
 // --version, or play a trace from standard input to standard output, a window of text at a time.
+#![tactic(auto)]
 ghost use Rattle.std.specs.Prelude.{◌≡◌, ◌-◌, ◌≤◌, length};
 ghost use Rattle.player.specs.Program.{request_of, Answered, Told};
 ghost use Rattle.player.specs.CodeWindow.{moved, Filled};
@@ -103,8 +104,8 @@ fn version(engine: Engine) -> u32
     ensures { Told result }
 {
     match engine {
-        Engine::Crossbar => tell(engine, b"crossbar-player 4.0.0\ntable layout 3\n"),
-        Engine::Oq => tell(engine, b"oq-player 4.0.0\noutput-queued table layout 103\n"),
+        Engine::Crossbar => tell(engine, b"crossbar-player 3.0.0\ntable layout 2\n"),
+        Engine::Oq => tell(engine, b"oq-player 3.0.0\noutput-queued table layout 102\n"),
     }
 }
 

@@ -1,11 +1,10 @@
 -- The lines that the player writes: how long they are, and that they stand at the start of the buffer.
---     line-le, refusal-le, header-le    how many bytes lines have
---     line-slot, line-classed, line_plain   the line that a refusal names
+--     line-le, refusal-le   how many bytes lines have
+--     line-slot, line-record    the line that a refusal names
 --     put-nothing           no text is put anywhere
 --     wrote-put, wrote-refusal  a text that is put at the start
 --     wrote-two             one that is put in two parts
 use Prim.Native.Nat.{ℕ, zero, suc, ◌+◌, ◌*◌, ◌-◌, ◌^◌, ◌≤◌, ◌<◌}
-use native.Mathlib.Numerals.{unary_clauses}
 use native.Mathlib.Omega.{arith}
 use mathlib.Core.Bool.{Bool, true, false}
 use mathlib.Core.List.{List, [], ◌++◌}
@@ -13,14 +12,12 @@ use mathlib.Core.Path.{◌≡◌, refl}
 use borrow.Author.Tests.{leb-true, leb-false}
 use lib.Dec.{leb}
 use lib.ListN.{length, length-append}
-use Rattle.laws.proofs.Tests.{clash}
 use Rattle.cell.specs.declared.Refusal.{Refusal}
 use Rattle.cell.specs.Limits.{fits32}
 use Rattle.cell.specs.Refusal.{number}
 use Rattle.cell.proofs.RefusalNumbers.{number-range}
 use Rattle.trace.specs.declared.Key.{Key}
-use Rattle.trace.specs.declared.Key.TheVariants.{Form, Ports, First, Refused, Line}
-use Rattle.trace.specs.Contents.{classed_form, record_lines, form_text}
+use Rattle.trace.specs.declared.Key.TheVariants.{Refused, Line}
 use Rattle.trace.specs.Line.{line}
 use Rattle.trace.proofs.Lengths.{length-key_text-le, length-decimal-below, length-line, length-line-le}
 use Rattle.trace.proofs.Tests.{fits32-i}
@@ -49,43 +46,17 @@ refusal-le r l h =
       length-decimal-below 19 l (omega arith),
     )
 
-pub header-le : (classed : Bool) (n first : ℕ) → fits32 n ≡ true → fits32 first ≡ true
-    → length (form_text classed ++ (line Ports n ++ line First first)) ≤ 57
-unfolding form_text
-header-le true n first h k =
-    let form = line-le Form classed_form (fits32-i classed_form (omega arith)) in
-    let ports = line-le Ports n h in
-    let number = line-le First first k in
-    simp length-append (omega arith)
-header-le false n first h k =
-    let ports = line-le Ports n h in
-    let number = line-le First first k in
-    simp length-append (omega arith)
-
 -- the line that a refusal names
 
-pub line-slot : (classed : Bool) (l place : ℕ) → place ≡ 0 → l ≡ line_of classed l place
+pub line-slot : (l place : ℕ) → place ≡ 0 → l ≡ line_of l place
 unfolding line_of
-line-slot classed l zero h = refl
-line-slot classed l (suc k) h = absurd (omega arith)
+line-slot l zero h = refl
+line-slot l (suc k) h = absurd (omega arith)
 
-line-record : (classed : Bool) (l place : ℕ) → (place ≡ 0 → ⊥)
-    → l + 1 + record_lines classed * (place - 1) ≡ line_of classed l place
+pub line-record : (l place : ℕ) → (place ≡ 0 → ⊥) → l + 1 + 5 * (place - 1) ≡ line_of l place
 unfolding line_of
-line-record classed l zero h = absurd (h refl)
-line-record classed l (suc k) h = simp unary_clauses
-
-pub line-classed : (classed : Bool) (l place : ℕ) → classed ≡ true → (place ≡ 0 → ⊥)
-    → l + 1 + 6 * (place - 1) ≡ line_of classed l place
-unfolding record_lines
-line-classed true l place e h = line-record true l place h
-line-classed false l place e h = absurd (clash e refl)
-
-pub line_plain : (classed : Bool) (l place : ℕ) → classed ≡ false → (place ≡ 0 → ⊥)
-    → l + 1 + 5 * (place - 1) ≡ line_of classed l place
-unfolding record_lines
-line_plain false l place e h = line-record false l place h
-line_plain true l place e h = absurd (clash refl e)
+line-record l zero h = absurd (h refl)
+line-record l (suc k) h = omega arith
 
 -- where they stand
 

@@ -15,17 +15,17 @@ unfolding arrivals_from
 records-none ns = refl
 
 -- one more
-arrivals_from-more : (n : ℕ) (ns : List ℕ) → arrivals_from (suc n) ns ≡ arrivals_from n ns ++ (arrival_at (drop (6 * n) ns) ∷ [])
+arrivals_from-more : (n : ℕ) (ns : List ℕ) → arrivals_from (suc n) ns ≡ arrivals_from n ns ++ (arrival_at (drop (5 * n) ns) ∷ [])
 unfolding arrivals_from
 arrivals_from-more zero ns = refl
 arrivals_from-more (suc n) ns =
-    let next : 6 + 6 * n ≡ 6 * suc n = omega arith in
+    let next : 5 + 5 * n ≡ 5 * suc n = omega arith in
     ap (λ l. arrival_at ns ∷ l)
-    (arrivals_from-more n (drop 6 ns)
-    ∙ ap (λ l. arrivals_from n (drop 6 ns) ++ (arrival_at l ∷ [])) (drop-drop (6 * n) 6 ns ∙ ap (λ k. drop k ns) next))
+    (arrivals_from-more n (drop 5 ns)
+    ∙ ap (λ l. arrivals_from n (drop 5 ns) ++ (arrival_at l ∷ [])) (drop-drop (5 * n) 5 ns ∙ ap (λ k. drop k ns) next))
 
 pub records-next : (records : List Arrival) (ns : List ℕ) (n : ℕ) (a : Arrival) → n < length records
-    → take n records ≡ arrivals_from n ns → a ≡ arrival_at (drop (6 * n) ns)
+    → take n records ≡ arrivals_from n ns → a ≡ arrival_at (drop (5 * n) ns)
     → take (n + 1) (set records n a) ≡ arrivals_from (n + 1) ns
 records-next records ns n a inside sofar e =
     ap (λ k. take k (set records n a)) (add-one n)

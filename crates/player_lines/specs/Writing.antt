@@ -3,9 +3,9 @@ use Rattle.std.specs.Prelude.{ℕ, ◌+◌, ◌*◌, List, ◌≡◌, length}
 use Rattle.cell.specs.Limits.{port_limit}
 use Rattle.layout.specs.Host.{filled}
 
--- what one turn can write: the line of a slot, 16 bytes, and sixteen departures of at most six lines, 93 bytes each
+-- what one turn can write: the line of a slot, 16 bytes, and sixteen departures of five lines, 76 bytes each
 abbrev pub departure_room : ℕ
-departure_room = 93
+departure_room = 76
 
 abbrev pub turn_room : ℕ
 turn_room = 16 + port_limit * departure_room

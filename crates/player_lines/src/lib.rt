@@ -1,10 +1,11 @@
 // The lines that the player writes in a turn, and the records and the line's number that it reads off a block.
+#![tactic(auto)]
 ghost use Rattle.std.specs.Prelude.{◌++◌, ◌≡◌, ◌+◌, ◌*◌, ◌≤◌, length, take};
 ghost use Rattle.cell.specs.Limits.{port_limit, clock_end};
 ghost use Rattle.trace.specs.declared.Key.TheVariants.{Ports, First, Slot};
 ghost use Rattle.trace.specs.Flat.{arrivals_from};
 ghost use Rattle.trace.specs.Line.{line};
-ghost use Rattle.trace.specs.Contents.{block_limit, block_numbers, block_lines, form_text};
+ghost use Rattle.trace.specs.Contents.{block_limit, block_numbers, block_lines};
 ghost use Rattle.trace.specs.Lines.{departure_text, departures_text};
 ghost use Rattle.trace_line_writer.specs.Writing.{Put};
 ghost use Rattle.layout.specs.Answer.{departure_in, departures_in, departures_size, departure_size};
@@ -24,7 +25,6 @@ pub fn records_of(numbers: &[u32], count: usize) -> [Arrival; HELD]
         input: 0,
         output: 0,
         flow: 0,
-        class: 0,
         rank: 0,
         tag: 0,
     };
@@ -38,43 +38,39 @@ pub fn records_of(numbers: &[u32], count: usize) -> [Arrival; HELD]
 }
 
 // The line that a refusal names: the slot's own, or the first of the record's.
-pub fn line_of(classed: bool, line: usize, place: u32) -> usize
-    requires { line ≤ 4 + block_lines * clock_end }
-    ensures { result ≡ line_of classed line place }
+pub fn line_of(line: usize, place: u32) -> usize
+    requires { line ≤ 3 + block_lines * clock_end }
+    ensures { result ≡ line_of line place }
 {
     if place == 0 {
         return line;
     }
-    let before = place as usize - 1;
-    if classed {
-        return line + 1 + 6 * before;
-    }
-    line + 1 + 5 * before
+    line + 1 + FIELDS * (place as usize - 1)
 }
 
-// In the second form the line `form`, then `ports` and `first`.
-pub fn put_header(out: &mut [u8], classed: bool, ports: u32, first: u32) -> usize
+// The lines `ports` and `first`.
+pub fn put_header(out: &mut [u8], ports: u32, first: u32) -> usize
     requires { turn_room ≤ length out.old }
-    ensures { Wrote (form_text classed ++ (line Ports ports ++ line First first))
-        out.old out.new result }
+    ensures { Wrote (line Ports ports ++ line First first) out.old out.new result }
 {
-    trace_line_writer::put_header(out, 0, classed, ports, first)
+    let at = trace_line_writer::put_line(out, 0, Key::Ports, ports);
+    trace_line_writer::put_line(out, at, Key::First, first)
 }
 
 // The line `slot`, and the departures of an answer.
-pub fn put_slot(out: &mut [u8], classed: bool, clock: u32, answer: &[u8]) -> usize
+pub fn put_slot(out: &mut [u8], clock: u32, answer: &[u8]) -> usize
     requires { (turn_room ≤ length out.old) × (departures_size ≤ length answer.now) }
-    ensures { Wrote (line Slot clock ++ departures_text classed (departures_in port_limit answer.now))
+    ensures { Wrote (line Slot clock ++ departures_text (departures_in port_limit answer.now))
         out.old out.new result }
 {
     let at = trace_line_writer::put_line(out, 0, Key::Slot, clock);
-    put_departures(out, at, classed, answer)
+    put_departures(out, at, answer)
 }
 
 // The departures of the sixteen outputs.
-fn put_departures(out: &mut [u8], at: usize, classed: bool, answer: &[u8]) -> usize
+fn put_departures(out: &mut [u8], at: usize, answer: &[u8]) -> usize
     requires { (at + port_limit * departure_room ≤ length out.old) × (departures_size ≤ length answer.now) }
-    ensures { Put out.old at (departures_text classed (departures_in port_limit answer.now))
+    ensures { Put out.old at (departures_text (departures_in port_limit answer.now))
         out.new result }
 {
     let mut place = at;
@@ -82,19 +78,19 @@ fn put_departures(out: &mut [u8], at: usize, classed: bool, answer: &[u8]) -> us
     while output < layout::PORTS {
         let start = layout::DEPARTURE_BYTES * output;
         let end = start + layout::DEPARTURE_BYTES;
-        place = put_sent(out, place, classed, &answer[start..end]);
+        place = put_sent(out, place, &answer[start..end]);
         output += 1;
     }
     place
 }
 
 // The departure of one output, if it sends a cell.
-fn put_sent(out: &mut [u8], at: usize, classed: bool, sent: &[u8]) -> usize
+fn put_sent(out: &mut [u8], at: usize, sent: &[u8]) -> usize
     requires { length sent.now ≡ departure_size }
-    ensures { Put out.old at (departure_text classed (departure_in sent.now)) out.new result }
+    ensures { Put out.old at (departure_text (departure_in sent.now)) out.new result }
 {
     if layout_answer::is_none(sent) {
         return at;
     }
-    trace_line_writer::put_departure(out, at, classed, layout_answer::cell_in(sent))
+    trace_line_writer::put_departure(out, at, layout_answer::cell_in(sent))
 }

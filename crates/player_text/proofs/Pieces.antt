@@ -31,9 +31,8 @@ use Rattle.cell.specs.Refusal.{number}
 use Rattle.model.specs.Checks.{Outcome, done, refused}
 use Rattle.model.specs.State.{Switch}
 use Rattle.trace.specs.declared.Key.{Key}
-use Rattle.trace.specs.declared.Key.TheVariants.{Form, Ports, First, Slot, End, Refused, Line}
+use Rattle.trace.specs.declared.Key.TheVariants.{Ports, First, Slot, End, Refused, Line}
 use Rattle.trace.specs.Ascii.{ascii}
-use Rattle.trace.specs.Contents.{classed_form, form_text}
 use Rattle.trace.specs.Line.{key_name, key_text, decimal, line, is_digit}
 use Rattle.trace.specs.Piece.{known, enough, decided, next_in, header_in}
 use Rattle.trace.specs.Reader.{from, Cursor, Next, slot_ahead, finished, faulty, next, Header, opened, refused_at, header}
@@ -52,48 +51,45 @@ use Rattle.player_text.proofs.Written.{play-finished, play-faulty, play-refused,
 -- how many blocks may be played does not matter, if there are as many as bytes
 
 module _ {S : Type 0} (m : Machine S) where
-  play-any-fault : (classed : Bool) (most clock : ℕ) (s : S) (c : Cursor) {l : ℕ} → length c.text ≤ most
-      → next classed clock c ≡ faulty l
-      → play_from m classed most clock s c ≡ refusal_text BadLine l
+  play-any-fault : (most clock : ℕ) (s : S) (c : Cursor) {l : ℕ} → length c.text ≤ most → next clock c ≡ faulty l
+      → play_from m most clock s c ≡ refusal_text BadLine l
   unfolding play_from
-  play-any-fault classed zero clock s c {l} h e =
-      let f : c.line ≡ l = cc (next-nil classed clock c (nil-text c.text h)) in
+  play-any-fault zero clock s c {l} h e =
+      let f : c.line ≡ l = cc (next-nil clock c (nil-text c.text h)) in
       ap (refusal_text BadLine) f
-  play-any-fault classed (suc most) clock s c h e = play-faulty m classed most clock s c e
+  play-any-fault (suc most) clock s c h e = play-faulty m most clock s c e
 
-  play-nil : (classed : Bool) (most few clock : ℕ) (s : S) (c : Cursor) → length c.text ≤ 0
-      → play_from m classed most clock s c ≡ play_from m classed few clock s c
-  play-nil classed most few clock s c h =
-      let e : next classed clock c ≡ faulty c.line = next-nil classed clock c (nil-text c.text h) in
-      play-any-fault classed most clock s c (omega arith) e ∙ sym (play-any-fault classed few clock s c (omega arith) e)
+  play-nil : (most few clock : ℕ) (s : S) (c : Cursor) → length c.text ≤ 0
+      → play_from m most clock s c ≡ play_from m few clock s c
+  play-nil most few clock s c h =
+      let e : next clock c ≡ faulty c.line = next-nil clock c (nil-text c.text h) in
+      play-any-fault most clock s c (omega arith) e ∙ sym (play-any-fault few clock s c (omega arith) e)
 
-  play-fuel : (classed : Bool) (most few clock : ℕ) (s : S) (c : Cursor) → length c.text ≤ most → length c.text ≤ few
-      → play_from m classed most clock s c ≡ play_from m classed few clock s c
-  play-fuel classed zero few clock s c h k = play-nil classed zero few clock s c h
-  play-fuel classed (suc most) zero clock s c h k = play-nil classed (suc most) zero clock s c k
-  play-fuel classed (suc most) (suc few) clock s c h k =
-      go (next classed clock c) refl (play-fuel classed most few (clock + 1))
+  play-fuel : (most few clock : ℕ) (s : S) (c : Cursor) → length c.text ≤ most → length c.text ≤ few
+      → play_from m most clock s c ≡ play_from m few clock s c
+  play-fuel zero few clock s c h k = play-nil zero few clock s c h
+  play-fuel (suc most) zero clock s c h k = play-nil (suc most) zero clock s c k
+  play-fuel (suc most) (suc few) clock s c h k = go (next clock c) refl (play-fuel most few (clock + 1))
     where
-      ran : {records : List Arrival} {d : Cursor} → next classed clock c ≡ slot_ahead records d
+      ran : {records : List Arrival} {d : Cursor} → next clock c ≡ slot_ahead records d
           → (o : Outcome (List (Option Cell) × S)) → m.slot s records ≡ o
-          → ((s : S) → play_from m classed most (clock + 1) s d ≡ play_from m classed few (clock + 1) s d)
-          → play_from m classed (suc most) clock s c ≡ play_from m classed (suc few) clock s c
-      ran e (refused r place) f same =
-          play-refused m classed most clock s c e f ∙ sym (play-refused m classed few clock s c e f)
+          → ((s : S) → play_from m most (clock + 1) s d ≡ play_from m few (clock + 1) s d)
+          → play_from m (suc most) clock s c ≡ play_from m (suc few) clock s c
+      ran e (refused r place) f same = play-refused m most clock s c e f ∙ sym (play-refused m few clock s c e f)
       ran e (done x) f same =
-          play-done m classed most clock s c e f
-          ∙ ap (λ w. line Slot clock ++ (departures_text classed x.0 ++ w)) (same x.1)
-          ∙ sym (play-done m classed few clock s c e f)
+          play-done m most clock s c e f
+          ∙ ap (λ w. line Slot clock ++ (departures_text x.0 ++ w)) (same x.1)
+          ∙ sym (play-done m few clock s c e f)
 
-      go : (n : Next) → next classed clock c ≡ n
+      go : (n : Next) → next clock c ≡ n
           → ((s : S) (d : Cursor) → length d.text ≤ most → length d.text ≤ few
-          → play_from m classed most (clock + 1) s d ≡ play_from m classed few (clock + 1) s d)
-          → play_from m classed (suc most) clock s c ≡ play_from m classed (suc few) clock s c
+          → play_from m most (clock + 1) s d ≡ play_from m few (clock + 1) s d)
+          → play_from m (suc most) clock s c ≡ play_from m (suc few) clock s c
       go (slot_ahead records d) e same =
-          let l : length d.text < length c.text = next-shorter classed clock c e in
+          let l : length d.text < length c.text = next-shorter clock c e in
           ran e (m.slot s records) refl (λ s. same s d (omega arith) (omega arith))
-      go finished e same = play-finished m classed most clock s c e ∙ sym (play-finished m classed few clock s c e)
-      go (faulty l) e same = play-faulty m classed most clock s c e ∙ sym (play-faulty m classed few clock s c e)
+      go finished e same = play-finished m most clock s c e ∙ sym (play-finished m few clock s c e)
+      go (faulty l) e same = play-faulty m most clock s c e ∙ sym (play-faulty m few clock s c e)
 
 -- a turn
 
@@ -108,56 +104,54 @@ decided-enough false t u e h = inl (leb-true enough (length t) h)
 
 behind-nothing : (x : Header) → behind_header [] x ≡ x
 unfolding behind_header
-behind-nothing (opened classed ports first c) =
-    ap (λ t. opened classed ports first (from c.line t)) (append-nil c.text)
+behind-nothing (opened ports first c) = ap (λ t. opened ports first (from c.line t)) (append-nil c.text)
 behind-nothing (refused_at r l) = refl
 
 module _ (m : Machine Switch) where
   -- what is still to be written when t is all the text that is left
   unfoldable pub rest : Standing → List ℕ → List ℕ
   rest opening t = play m t
-  rest (playing classed l s) t = play_from m classed (length t) s.clock s (from l t)
+  rest (playing l s) t = play_from m (length t) s.clock s (from l t)
   rest ended t = []
   rest turned_back t = []
 
   -- what is left to write, by the first block of the text that is left
 
-  module _ (classed : Bool) (l : ℕ) (s : Switch) (t : List ℕ) where
-    rest-fault : {k : ℕ} → next classed s.clock (from l t) ≡ faulty k
-        → rest (playing classed l s) t ≡ refusal_text BadLine k
+  module _ (l : ℕ) (s : Switch) (t : List ℕ) where
+    rest-fault : {k : ℕ} → next s.clock (from l t) ≡ faulty k → rest (playing l s) t ≡ refusal_text BadLine k
     unfolding rest
-    rest-fault e = play-any-fault m classed (length t) s.clock s (from l t) (omega arith) e
+    rest-fault e = play-any-fault m (length t) s.clock s (from l t) (omega arith) e
 
-    rest_end : next classed s.clock (from l t) ≡ finished → rest (playing classed l s) t ≡ line End s.clock
+    rest_end : next s.clock (from l t) ≡ finished → rest (playing l s) t ≡ line End s.clock
     unfolding rest
     rest_end e =
-        let (f, g) = rw e at (next-exact classed s.clock (from l t)) in
+        let (f, g) = rw e at (next-exact s.clock (from l t)) in
         let n : length t ≡ suc (length t - 1) = omega (arith, ap length f, length-line End s.clock) in
-        ap (λ k. play_from m classed k s.clock s (from l t)) n
-        ∙ play-finished m classed (length t - 1) s.clock s (from l t) e
+        ap (λ k. play_from m k s.clock s (from l t)) n
+        ∙ play-finished m (length t - 1) s.clock s (from l t) e
 
-    module _ {records : List Arrival} {d : Cursor} (e : next classed s.clock (from l t) ≡ slot_ahead records d) where
+    module _ {records : List Arrival} {d : Cursor} (e : next s.clock (from l t) ≡ slot_ahead records d) where
       longer : length t ≡ suc (length t - 1)
-      longer = omega (arith, next-shorter classed s.clock (from l t) e)
+      longer = omega (arith, next-shorter s.clock (from l t) e)
 
       rest-refused : {r : Refusal} {place : ℕ} → m.slot s records ≡ refused r place
-          → rest (playing classed l s) t ≡ refusal_text r (line_of classed l place)
+          → rest (playing l s) t ≡ refusal_text r (line_of l place)
       unfolding rest
       rest-refused h =
-          ap (λ k. play_from m classed k s.clock s (from l t)) longer
-          ∙ play-refused m classed (length t - 1) s.clock s (from l t) e h
+          ap (λ k. play_from m k s.clock s (from l t)) longer
+          ∙ play-refused m (length t - 1) s.clock s (from l t) e h
 
       rest-slot : Ticks m → {x : List (Option Cell) × Switch} → m.slot s records ≡ done x
-          → rest (playing classed l s) t
-          ≡ line Slot s.clock ++ (departures_text classed x.0 ++ rest (playing classed d.line x.1) d.text)
+          → rest (playing l s) t
+          ≡ line Slot s.clock ++ (departures_text x.0 ++ rest (playing d.line x.1) d.text)
       unfolding rest
       rest-slot ticks {x} h =
-          let f : length d.text ≤ length t - 1 = omega (arith, next-shorter classed s.clock (from l t) e) in
-          ap (λ k. play_from m classed k s.clock s (from l t)) longer
-          ∙ play-done m classed (length t - 1) s.clock s (from l t) e h
-          ∙ ap (λ w. line Slot s.clock ++ (departures_text classed x.0 ++ w))
-          (play-fuel m classed (length t - 1) (length d.text) (s.clock + 1) x.1 d f (omega arith)
-          ∙ ap (λ n. play_from m classed (length d.text) n x.1 d) (sym (ticks.rises s records h)))
+          let f : length d.text ≤ length t - 1 = omega (arith, next-shorter s.clock (from l t) e) in
+          ap (λ k. play_from m k s.clock s (from l t)) longer
+          ∙ play-done m (length t - 1) s.clock s (from l t) e h
+          ∙ ap (λ w. line Slot s.clock ++ (departures_text x.0 ++ w))
+          (play-fuel m (length t - 1) (length d.text) (s.clock + 1) x.1 d f (omega arith)
+          ∙ ap (λ n. play_from m (length d.text) n x.1 d) (sym (ticks.rises s records h)))
 
   -- what the turn x writes is the next part of what is to be written, where u stands behind the text t that is there
   abbrev NextPart : Standing → List ℕ → List ℕ → Turn → Type 0
@@ -175,12 +169,11 @@ module _ (m : Machine Switch) where
   part_end s t u o {w} h = h ∙ sym (append-nil w) ∙ ap (λ v. w ++ v) (sym (nothing-over o (t ++ u)))
 
   module _ (ticks : Ticks m) where
-    rest-fresh : (classed : Bool) (ports first l : ℕ) (t : List ℕ)
-        → play_from m classed (length t) first (m.fresh ports first) (from l t)
-        ≡ rest (playing classed l (m.fresh ports first)) t
+    rest-fresh : (ports first l : ℕ) (t : List ℕ)
+        → play_from m (length t) first (m.fresh ports first) (from l t) ≡ rest (playing l (m.fresh ports first)) t
     unfolding rest
-    rest-fresh classed ports first l t =
-        ap (λ n. play_from m classed (length t) n (m.fresh ports first) (from l t)) (sym (ticks.starts ports first))
+    rest-fresh ports first l t =
+        ap (λ n. play_from m (length t) n (m.fresh ports first) (from l t)) (sym (ticks.starts ports first))
 
     module _ (t u : List ℕ) (e : Enough t u) where
       -- the header
@@ -197,38 +190,33 @@ module _ (m : Machine Switch) where
       header-part (refused_at r l) h =
           let f : header (t ++ u) ≡ refused_at r l = header-there ∙ rw h in
           part_end opening t u at-refusal (play-turned-back m (t ++ u) f)
-      header-part (opened classed ports first c) h =
-          let f : header (t ++ u) ≡ opened classed ports first (from c.line (c.text ++ u)) = header-there ∙ rw h in
+      header-part (opened ports first c) h =
+          let f : header (t ++ u) ≡ opened ports first (from c.line (c.text ++ u)) = header-there ∙ rw h in
           play-opened m (t ++ u) f
-          ∙ ap (λ w. form_text classed ++ (line Ports ports ++ (line First first ++ w)))
-          (rest-fresh classed ports first c.line (c.text ++ u))
-          ∙ simp append_assoc
+          ∙ ap (λ w. line Ports ports ++ (line First first ++ w)) (rest-fresh ports first c.line (c.text ++ u))
+          ∙ sym (append_assoc (line Ports ports) (line First first) _)
 
       -- a block, or the end
 
-      module _ (classed : Bool) (l : ℕ) (s : Switch) where
-        next-there : next classed s.clock (from l (t ++ u)) ≡ onward_next l u (next classed s.clock (from 0 t))
+      module _ (l : ℕ) (s : Switch) where
+        next-there : next s.clock (from l (t ++ u)) ≡ onward_next l u (next s.clock (from 0 t))
         next-there =
             let z : l ≡ l + 0 = omega arith in
-            ap (λ k. next classed s.clock (from k (t ++ u))) z ∙ next-onwards l u classed s.clock (from 0 t) e
+            ap (λ k. next s.clock (from k (t ++ u))) z ∙ next-onwards l u s.clock (from 0 t) e
 
         slot-part : {records : List Arrival} (d : Cursor)
-            → next classed s.clock (from l (t ++ u)) ≡ slot_ahead records (from (l + d.line) (d.text ++ u))
+            → next s.clock (from l (t ++ u)) ≡ slot_ahead records (from (l + d.line) (d.text ++ u))
             → (o : Outcome (List (Option Cell) × Switch)) → m.slot s records ≡ o
-            → NextPart (playing classed l s) t u (slot_turn classed s.clock l t d o)
+            → NextPart (playing l s) t u (slot_turn s.clock l t d o)
         unfolding slot_turn
-        slot-part d f (refused r place) h =
-            part_end (playing classed l s) t u at-refusal (rest-refused classed l s (t ++ u) f h)
+        slot-part d f (refused r place) h = part_end (playing l s) t u at-refusal (rest-refused l s (t ++ u) f h)
         slot-part d f (done x) h =
-            rest-slot classed l s (t ++ u) f ticks h
-            ∙ sym (append_assoc (line Slot s.clock) (departures_text classed x.0) _)
+            rest-slot l s (t ++ u) f ticks h ∙ sym (append_assoc (line Slot s.clock) (departures_text x.0) _)
 
-        next-part : (n : Next) → next classed s.clock (from 0 t) ≡ n
-            → NextPart (playing classed l s) t u (next_turn m classed l s t (known n))
+        next-part : (n : Next) → next s.clock (from 0 t) ≡ n → NextPart (playing l s) t u (next_turn m l s t (known n))
         unfolding next_turn onward_next
-        next-part finished h = part_end (playing classed l s) t u at-end (rest_end classed l s (t ++ u) (next-there ∙ rw h))
-        next-part (faulty k) h =
-            part_end (playing classed l s) t u at-refusal (rest-fault classed l s (t ++ u) (next-there ∙ rw h))
+        next-part finished h = part_end (playing l s) t u at-end (rest_end l s (t ++ u) (next-there ∙ rw h))
+        next-part (faulty k) h = part_end (playing l s) t u at-refusal (rest-fault l s (t ++ u) (next-there ∙ rw h))
         next-part (slot_ahead records d) h = slot-part d (next-there ∙ rw h) (m.slot s records) refl
 
     module _ (last : Bool) (t u : List ℕ) (e : last ≡ true → u ≡ []) where
@@ -237,20 +225,20 @@ module _ (m : Machine Switch) where
       opening-part true h = rw (header_in-known last t h) (header-part t u (decided-enough last t u e h) (header t) refl)
       opening-part false h = rw (header_in-more last t h)
 
-      playing-part : (classed : Bool) (l : ℕ) (s : Switch) (b : Bool) → decided last t ≡ b
-          → NextPart (playing classed l s) t u (next_turn m classed l s t (next_in last classed s.clock t))
+      playing-part : (l : ℕ) (s : Switch) (b : Bool) → decided last t ≡ b
+          → NextPart (playing l s) t u (next_turn m l s t (next_in last s.clock t))
       unfolding next_turn
-      playing-part classed l s true h =
-          rw (next_in-known last t classed s.clock h)
-          (next-part t u (decided-enough last t u e h) classed l s (next classed s.clock (from 0 t)) refl)
-      playing-part classed l s false h = rw (next_in-more last t classed s.clock h)
+      playing-part l s true h =
+          rw (next_in-known last t s.clock h)
+          (next-part t u (decided-enough last t u e h) l s (next s.clock (from 0 t)) refl)
+      playing-part l s false h = rw (next_in-more last t s.clock h)
 
     -- Any turn, where t is there of what is left and u is to come.
     pub turn-rest : (last : Bool) (s : Standing) (t u : List ℕ) → (last ≡ true → u ≡ [])
         → rest s (t ++ u) ≡ (turn m last s t).written ++ rest (turn m last s t).after ((turn m last s t).left ++ u)
     unfolding turn
     turn-rest last opening t u e = opening-part last t u e (decided last t) refl
-    turn-rest last (playing classed l s) t u e = playing-part last t u e classed l s (decided last t) refl
+    turn-rest last (playing l s) t u e = playing-part last t u e l s (decided last t) refl
     turn-rest last ended t u e = part_end ended t u at-end (nothing-over at-end (t ++ u))
     turn-rest last turned_back t u e = part_end turned_back t u at-refusal (nothing-over at-refusal (t ++ u))
 
@@ -259,11 +247,6 @@ module _ (m : Machine Switch) where
 line-some : (k : Key) (n : ℕ) (w : List ℕ) → line k n ++ w ≢ []
 line-some k n w h = omega (arith, length-line k n, length-append (line k n) w, ap length h)
 
-header-some : (classed : Bool) (n first : ℕ) → form_text classed ++ (line Ports n ++ line First first) ≢ []
-unfolding form_text
-header-some true n first = line-some Form classed_form (line Ports n ++ line First first)
-header-some false n first = line-some Ports n (line First first)
-
 refusal-some : (r : Refusal) (l : ℕ) → refusal_text r l ≢ []
 unfolding refusal_text
 refusal-some r l = line-some Refused (number r) (line Line l)
@@ -271,7 +254,7 @@ refusal-some r l = line-some Refused (number r) (line Line l)
 -- the last turn, which takes no byte, is to come
 unfoldable pub ahead : Standing → ℕ
 ahead opening = 1
-ahead (playing classed l s) = 1
+ahead (playing l s) = 1
 ahead ended = 0
 ahead turned_back = 0
 
@@ -292,44 +275,40 @@ module _ (m : Machine Switch) where
     header-comes : (x : Header) → header t ≡ x → Comes last opening t (header_turn m t (known x))
     unfolding header_turn ending ahead
     header-comes (refused_at r l) h = writes (refusal-some r l) (omega arith)
-    header-comes (opened classed ports first c) h =
+    header-comes (opened ports first c) h =
         let (p, f) = rw h at (header-exact t) in
-        let l : length t
-        ≡ length (form_text classed) + (length (line Ports ports) + (length (line First first) + length c.text)) =
+        let l : length t ≡ length (line Ports ports) + (length (line First first) + length c.text) =
         ap length f ∙ simp length-append in
-        writes (header-some classed ports first) (omega (arith, length-line Ports ports))
+        writes (line-some Ports ports (line First first)) (omega (arith, length-line Ports ports))
 
-    module _ (classed : Bool) (l : ℕ) (s : Switch) where
+    module _ (l : ℕ) (s : Switch) where
       slot-comes : (d : Cursor) → length d.text < length t → (o : Outcome (List (Option Cell) × Switch))
-          → Comes last (playing classed l s) t (slot_turn classed s.clock l t d o)
+          → Comes last (playing l s) t (slot_turn s.clock l t d o)
       unfolding slot_turn ending ahead
-      slot-comes d h (refused r place) = writes (refusal-some r (line_of classed l place)) (omega arith)
-      slot-comes d h (done x) = writes (line-some Slot s.clock (departures_text classed x.0)) (omega arith)
+      slot-comes d h (refused r place) = writes (refusal-some r (line_of l place)) (omega arith)
+      slot-comes d h (done x) = writes (line-some Slot s.clock (departures_text x.0)) (omega arith)
 
-      next-comes : (n : Next) → next classed s.clock (from 0 t) ≡ n
-          → Comes last (playing classed l s) t (next_turn m classed l s t (known n))
+      next-comes : (n : Next) → next s.clock (from 0 t) ≡ n → Comes last (playing l s) t (next_turn m l s t (known n))
       unfolding next_turn ending ahead
       next-comes finished h = writes (rw append-nil at (line-some End s.clock [])) (omega arith)
       next-comes (faulty k) h = writes (refusal-some BadLine (l + k)) (omega arith)
-      next-comes (slot_ahead records d) h = slot-comes d (next-shorter classed s.clock (from 0 t) h) (m.slot s records)
+      next-comes (slot_ahead records d) h = slot-comes d (next-shorter s.clock (from 0 t) h) (m.slot s records)
 
     opening-comes : (b : Bool) → decided last t ≡ b → Comes last opening t (header_turn m t (header_in last t))
     unfolding header_turn
     opening-comes true h = rw (header_in-known last t h) (header-comes (header t) refl)
     opening-comes false h = rw (header_in-more last t h) (still refl refl refl (inr (decided-waits last t h)))
 
-    playing-comes : (classed : Bool) (l : ℕ) (s : Switch) (b : Bool) → decided last t ≡ b
-        → Comes last (playing classed l s) t (next_turn m classed l s t (next_in last classed s.clock t))
+    playing-comes : (l : ℕ) (s : Switch) (b : Bool) → decided last t ≡ b
+        → Comes last (playing l s) t (next_turn m l s t (next_in last s.clock t))
     unfolding next_turn
-    playing-comes classed l s true h =
-        rw (next_in-known last t classed s.clock h) (next-comes classed l s (next classed s.clock (from 0 t)) refl)
-    playing-comes classed l s false h =
-        rw (next_in-more last t classed s.clock h) (still refl refl refl (inr (decided-waits last t h)))
+    playing-comes l s true h = rw (next_in-known last t s.clock h) (next-comes l s (next s.clock (from 0 t)) refl)
+    playing-comes l s false h = rw (next_in-more last t s.clock h) (still refl refl refl (inr (decided-waits last t h)))
 
   pub turn-comes : (last : Bool) (s : Standing) (t : List ℕ) → Comes last s t (turn m last s t)
   unfolding turn ending
   turn-comes last opening t = opening-comes last t (decided last t) refl
-  turn-comes last (playing classed l s) t = playing-comes last t classed l s (decided last t) refl
+  turn-comes last (playing l s) t = playing-comes last t l s (decided last t) refl
   turn-comes last ended t = still refl refl refl (inl at-end)
   turn-comes last turned_back t = still refl refl refl (inl at-refusal)
 
@@ -355,7 +334,7 @@ module _ (m : Machine Switch) where
 -- The last lines that are written, by where the player stands then: `end`, or a refusal.
 unfoldable pub EndsAs : Standing → List ℕ → Type 0
 EndsAs opening w = ⊥
-EndsAs (playing classed l s) w = ⊥
+EndsAs (playing l s) w = ⊥
 EndsAs ended w = (v : List ℕ) × (n : ℕ) × (w ≡ v ++ line End n)
 EndsAs turned_back w = (v : List ℕ) × (r : Refusal) × (l : ℕ) × (w ≡ v ++ refusal_text r l)
 
@@ -442,13 +421,13 @@ module _ (m : Machine Switch) where
   unfolding header_turn ending EndsAs
   header-ends t (refused_at r l) o = inr ([], r, l, refl)
 
-  module _ (classed : Bool) (l : ℕ) (s : Switch) (t : List ℕ) where
+  module _ (l : ℕ) (s : Switch) (t : List ℕ) where
     slot-ends : (d : Cursor) (o : Outcome (List (Option Cell) × Switch))
-        → EndsBy (playing classed l s) (slot_turn classed s.clock l t d o)
+        → EndsBy (playing l s) (slot_turn s.clock l t d o)
     unfolding slot_turn ending EndsAs
-    slot-ends d (refused r place) o = inr ([], r, line_of classed l place, refl)
+    slot-ends d (refused r place) o = inr ([], r, line_of l place, refl)
 
-    next-ends : (n : Next) → EndsBy (playing classed l s) (next_turn m classed l s t (known n))
+    next-ends : (n : Next) → EndsBy (playing l s) (next_turn m l s t (known n))
     unfolding next_turn ending EndsAs
     next-ends finished o = inr ([], s.clock, refl)
     next-ends (faulty k) o = inr ([], BadLine, l + k, refl)
@@ -461,13 +440,11 @@ module _ (m : Machine Switch) where
       go : (b : Bool) → decided last t ≡ b → EndsBy opening (header_turn m t (header_in last t))
       go true h = rw (header_in-known last t h) (header-ends t (header t))
       go false h = rw (header_in-more last t h) (λ o. inl refl)
-  turn-ends last (playing classed l s) t = go (decided last t) refl
+  turn-ends last (playing l s) t = go (decided last t) refl
     where
-      go : (b : Bool) → decided last t ≡ b
-          → EndsBy (playing classed l s) (next_turn m classed l s t (next_in last classed s.clock t))
-      go true h =
-          rw (next_in-known last t classed s.clock h) (next-ends classed l s t (next classed s.clock (from 0 t)))
-      go false h = rw (next_in-more last t classed s.clock h) (λ o. inl refl)
+      go : (b : Bool) → decided last t ≡ b → EndsBy (playing l s) (next_turn m l s t (next_in last s.clock t))
+      go true h = rw (next_in-known last t s.clock h) (next-ends l s t (next s.clock (from 0 t)))
+      go false h = rw (next_in-more last t s.clock h) (λ o. inl refl)
   turn-ends last ended t = λ o. inl refl
   turn-ends last turned_back t = λ o. inl refl
 
@@ -538,7 +515,7 @@ followed-goes {s} {t} x y {b} {v} f l g = goes some (less g)
 pub ahead-one : (s : Standing) → ahead s ≤ 1
 unfolding ahead
 ahead-one opening = omega arith
-ahead-one (playing classed l s) = omega arith
+ahead-one (playing l s) = omega arith
 ahead-one ended = omega arith
 ahead-one turned_back = omega arith
 
@@ -574,7 +551,7 @@ module _ (m : Machine Switch) where
   turns-none-all : (last : Bool) (s : Standing) (t : List ℕ) → length t + ahead s ≤ 0 → Still last (turns m zero last s t)
   unfolding turns ahead turn ending
   turns-none-all last opening t h = absurd (omega arith)
-  turns-none-all last (playing classed l s) t h = absurd (omega arith)
+  turns-none-all last (playing l s) t h = absurd (omega arith)
   turns-none-all last ended t h = refl
   turns-none-all last turned_back t h = refl
 

@@ -1,7 +1,7 @@
 -- Players over two machines that answer alike print the same text: so those of the crossbar and of the output-queued
 -- switch print what a player over the PIFO switch would. By induction over the blocks of a text, with what the switches
 -- keep between slot calls; that the records fit 32 bits, as they must, is the grammar's.
---     header-first, records-fit      a header's first slot fits 32 bits, and so do the records of a block
+--     header-first                   a header's first slot fits 32 bits
 --     Simulation, simulated          two machines that answer alike; their players print the same text
 --     seen, seen_alike               from what two switches answer
 --     crossbar-pifo, oq-pifo         the crossbar and the output-queued switch answer as the PIFO switch does
@@ -16,8 +16,6 @@ use mathlib.Core.Option.{Option, some, none-ne-some, some-injective}
 use mathlib.Core.Path.{◌≡◌, refl, sym, ap, ◌∙◌}
 use lib.ListN.{length}
 use Rattle.laws.specs.Lists.{all?}
-use Rattle.laws.proofs.Lists.{all?-mono}
-use Rattle.laws.proofs.Tests.{and_l}
 use Rattle.cell.specs.declared.Arrival.{Arrival}
 use Rattle.cell.specs.declared.Cell.{Cell}
 use Rattle.cell.specs.declared.Refusal.{Refusal}
@@ -31,14 +29,13 @@ use Rattle.model.specs.Pifo.{sent_departures, slot_pifo}
 use Rattle.model.specs.CodeFair.{pifo_after}
 use Rattle.model.proofs.Demand3.{Kept, step, kept_fresh}
 use Rattle.model.proofs.OqAlike.{KeptOq, oq-step, kept-oq-fresh}
-use Rattle.trace.specs.declared.Key.TheVariants.{Form, Ports, First, Slot}
-use Rattle.trace.specs.Contents.{classed_form, form_text, has_class, block_fits}
+use Rattle.trace.specs.declared.Key.TheVariants.{Ports, First, Slot}
 use Rattle.trace.specs.Line.{line}
-use Rattle.trace.specs.Reader.{Cursor, Read, got, bad_at, number, exactly, Next, slot_ahead, finished, faulty, next}
-use Rattle.trace.specs.Reader.{Header, opened, refused_at, header_from, header}
-use Rattle.trace.proofs.Blocks.{at, number-exact, in_form, block_fits-e, Stands, next-exact}
+use Rattle.trace.specs.Reader.{Cursor, Read, got, bad_at, number, Next, slot_ahead, finished, faulty, next}
+use Rattle.trace.specs.Reader.{Header, opened, refused_at, header}
+use Rattle.trace.proofs.Blocks.{at, number-exact, block_fits-e, Stands, next-exact}
 use Rattle.trace.proofs.RoundTrip.{header-bad-ports, header-bad-size, header-bad-first, header-opened}
-use Rattle.trace.proofs.RoundTrip.{header-classed, header-plain, Opens, header-exact}
+use Rattle.trace.proofs.RoundTrip.{Opens, header-exact}
 use Rattle.trace.specs.Lines.{departures_text}
 use Rattle.player_text.specs.Player.{Machine, play_from, play}
 use Rattle.player_text.specs.Player.{crossbar, oq, pifo, play_crossbar, play_oq, play_pifo}
@@ -47,35 +44,20 @@ use Rattle.player_text.proofs.Pieces.{Plays, plays-over, EndsAs, ends-once, what
 use Rattle.player_text.proofs.Ticks.{crossbar-ticks, oq-ticks}
 use Rattle.player_text.proofs.Written.{play-finished, play-faulty, play-refused, play-done, play-turned-back, play-opened}
 
-header_from-first : (classed : Bool) (c : Cursor) {k : Bool} {n first : ℕ} {d : Cursor}
-    → header_from classed c ≡ opened k n first d → fits32 first ≡ true
-header_from-first classed c {first = first} h = go (number Ports c) refl
+pub header-first : (t : List ℕ) {n first : ℕ} {d : Cursor} → header t ≡ opened n first d → fits32 first ≡ true
+header-first t {first} h = go (number Ports (at 1 t)) refl
   where
-    in_range : (m : ℕ) (d : Cursor) → number Ports c ≡ got m d → (b : Bool) → ports_in_range m ≡ b
-        → (r : Read ℕ) → number First d ≡ r → fits32 first ≡ true
-    in_range m d p false b r q = cc (header-bad-size classed c p b)
-    in_range m d p true b (bad_at l) q = cc (header-bad-first classed c p b q)
-    in_range m d p true b (got f e) q =
-        let x : f ≡ first = cc (header-opened classed c p b q) in
-        rw (← x) (number-exact First d f e q).1
+    in_range : (m : ℕ) (c : Cursor) → number Ports (at 1 t) ≡ got m c → (b : Bool) → ports_in_range m ≡ b
+        → (r : Read ℕ) → number First c ≡ r → fits32 first ≡ true
+    in_range m c p false b r q = cc (header-bad-size t p b)
+    in_range m c p true b (bad_at l) q = cc (header-bad-first t p b q)
+    in_range m c p true b (got f e) q =
+        let x : f ≡ first = cc (header-opened t p b q) in
+        rw (← x) (number-exact First c f e q).1
 
-    go : (r : Read ℕ) → number Ports c ≡ r → fits32 first ≡ true
-    go (bad_at l) p = cc (header-bad-ports classed c p)
-    go (got m d) p = in_range m d p (ports_in_range m) refl (number First d) refl
-
-pub header-first : (t : List ℕ) {classed : Bool} {n first : ℕ} {d : Cursor} → header t ≡ opened classed n first d
-    → fits32 first ≡ true
-header-first t {first = first} h = go (exactly Form classed_form (at 1 t)) refl
-  where
-    go : (r : Read ℕ) → exactly Form classed_form (at 1 t) ≡ r → fits32 first ≡ true
-    go (got n c) p = header_from-first true c (sym (header-classed t p) ∙ h)
-    go (bad_at l) p = header_from-first false (at 1 t) (sym (header-plain t p) ∙ h)
-
--- the records of a block fit 32 bits
-pub records-fit : (classed : Bool) (rs : List Arrival) → block_fits classed rs ≡ true → all? arrival_fits rs ≡ true
-records-fit classed rs h =
-    all?-mono (in_form classed) arrival_fits rs (λ a _ k. and_l (arrival_fits a) (has_class classed a) k)
-    (block_fits-e classed rs h).1
+    go : (r : Read ℕ) → number Ports (at 1 t) ≡ r → fits32 first ≡ true
+    go (bad_at l) p = cc (header-bad-ports t p)
+    go (got m c) p = in_range m c p (ports_in_range m) refl (number First c) refl
 
 ------------------------------------------------------------------------
 -- two machines
@@ -98,38 +80,35 @@ pub record Simulation {S T : Type 0} (m : Machine S) (n : Machine T) : Type 1 wh
 module _ {S T : Type 0} {m : Machine S} {n : Machine T} (same : Simulation m n) where
   -- from a cursor on
 
-  abbrev Same : Bool → ℕ → ℕ → Type 0
-  Same classed most clock =
-      (s : S) (q : T) (c : Cursor) → same.Related s q
-      → play_from m classed most clock s c ≡ play_from n classed most clock q c
+  abbrev Same : ℕ → ℕ → Type 0
+  Same most clock =
+      (s : S) (q : T) (c : Cursor) → same.Related s q → play_from m most clock s c ≡ play_from n most clock q c
 
   -- one slot, by the two answers, where what follows it comes out the same
-  same-slot : (classed : Bool) (most clock : ℕ) (s : S) (q : T) (c : Cursor) {records : List Arrival} {d : Cursor}
-      → next classed clock c ≡ slot_ahead records d → Same classed most (clock + 1)
+  same-slot : (most clock : ℕ) (s : S) (q : T) (c : Cursor) {records : List Arrival} {d : Cursor}
+      → next clock c ≡ slot_ahead records d → Same most (clock + 1)
       → (o : Outcome (List (Option Cell) × S)) (p : Outcome (List (Option Cell) × T)) → m.slot s records ≡ o
       → n.slot q records ≡ p → AnsweredAlike same.Related o p
-      → play_from m classed (suc most) clock s c ≡ play_from n classed (suc most) clock q c
-  same-slot classed most clock s q c ahead rest o p e f both-refused =
-      play-refused m classed most clock s c ahead e ∙ sym (play-refused n classed most clock q c ahead f)
-  same-slot classed most clock s q c {d = d} ahead rest o p e f (both-done {ds = ds} {s = s'} {q = q'} kept) =
-      play-done m classed most clock s c ahead e
-      ∙ ap (λ t. line Slot clock ++ (departures_text classed ds ++ t)) (rest s' q' d kept)
-      ∙ sym (play-done n classed most clock q c ahead f)
+      → play_from m (suc most) clock s c ≡ play_from n (suc most) clock q c
+  same-slot most clock s q c ahead rest o p e f both-refused =
+      play-refused m most clock s c ahead e ∙ sym (play-refused n most clock q c ahead f)
+  same-slot most clock s q c {d = d} ahead rest o p e f (both-done {ds = ds} {s = s'} {q = q'} kept) =
+      play-done m most clock s c ahead e
+      ∙ ap (λ t. line Slot clock ++ (departures_text ds ++ t)) (rest s' q' d kept)
+      ∙ sym (play-done n most clock q c ahead f)
 
-  same_from : (classed : Bool) (most clock : ℕ) → Same classed most clock
+  same_from : (most clock : ℕ) → Same most clock
   unfolding play_from
-  same_from classed zero clock s q c kept = refl
-  same_from classed (suc most) clock s q c kept =
-      go (next classed clock c) refl (next-exact classed clock c) (same_from classed most (clock + 1))
+  same_from zero clock s q c kept = refl
+  same_from (suc most) clock s q c kept = go (next clock c) refl (next-exact clock c) (same_from most (clock + 1))
     where
-      go : (k : Next) → next classed clock c ≡ k → Stands classed clock c (next classed clock c)
-          → Same classed most (clock + 1)
-          → play_from m classed (suc most) clock s c ≡ play_from n classed (suc most) clock q c
-      go finished k stands rest = play-finished m classed most clock s c k ∙ sym (play-finished n classed most clock q c k)
-      go (faulty l) k stands rest = play-faulty m classed most clock s c k ∙ sym (play-faulty n classed most clock q c k)
+      go : (k : Next) → next clock c ≡ k → Stands clock c (next clock c) → Same most (clock + 1)
+          → play_from m (suc most) clock s c ≡ play_from n (suc most) clock q c
+      go finished k stands rest = play-finished m most clock s c k ∙ sym (play-finished n most clock q c k)
+      go (faulty l) k stands rest = play-faulty m most clock s c k ∙ sym (play-faulty n most clock q c k)
       go (slot_ahead records d) k stands rest =
           let (i, j) = rw k at stands in
-          same-slot classed most clock s q c k rest _ _ refl refl (same.slot s q kept records (records-fit classed records j))
+          same-slot most clock s q c k rest _ _ refl refl (same.slot s q kept records (block_fits-e records j).1)
 
   -- whole texts
 
@@ -138,11 +117,11 @@ module _ {S T : Type 0} {m : Machine S} {n : Machine T} (same : Simulation m n) 
     where
       go : (k : Header) → header t ≡ k → Opens t (header t) → play m t ≡ play n t
       go (refused_at r l) k opens = play-turned-back m t k ∙ sym (play-turned-back n t k)
-      go (opened classed ports first c) k opens =
+      go (opened ports first c) k opens =
           let (i, j) = rw k at opens in
           play-opened m t k
-          ∙ ap (λ x. form_text classed ++ (line Ports ports ++ (line First first ++ x)))
-          (same_from classed (length c.text) first _ _ c (same.fresh ports first i (header-first t k)))
+          ∙ ap (λ x. line Ports ports ++ (line First first ++ x))
+          (same_from (length c.text) first _ _ c (same.fresh ports first i (header-first t k)))
           ∙ sym (play-opened n t k)
 
 ------------------------------------------------------------------------

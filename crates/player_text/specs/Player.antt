@@ -1,6 +1,6 @@
 -- Scope 8: the player, as text in, text out, over any switch that answers slot calls. `play_crossbar` is
 -- the player, `play_oq` that of the output-queued switch; `play_pifo` is what it would be over the PIFO switch.
-use Rattle.std.specs.Prelude.{ℕ, zero, suc, ◌+◌, ◌*◌, Bool, List, ◌++◌, length}
+use Rattle.std.specs.Prelude.{ℕ, zero, suc, ◌+◌, ◌*◌, List, ◌++◌, length}
 use Rattle.std.proofs.Math.Option.{Option, some}
 use Rattle.cell.specs.declared.Arrival.{Arrival}
 use Rattle.cell.specs.declared.Cell.{Cell}
@@ -11,7 +11,6 @@ use Rattle.model.specs.Oq.{slot_oq}
 use Rattle.model.specs.Pifo.{Pifo, fresh_pifo, slot_pifo}
 use Rattle.model.specs.State.{Switch, fresh}
 use Rattle.trace.specs.declared.Key.TheVariants.{Ports, First, Slot, End}
-use Rattle.trace.specs.Contents.{form_text, record_lines}
 use Rattle.trace.specs.Line.{line}
 use Rattle.trace.specs.Reader.{Cursor, slot_ahead, finished, faulty, next, opened, refused_at, header}
 use Rattle.trace.specs.Lines.{departures_text, refusal_text}
@@ -22,36 +21,32 @@ pub record Machine (S : Type 0) : Type 0 where
   pub slot : S → List Arrival → Outcome (List (Option Cell) × S)
 
 -- a refusal that names a record names its `in` line, and 3 the `slot` line
-unfoldable pub line_of : Bool → ℕ → ℕ → ℕ
-line_of classed slot_line zero = slot_line
-line_of classed slot_line (suc k) = slot_line + 1 + record_lines classed * k
+unfoldable pub line_of : ℕ → ℕ → ℕ
+line_of slot_line zero = slot_line
+line_of slot_line (suc k) = slot_line + 1 + 5 * k
 
 module _ {S : Type 0} (m : Machine S) where
   -- per slot `slot` and its departures, then `end`; on a refusal `refused` and `line` instead of the rest, and nothing
   -- of the refused block
-  unfoldable pub play_from : Bool → ℕ → ℕ → S → Cursor → List ℕ
-  play_from classed zero clock s c = refusal_text BadLine c.line
-  play_from classed (suc most) clock s c =
-      elim (next classed clock c) [
+  unfoldable pub play_from : ℕ → ℕ → S → Cursor → List ℕ
+  play_from zero clock s c = refusal_text BadLine c.line
+  play_from (suc most) clock s c =
+      elim (next clock c) [
         | finished ↦ line End clock
         | faulty l ↦ refusal_text BadLine l
         | slot_ahead records d ↦ elim (m.slot s records) [
-          | refused r place ↦ refusal_text r (line_of classed c.line place)
-          | done x ↦
-              line Slot clock ++ (departures_text classed x.0 ++ play_from classed most (clock + 1) x.1 d)
+          | refused r place ↦ refusal_text r (line_of c.line place)
+          | done x ↦ line Slot clock ++ (departures_text x.0 ++ play_from most (clock + 1) x.1 d)
         ]
       ]
 
-  -- in the second form `form`, then `ports`, `first`, then the slots; if `ports` or `first` is at fault, the two lines
-  -- of the refusal are all
+  -- `ports`, `first`, then the slots; if `ports` or `first` is at fault, the two lines of the refusal are all
   unfoldable pub play : List ℕ → List ℕ
   play t =
       elim (header t) [
         | refused_at r l ↦ refusal_text r l
-        | opened classed ports first c ↦
-            form_text classed
-            ++ (line Ports ports
-            ++ (line First first ++ play_from classed (length c.text) first (m.fresh ports first) c))
+        | opened ports first c ↦
+            line Ports ports ++ (line First first ++ play_from (length c.text) first (m.fresh ports first) c)
       ]
 
 unfoldable pub crossbar : Machine Switch

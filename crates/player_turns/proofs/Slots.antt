@@ -4,7 +4,7 @@
 --     played-stopped, played-ran   and back, by the answer
 use Prim.Native.Nat.{ℕ, ◌≤◌}
 use native.Mathlib.Omega.{arith}
-use mathlib.Core.Bool.{Bool, true}
+use mathlib.Core.Bool.{true}
 use mathlib.Core.List.{List, ◌++◌}
 use mathlib.Core.Option.{Option, some}
 use mathlib.Core.Path.{◌≡◌, refl, sym, ap, ◌∙◌}
@@ -115,7 +115,7 @@ outcome-clear (refused s p) e =
     absurd (omega arith)
 
 module _ (engine : Engine) (table : List ℕ) (good : TableOf engine table) (held rs : List Arrival) (same : held ≡ rs)
-    (classed : Bool) (clock l : ℕ) (buffer : List ℕ) (found : Fault) (table' answer' : List ℕ)
+    (clock l : ℕ) (buffer : List ℕ) (found : Fault) (table' answer' : List ℕ)
     (left : SlotLeft ((machine_of engine).slot (state_of table) held) table found table' answer') where
   abbrev outcome : Outcome (List (Option Cell) × Switch)
   outcome = (machine_of engine).slot (state_of table) rs
@@ -123,79 +123,77 @@ module _ (engine : Engine) (table : List ℕ) (good : TableOf engine table) (hel
   here : SlotLeft outcome table found table' answer'
   here = rw same at left
 
-  pub slot-stopped : {r : Refusal} {place : ℕ} → found ≡ At r place → (buffer' : List ℕ) (n k : ℕ)
-      → k ≡ line_of classed l place
+  pub slot-stopped : {r : Refusal} {place : ℕ} → found ≡ At r place → (buffer' : List ℕ) (n k : ℕ) → k ≡ line_of l place
       → Wrote (refusal_text r k) buffer buffer' n
-      → SlotPlayed outcome classed clock l table buffer table' buffer' (Stopped n)
+      → SlotPlayed outcome clock l table buffer table' buffer' (Stopped n)
   unfolding slot_text played_of
   slot-stopped {r} {place} f buffer' n k m w =
       let o : outcome ≡ refused r place = outcome-at outcome (sym f ∙ here.refusal) in
-      let x : Wrote (slot_text classed clock l (refused r place)) buffer buffer' n = rw m at w in
+      let x : Wrote (slot_text clock l (refused r place)) buffer buffer' n = rw m at w in
       record {
-        result = ap Stopped x.count ∙ sym (ap (played_of classed clock l) o);
-        bytes = x.bytes ∙ sym (ap (λ o. filled (slot_text classed clock l o) buffer) o);
+        result = ap Stopped x.count ∙ sym (ap (played_of clock l) o);
+        bytes = x.bytes ∙ sym (ap (λ o. filled (slot_text clock l o) buffer) o);
         switch = here.switch;
       }
 
   pub slot-ran : all? arrival_fits rs ≡ true → found ≡ Clear → (buffer' : List ℕ) (n : ℕ)
-      → Wrote (line Slot clock ++ departures_text classed (departures_in 16 answer')) buffer buffer' n
-      → SlotPlayed outcome classed clock l table buffer table' buffer' (Ran n)
+      → Wrote (line Slot clock ++ departures_text (departures_in 16 answer')) buffer buffer' n
+      → SlotPlayed outcome clock l table buffer table' buffer' (Ran n)
   unfolding slot_text played_of
   slot-ran fits f buffer' n w =
       let (x, o) = outcome-clear outcome (sym f ∙ here.refusal) in
       let g = went engine (state_of table) (table-sound engine table good) rs fits o in
-      let sent : departures_text classed (departures_in 16 answer') ≡ departures_text classed x.0 =
-      departures-taken classed x.0 answer' (here.departures x o) g.few g.fit in
-      let y : Wrote (slot_text classed clock l (done x)) buffer buffer' n = rw sent at w in
+      let sent : departures_text (departures_in 16 answer') ≡ departures_text x.0 =
+      departures-taken x.0 answer' (here.departures x o) g.few g.fit in
+      let y : Wrote (slot_text clock l (done x)) buffer buffer' n = rw sent at w in
       record {
-        result = ap Ran y.count ∙ sym (ap (played_of classed clock l) o);
-        bytes = y.bytes ∙ sym (ap (λ o. filled (slot_text classed clock l o) buffer) o);
+        result = ap Ran y.count ∙ sym (ap (played_of clock l) o);
+        bytes = y.bytes ∙ sym (ap (λ o. filled (slot_text clock l o) buffer) o);
         switch = here.switch;
       }
 
 -- what the answer tells
 
-module _ (classed : Bool) (clock l : ℕ) (o : Outcome (List (Option Cell) × Switch)) {table buffer table' buffer' : List ℕ}
-    {r : Played} (p : SlotPlayed o classed clock l table buffer table' buffer' r) {n : ℕ} where
+module _ (clock l : ℕ) (o : Outcome (List (Option Cell) × Switch)) {table buffer table' buffer' : List ℕ} {r : Played}
+    (p : SlotPlayed o clock l table buffer table' buffer' r) {n : ℕ} where
   pub played-stopped : r ≡ Stopped n
       → (why : Refusal) × (place : ℕ) × (o ≡ refused why place) × (table' ≡ table)
-      × Wrote (refusal_text why (line_of classed l place)) buffer buffer' n
+      × Wrote (refusal_text why (line_of l place)) buffer buffer' n
   unfolding played_of slot_text table_taken
   played-stopped h = go o refl
     where
       go : (x : Outcome (List (Option Cell) × Switch)) → o ≡ x
           → (why : Refusal) × (place : ℕ) × (o ≡ refused why place) × (table' ≡ table)
-          × Wrote (refusal_text why (line_of classed l place)) buffer buffer' n
+          × Wrote (refusal_text why (line_of l place)) buffer buffer' n
       go (done c) e =
-          let never : ◌≡◌ {A = ℕ} 0 1 = cc (p.result ∙ ap (played_of classed clock l) e) in
+          let never : ◌≡◌ {A = ℕ} 0 1 = cc (p.result ∙ ap (played_of clock l) e) in
           absurd (omega arith)
       go (refused why place) e =
-          let size : n ≡ length (refusal_text why (line_of classed l place)) = cc (p.result
-          ∙ ap (played_of classed clock l) e) in (
+          let size : n ≡ length (refusal_text why (line_of l place)) = cc (p.result ∙ ap (played_of clock l) e) in (
             why,
             place,
             e,
             p.switch ∙ ap (table_taken table) e,
-            record { bytes = p.bytes ∙ ap (λ o. filled (slot_text classed clock l o) buffer) e; count = size },
+            record { bytes = p.bytes ∙ ap (λ o. filled (slot_text clock l o) buffer) e; count = size },
           )
 
   pub played-ran : r ≡ Ran n
       → (x : List (Option Cell) × Switch) × (o ≡ done x) × (table' ≡ encode x.1)
-      × Wrote (line Slot clock ++ departures_text classed x.0) buffer buffer' n
+      × Wrote (line Slot clock ++ departures_text x.0) buffer buffer' n
   unfolding played_of slot_text table_taken
   played-ran h = go o refl
     where
       go : (x : Outcome (List (Option Cell) × Switch)) → o ≡ x
           → (x : List (Option Cell) × Switch) × (o ≡ done x) × (table' ≡ encode x.1)
-          × Wrote (line Slot clock ++ departures_text classed x.0) buffer buffer' n
+          × Wrote (line Slot clock ++ departures_text x.0) buffer buffer' n
       go (refused why place) e =
-          let never : ◌≡◌ {A = ℕ} 0 1 = cc (p.result ∙ ap (played_of classed clock l) e) in
+          let never : ◌≡◌ {A = ℕ} 0 1 = cc (p.result ∙ ap (played_of clock l) e) in
           absurd (omega arith)
       go (done x) e =
-          let size : n ≡ length (line Slot clock ++ departures_text classed x.0) =
-          cc (p.result ∙ ap (played_of classed clock l) e) in (
+          let size : n ≡ length (line Slot clock ++ departures_text x.0) =
+          cc (p.result ∙ ap (played_of clock l) e) in (
             x,
             e,
             p.switch ∙ ap (table_taken table) e,
-            record { bytes = p.bytes ∙ ap (λ o. filled (slot_text classed clock l o) buffer) e; count = size },
+            record { bytes = p.bytes ∙ ap (λ o. filled (slot_text clock l o) buffer) e; count = size },
           )

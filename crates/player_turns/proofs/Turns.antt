@@ -26,17 +26,15 @@ use Rattle.trace.specs.declared.Key.TheVariants.{Ports, First, Slot, End}
 use Rattle.trace.specs.declared.Opening.{Opening}
 use Rattle.trace.specs.declared.Opening.TheVariants.{Open, Refused, Short}
 use Rattle.trace.specs.Flat.{arrival_at, arrivals_from}
-use Rattle.trace.specs.Contents.{record_lines, form_text}
 use Rattle.trace.specs.Line.{line}
 use Rattle.trace.specs.Piece.{known, more, decided, next_in, header_in, numbers_of, answer_of, opening_of}
 use Rattle.trace.specs.Reader.{from, number, next}
 use Rattle.trace.specs.Reader.{slot_ahead, header}
-use Rattle.trace.proofs.Blocks.{next-exact}
+use Rattle.trace.proofs.Blocks.{block_fits-e, next-exact}
 use Rattle.trace.proofs.Flat.{length-numbers_of}
 use Rattle.trace.proofs.RoundTrip.{header-exact}
 use Rattle.trace.specs.Lines.{departures_text, refusal_text}
-use Rattle.trace_reader.specs.Reading.{slots_line, numbers_after, stored}
-use Rattle.trace_reader.proofs.Arrivals.{record_lines-mul}
+use Rattle.trace_reader.specs.Reading.{numbers_after, stored}
 use Rattle.trace_reader.proofs.Answered.{opening-open-e, opening-refused-e, opening-short-e}
 use Rattle.trace_reader.proofs.Answered.{Ahead, answer-slot-e, answer-end-e, answer-bad-e, answer-more-e}
 use Rattle.trace_reader.proofs.Answers.{header_in-more, header_in-known, next_in-more, next_in-known, opening-short, block_more}
@@ -45,7 +43,7 @@ use Rattle.layout.specs.Entry.{clock_in}
 use Rattle.layout.specs.Host.{filled}
 use Rattle.layout.specs.Table.{encode, state_of, table_size}
 use Rattle.layout.proofs.Table.{decode-length, encode-clock, length-encode, sound-clock, state_of-encode, encode-decode}
-use Rattle.player_text.proofs.SameText.{header-first, records-fit}
+use Rattle.player_text.proofs.SameText.{header-first}
 use Rattle.player_turns.specs.declared.Engine.{Engine}
 use Rattle.player_turns.specs.declared.Played.{Played}
 use Rattle.player_turns.specs.declared.Played.TheVariants.{Ran, Stopped}
@@ -65,8 +63,7 @@ pub table_stays : (engine : Engine) (stage : Stage) (l : ℕ) (table : List ℕ)
     → table_then (standing stage l table) table ≡ table
 unfolding table_then standing
 table_stays engine OpeningStage l table h = refl
-table_stays engine (Playing classed) l table h =
-    encode-decode table (state_of table) (table_is engine table (h.good classed refl))
+table_stays engine Playing l table h = encode-decode table (state_of table) (table_is engine table (h.good refl))
 table_stays engine Ended l table h = refl
 table_stays engine TurnedBack l table h = refl
 
@@ -85,9 +82,9 @@ unfolding table_then
 at_table at-end table = refl
 at_table at-refusal table = refl
 
-at-plays : {end : Stage} {over : Standing} → At end over → (classed : Bool) → end ≡ Playing classed → ⊥
-at-plays at-end classed e = let z : ◌≡◌ {A = ℕ} 0 1 = cc in omega arith
-at-plays at-refusal classed e = let z : ◌≡◌ {A = ℕ} 0 1 = cc in omega arith
+at-plays : {end : Stage} {over : Standing} → At end over → end ≡ Playing → ⊥
+at-plays at-end e = let z : ◌≡◌ {A = ℕ} 0 1 = cc in omega arith
+at-plays at-refusal e = let z : ◌≡◌ {A = ℕ} 0 1 = cc in omega arith
 
 at-line : {end : Stage} {over : Standing} → At end over → 0 ≡ line_at over
 unfolding line_at
@@ -100,8 +97,8 @@ at-stands engine at table size =
     record {
       size = size;
       number = at-line at ∙ ap line_at (sym (at-standing at 0 table));
-      good = λ k e. absurd (at-plays at k e);
-      few = λ k e. absurd (at-plays at k e);
+      good = λ e. absurd (at-plays at e);
+      few = λ e. absurd (at-plays at e);
     }
 
 ------------------------------------------------------------------------
@@ -141,26 +138,26 @@ module _ (engine : Engine) (T : Turn) (text table buffer : List ℕ) where
       })
 
   -- the player goes on with a sound switch
-  plays : (t buffer' table' : List ℕ) (classed : Bool) (s : Switch) (l used n : ℕ)
-      → T ≡ record { written = t; left = drop used text; after = playing classed l s } → used ≤ length text
-      → sound_of engine s ≡ true → table' ≡ encode s → l ≤ 4 + 97 * s.clock → Wrote t buffer buffer' n
-      → Turned engine T text table buffer table' buffer' (Playing classed) l used n
+  plays : (t buffer' table' : List ℕ) (s : Switch) (l used n : ℕ)
+      → T ≡ record { written = t; left = drop used text; after = playing l s } → used ≤ length text
+      → sound_of engine s ≡ true → table' ≡ encode s → l ≤ 3 + 81 * s.clock → Wrote t buffer buffer' n
+      → Turned engine T text table buffer table' buffer' Playing l used n
   unfolding standing clock_in table_then line_at
-  plays t buffer' table' classed s l used n e within fine same few w =
+  plays t buffer' table' s l used n e within fine same few w =
       let good : sound s ≡ true = sound-of engine s fine in
       let state : state_of table' ≡ s = ap state_of same ∙ state_of-encode s good in
       let clock : clock_in table' ≡ s.clock = ap clock_in same ∙ encode-clock s (sound-clock s good) in
-      subst (λ T. Turned engine T text table buffer table' buffer' (Playing classed) l used n) (sym e)
+      subst (λ T. Turned engine T text table buffer table' buffer' Playing l used n) (sym e)
       (record {
         wrote = w;
         used = omega (arith, length-drop used text);
         left = refl;
-        after = ap (playing classed l) state;
+        after = ap (playing l) state;
         stands = record {
           size = ap length same ∙ length-encode s good;
           number = refl;
-          good = λ _ _. rw same (table-made engine s fine);
-          few = λ _ _. omega (arith, clock);
+          good = λ _. rw same (table-made engine s fine);
+          few = λ _. omega (arith, clock);
         };
         table = same;
       })
@@ -194,12 +191,6 @@ filled-table s table good size =
     drop_of_length-le table {i = length (encode s)} (omega (arith, length-encode s good)) in
     ap (λ l. encode s ++ l) none ∙ append-nil (encode s)
 
--- the line after the header
-slots-line-le : (classed : Bool) → slots_line classed ≤ 4
-unfolding slots_line
-slots-line-le true = omega arith
-slots-line-le false = omega arith
-
 module _ (engine : Engine) (last : Bool) (t table buffer : List ℕ) (size : length table ≡ table_size) {o : Opening}
     (e : o ≡ opening_of t (header_in last t)) where
   abbrev at_header : Turn
@@ -216,8 +207,8 @@ module _ (engine : Engine) (last : Bool) (t table buffer : List ℕ) (size : len
   unfolding header_turn standing line_at
   header-short h =
       let more = header_in-more last t (opening-short-e last t e h) in
-      let never : (P : Type 0) (k : Bool) → OpeningStage ≡ Playing k → P =
-      λ P k p. (let z : ◌≡◌ {A = ℕ} 0 1 = cc in absurd (omega arith)) in
+      let never : (P : Type 0) → OpeningStage ≡ Playing → P =
+      λ P p. (let z : ◌≡◌ {A = ℕ} 0 1 = cc in absurd (omega arith)) in
       waits engine at_header t table buffer OpeningStage 1 (ap (header_turn (machine_of engine) t) more)
       (record { size = size; number = refl; good = never _; few = never _ })
 
@@ -230,25 +221,23 @@ module _ (engine : Engine) (last : Bool) (t table buffer : List ℕ) (size : len
       ends engine at_header t table buffer at-refusal (refusal_text r l) buffer' stage l' used n m
       (ap (header_turn (machine_of engine) t) (read ∙ ap known (opening-refused-e last t e h))) size w c
 
-  pub header-open : {classed : Bool} {ports first i : ℕ} → o ≡ Open classed ports first i → (table' buffer' : List ℕ) (n : ℕ)
+  pub header-open : {ports first i : ℕ} → o ≡ Open ports first i → (table' buffer' : List ℕ) (n : ℕ)
       → table' ≡ filled (encode (fresh ports first)) table
-      → Wrote (form_text classed ++ (line Ports ports ++ line First first)) buffer buffer' n
-      → {l : ℕ} → l ≡ slots_line classed
-      → Turned engine at_header t table buffer table' buffer' (Playing classed) l i n
+      → Wrote (line Ports ports ++ line First first) buffer buffer' n
+      → Turned engine at_header t table buffer table' buffer' Playing 3 i n
   unfolding header_turn fresh
-  header-open {classed} {ports} {first} {i} h table' buffer' n start w {l} here =
+  header-open {ports} {first} {i} h table' buffer' n start w =
       let read = header_read (λ k. (let z : ◌≡◌ {A = ℕ} 0 1 = cc in omega arith)) in
       let (there, within) = opening-open-e last t e h in
       let (range, _) = rw there at (header-exact t) in
       let fine = fresh-sound engine ports first range (header-first t there) in
       let made : table' ≡ encode (fresh ports first) =
       start ∙ filled-table (fresh ports first) table (sound-of engine (fresh ports first) fine) size in
-      let text : List ℕ = form_text classed ++ (line Ports ports ++ line First first) in
-      plays engine at_header t table buffer text buffer' table' classed (fresh ports first) l i n
+      plays engine at_header t table buffer (line Ports ports ++ line First first) buffer' table' (fresh ports first) 3 i n
       (ap (header_turn (machine_of engine) t) (read ∙ ap known there)
-      ∙ ap₂ (λ k s. record { written = text; left = drop i t; after = playing classed k s }) (sym here)
+      ∙ ap (λ s. record { written = line Ports ports ++ line First first; left = drop i t; after = playing 3 s })
       (fresh-of engine ports first))
-      within fine made (omega (arith, here, slots-line-le classed)) w
+      within fine made (omega arith) w
 
 ------------------------------------------------------------------------
 -- a block or the end
@@ -260,32 +249,31 @@ unfolding arrivals_from arrival_at numbers_of
 arrivals-numbers [] zs = refl
 arrivals-numbers (a ∷ rs) zs = ap (λ l. a ∷ l) (arrivals-numbers rs zs)
 
-module _ (engine : Engine) (last classed : Bool) (l : ℕ) (t table buffer : List ℕ) (good : TableOf engine table)
-    (few : l ≤ 4 + 97 * clock_in table) (clock : ℕ) (here : clock ≡ clock_in table) {b : Answer}
-    (e : b ≡ answer_of t (next_in last classed clock t)) where
+module _ (engine : Engine) (last : Bool) (l : ℕ) (t table buffer : List ℕ) (good : TableOf engine table)
+    (few : l ≤ 3 + 81 * clock_in table) (clock : ℕ) (here : clock ≡ clock_in table) {b : Answer}
+    (e : b ≡ answer_of t (next_in last clock t)) where
   abbrev at_next : Turn
-  at_next = next_turn (machine_of engine) classed l (state_of table) t (next_in last classed (clock_in table) t)
+  at_next = next_turn (machine_of engine) l (state_of table) t (next_in last (clock_in table) t)
 
   sized : length table ≡ table_size
   sized = decode-length table (state_of table) (table_is engine table good)
 
-  at-clock : at_next ≡ next_turn (machine_of engine) classed l (state_of table) t (next_in last classed clock t)
-  at-clock = ap (λ n. next_turn (machine_of engine) classed l (state_of table) t (next_in last classed n t)) (sym here)
+  at-clock : at_next ≡ next_turn (machine_of engine) l (state_of table) t (next_in last clock t)
+  at-clock = ap (λ n. next_turn (machine_of engine) l (state_of table) t (next_in last n t)) (sym here)
 
-  next-read : (b ≡ More → ⊥) → next_in last classed clock t ≡ known (next classed clock (from 0 t))
+  next-read : (b ≡ More → ⊥) → next_in last clock t ≡ known (next clock (from 0 t))
   next-read h = go (decided last t) refl
     where
-      go : (x : Bool) → decided last t ≡ x → next_in last classed clock t ≡ known (next classed clock (from 0 t))
-      go true d = next_in-known last t classed clock d
-      go false d = absurd (h (e ∙ sym (block_more last classed clock t d []).0))
+      go : (x : Bool) → decided last t ≡ x → next_in last clock t ≡ known (next clock (from 0 t))
+      go true d = next_in-known last t clock d
+      go false d = absurd (h (e ∙ sym (block_more last clock t d []).0))
 
-  pub next_more : b ≡ More → Turned engine at_next t table buffer table buffer (Playing classed) l 0 0
+  pub next_more : b ≡ More → Turned engine at_next t table buffer table buffer Playing l 0 0
   unfolding next_turn standing line_at
   next_more h =
-      let unread = next_in-more last t classed clock (answer-more-e last classed clock t e h) in
-      waits engine at_next t table buffer (Playing classed) l (at-clock
-      ∙ ap (next_turn (machine_of engine) classed l (state_of table) t) unread)
-      (record { size = sized; number = refl; good = λ _ _. good; few = λ _ _. few })
+      let unread = next_in-more last t clock (answer-more-e last clock t e h) in
+      waits engine at_next t table buffer Playing l (at-clock ∙ ap (next_turn (machine_of engine) l (state_of table) t) unread)
+      (record { size = sized; number = refl; good = λ _. good; few = λ _. few })
 
   module _ (buffer' : List ℕ) (stage : Stage) (l' used n m : ℕ) where
     pub next-end : Closed Ended n stage l' used m → b ≡ EndBlock → Wrote (line End clock) buffer buffer' n
@@ -294,8 +282,7 @@ module _ (engine : Engine) (last classed : Bool) (l : ℕ) (t table buffer : Lis
     next-end c h w =
         let read = next-read (λ k. (let z : ◌≡◌ {A = ℕ} 0 1 = cc in omega arith)) in
         ends engine at_next t table buffer at-end (line End (clock_in table)) buffer' stage l' used n m
-        (at-clock
-        ∙ ap (next_turn (machine_of engine) classed l (state_of table) t) (read ∙ ap known (answer-end-e last classed clock t e h)))
+        (at-clock ∙ ap (next_turn (machine_of engine) l (state_of table) t) (read ∙ ap known (answer-end-e last clock t e h)))
         sized (rw here at w) c
 
     pub next-bad : Closed TurnedBack n stage l' used m → {k : ℕ} → b ≡ Bad k
@@ -305,37 +292,36 @@ module _ (engine : Engine) (last classed : Bool) (l : ℕ) (t table buffer : Lis
     next-bad c {k} h w =
         let read = next-read (λ k. (let z : ◌≡◌ {A = ℕ} 0 1 = cc in omega arith)) in
         ends engine at_next t table buffer at-refusal (refusal_text BadLine (l + k)) buffer' stage l' used n m
-        (at-clock
-        ∙ ap (next_turn (machine_of engine) classed l (state_of table) t) (read ∙ ap known (answer-bad-e last classed clock t e h)))
+        (at-clock ∙ ap (next_turn (machine_of engine) l (state_of table) t) (read ∙ ap known (answer-bad-e last clock t e h)))
         sized w c
 
   module _ {count i lines : ℕ} (h : b ≡ SlotBlock count i lines) where
-    ahead : Ahead classed clock t count i lines
-    ahead = answer-slot-e last classed clock t e h
+    ahead : Ahead clock t count i lines
+    ahead = answer-slot-e last clock t e h
 
-    there : next_in last classed clock t ≡ known (slot_ahead ahead.rs (from lines (drop i t)))
+    there : next_in last clock t ≡ known (slot_ahead ahead.rs (from lines (drop i t)))
     there = next-read (λ k. (let z : ◌≡◌ {A = ℕ} 0 1 = cc in omega arith)) ∙ ap known ahead.there
 
-    block-lines : (lines ≡ 0 + (1 + record_lines classed * length ahead.rs)) × (length ahead.rs ≤ 16)
-    block-lines = next-line classed clock (from 0 t) ahead.there
+    block-lines : (lines ≡ 0 + (1 + 5 * length ahead.rs)) × (length ahead.rs ≤ 16)
+    block-lines = next-line clock (from 0 t) ahead.there
 
-    -- at most 16 arrivals and 97 lines
-    pub block_size : (count ≤ 16) × (lines ≤ 97)
+    -- at most 16 arrivals and 81 lines
+    pub block_size : (count ≤ 16) × (lines ≤ 81)
     block_size =
         let (many, less) = block-lines in
-        (omega (arith, ahead.count), omega (arith, record_lines-mul classed (length ahead.rs)))
+        (omega (arith, ahead.count), omega arith)
 
     block-fits : all? arrival_fits ahead.rs ≡ true
-    block-fits = records-fit classed ahead.rs (rw ahead.there at (next-exact classed clock (from 0 t))).1
+    block-fits = (block_fits-e ahead.rs (rw ahead.there at (next-exact clock (from 0 t))).1).1
 
     -- the numbers that the reader was lent
     module _ (whole : List Arrival) (lent : List ℕ) {numbers : List ℕ}
-        (held : numbers ≡ numbers_after whole (next_in last classed clock t) lent) (size : length lent ≡ 96) where
+        (held : numbers ≡ numbers_after whole (next_in last clock t) lent) (size : length lent ≡ 80) where
       held-stored : numbers ≡ stored ahead.rs lent
       unfolding numbers_after
       held-stored = held ∙ ap (λ x. numbers_after whole x lent) there
 
-      pub numbers-size : length numbers ≡ 96
+      pub numbers-size : length numbers ≡ 80
       numbers-size = ap length held-stored ∙ length-sets lent 0 (numbers_of ahead.rs) ∙ size
 
       same-arrivals : arrivals_from count numbers ≡ ahead.rs
@@ -349,39 +335,39 @@ module _ (engine : Engine) (last classed : Bool) (l : ℕ) (t table buffer : Lis
       outcome : Outcome (List (Option Cell) × Switch)
       outcome = (machine_of engine).slot (state_of table) (arrivals_from count numbers)
 
-      at_slot : at_next ≡ slot_turn classed (state_of table).clock l t (from lines (drop i t)) outcome
+      at_slot : at_next ≡ slot_turn (state_of table).clock l t (from lines (drop i t)) outcome
       unfolding next_turn outcome
       at_slot =
           at-clock
-          ∙ ap (next_turn (machine_of engine) classed l (state_of table) t) there
-          ∙ ap (λ rs. slot_turn classed (state_of table).clock l t (from lines (drop i t))
+          ∙ ap (next_turn (machine_of engine) l (state_of table) t) there
+          ∙ ap (λ rs. slot_turn (state_of table).clock l t (from lines (drop i t))
           ((machine_of engine).slot (state_of table) rs))
           (sym same-arrivals)
 
       module _ {table' buffer' : List ℕ} {r : Played} {n : ℕ}
-          (p : SlotPlayed ((machine_of engine).slot (state_of table) (arrivals_from count numbers)) classed clock l table buffer table'
+          (p : SlotPlayed ((machine_of engine).slot (state_of table) (arrivals_from count numbers)) clock l table buffer table'
           buffer' r) where
         pub next-stopped : r ≡ Stopped n → (stage : Stage) (l' used m : ℕ) → Closed TurnedBack n stage l' used m
             → Turned engine at_next t table buffer table' buffer' stage l' used m
         unfolding slot_turn outcome
         next-stopped f stage l' used m shut =
-            let (why, place, o, kept, w) = played-stopped classed clock l outcome p f in
+            let (why, place, o, kept, w) = played-stopped clock l outcome p f in
             subst (λ x. Turned engine at_next t table buffer x buffer' stage l' used m) (sym kept)
-            (ends engine at_next t table buffer at-refusal (refusal_text why (line_of classed l place)) buffer' stage l' used n m
-            (at_slot ∙ ap (slot_turn classed (state_of table).clock l t (from lines (drop i t))) o)
+            (ends engine at_next t table buffer at-refusal (refusal_text why (line_of l place)) buffer' stage l' used n m
+            (at_slot ∙ ap (slot_turn (state_of table).clock l t (from lines (drop i t))) o)
             sized w shut)
 
-        pub next-ran : r ≡ Ran n → Turned engine at_next t table buffer table' buffer' (Playing classed) (l + lines) i n
+        pub next-ran : r ≡ Ran n → Turned engine at_next t table buffer table' buffer' Playing (l + lines) i n
         unfolding slot_turn outcome state_of clock_in
         next-ran f =
-            let (x, o, made, w) = played-ran classed clock l outcome p f in
+            let (x, o, made, w) = played-ran clock l outcome p f in
             let ran : (machine_of engine).slot (state_of table) ahead.rs ≡ done x =
             ap (λ rs. (machine_of engine).slot (state_of table) rs) (sym same-arrivals) ∙ o in
             let less = block_size.1 in
-            plays engine at_next t table buffer (line Slot (clock_in table) ++ departures_text classed x.0) buffer' table' classed
-            x.1 (l + lines) i n
-            (at_slot ∙ ap (slot_turn classed (clock_in table) l t (from lines (drop i t))) o)
+            plays engine at_next t table buffer (line Slot (clock_in table) ++ departures_text x.0) buffer' table' x.1
+            (l + lines) i n
+            (at_slot ∙ ap (slot_turn (clock_in table) l t (from lines (drop i t))) o)
             ahead.within
             (went engine (state_of table) (table-sound engine table good) ahead.rs block-fits ran).good made
             (omega (arith, (ticks-of engine).rises (state_of table) ahead.rs ran))
-            (subst (λ k. Wrote (line Slot k ++ departures_text classed x.0) buffer buffer' n) here w)
+            (subst (λ k. Wrote (line Slot k ++ departures_text x.0) buffer buffer' n) here w)

@@ -3,7 +3,7 @@
 --     Closed                            what the last turn answers
 --     table_taken, SlotLeft              what a slot leaves
 --     slot_text, played_of, SlotPlayed    what a block's slot writes and answers
-use Rattle.std.specs.Prelude.{ℕ, Bool, List, ◌++◌, ◌≡◌, length, take}
+use Rattle.std.specs.Prelude.{ℕ, List, ◌++◌, ◌≡◌, length, take}
 use Rattle.std.proofs.Math.Option.{Option}
 use Rattle.cell.specs.declared.Cell.{Cell}
 use Rattle.cell.specs.declared.Fault.{Fault}
@@ -50,16 +50,16 @@ pub record SlotLeft (o : Outcome (List (Option Cell) × Switch)) (table : List �
       → take departures_size answer' ≡ departures_bytes port_limit x.0
 
 -- what the slot of the block at line l comes to, as text
-unfoldable pub slot_text : Bool → ℕ → ℕ → Outcome (List (Option Cell) × Switch) → List ℕ
-slot_text classed clock l (refused r place) = refusal_text r (line_of classed l place)
-slot_text classed clock l (done x) = line Slot clock ++ departures_text classed x.0
+unfoldable pub slot_text : ℕ → ℕ → Outcome (List (Option Cell) × Switch) → List ℕ
+slot_text clock l (refused r place) = refusal_text r (line_of l place)
+slot_text clock l (done x) = line Slot clock ++ departures_text x.0
 
-unfoldable pub played_of : Bool → ℕ → ℕ → Outcome (List (Option Cell) × Switch) → Played
-played_of classed clock l (refused r place) = Stopped (length (slot_text classed clock l (refused r place)))
-played_of classed clock l (done x) = Ran (length (slot_text classed clock l (done x)))
+unfoldable pub played_of : ℕ → ℕ → Outcome (List (Option Cell) × Switch) → Played
+played_of clock l (refused r place) = Stopped (length (slot_text clock l (refused r place)))
+played_of clock l (done x) = Ran (length (slot_text clock l (done x)))
 
-pub record SlotPlayed (o : Outcome (List (Option Cell) × Switch)) (classed : Bool) (clock l : ℕ)
-    (table buffer table' buffer' : List ℕ) (r : Played) : Type 0 where
-  pub result : r ≡ played_of classed clock l o
-  pub bytes : buffer' ≡ filled (slot_text classed clock l o) buffer
+pub record SlotPlayed (o : Outcome (List (Option Cell) × Switch)) (clock l : ℕ) (table buffer table' buffer' : List ℕ)
+    (r : Played) : Type 0 where
+  pub result : r ≡ played_of clock l o
+  pub bytes : buffer' ≡ filled (slot_text clock l o) buffer
   pub switch : table' ≡ table_taken table o

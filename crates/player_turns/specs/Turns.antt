@@ -31,29 +31,29 @@ TableOf Oq table = IsTable table × (all_buffered (state_of table) ≡ true)
 
 unfoldable pub standing : Stage → ℕ → List ℕ → Standing
 standing Opening l table = opening
-standing (Playing classed) l table = playing classed l (state_of table)
+standing Playing l table = playing l (state_of table)
 standing Ended l table = ended
 standing TurnedBack l table = turned_back
 
 -- the number of the next line, where the player stands; at an end there is none, and 0 stands for it
 unfoldable pub line_at : Standing → ℕ
 line_at opening = 1
-line_at (playing classed l s) = l
+line_at (playing l s) = l
 line_at ended = 0
 line_at turned_back = 0
 
--- The table has its size, and while the player plays it is a table of the engine. A block has at most 97 lines
+-- The table has its size, and while the player plays it is a table of the engine. A block has at most 81 lines
 -- and moves the clock on by one: so a line's number stays far below the largest of 64 bits.
 pub record Stands (engine : Engine) (stage : Stage) (l : ℕ) (table : List ℕ) : Type 0 where
   pub size : length table ≡ table_size
   pub number : l ≡ line_at (standing stage l table)
-  pub good : (classed : Bool) → stage ≡ Playing classed → TableOf engine table
-  pub few : (classed : Bool) → stage ≡ Playing classed → l ≤ 4 + block_lines * clock_in table
+  pub good : stage ≡ Playing → TableOf engine table
+  pub few : stage ≡ Playing → l ≤ 3 + block_lines * clock_in table
 
 -- the table once the player stands there: that of its switch; before the header and at the end it is kept
 unfoldable pub table_then : Standing → List ℕ → List ℕ
 table_then opening table = table
-table_then (playing classed l s) table = encode s
+table_then (playing l s) table = encode s
 table_then ended table = table
 table_then turned_back table = table
 

@@ -2,6 +2,7 @@
 // text that is there so far, the bytes of the table and a buffer, and keeps the stage and the number of the next line
 // between the turns. Its theorems are on the definitions: both switches write the text that the PIFO switch would, and
 // turn by turn it is the same text however the trace arrives.
+#![tactic(auto)]
 ghost use Rattle.std.specs.Prelude.{◌≡◌, ◌+◌, ◌*◌, ◌≤◌, length, take};
 ghost use Rattle.trace.specs.Flat.{arrivals_from};
 ghost use Rattle.trace.specs.Piece.{next_in, header_in};
@@ -21,8 +22,8 @@ use layout::HELD;
 use layout_table::header::write_fresh;
 use trace::{Answer, Key, Opening};
 
-// What one turn can write at most: the line of a slot, and sixteen departures of at most six lines.
-const TURN_ROOM: usize = 16 + layout::PORTS * 93;
+// What one turn can write at most: the line of a slot, and sixteen departures of five lines.
+const TURN_ROOM: usize = 16 + layout::PORTS * 76;
 
 // Which switch plays the slots.
 #[derive(Drop)]
@@ -31,12 +32,12 @@ pub enum Engine {
     Oq,
 }
 
-// Where the player stands: before the header; before a block or the end, in a trace of the second form or not; or
-// behind all that it writes, where the trace was played to its end or was turned back.
+// Where the player stands: before the header; before a block or the end; or behind all that it writes, where the trace
+// was played to its end or was turned back.
 #[derive(Drop)]
 pub enum Stage {
     Opening,
-    Playing(bool),
+    Playing,
     Ended,
     TurnedBack,
 }
@@ -76,7 +77,7 @@ pub fn take_turn(
 {
     match stage {
         Stage::Opening => header_turn(text, last, table, out),
-        Stage::Playing(classed) => next_turn(engine, classed, line, text, last, table, out),
+        Stage::Playing => next_turn(engine, line, text, last, table, out),
         Stage::Ended => over(Stage::Ended, 0),
         Stage::TurnedBack => over(Stage::TurnedBack, 0),
     }
@@ -137,12 +138,12 @@ fn header_turn(text: &[u8], last: bool, table: &mut [u8], out: &mut [u8]) -> Tur
         result.stage result.line result.used result.written }
 {
     match trace_reader::read_header(text, last) {
-        Opening::Open(classed, ports, first, used) => {
+        Opening::Open(ports, first, used) => {
             write_fresh(Switch::fresh(ports, first), table);
-            let written = player_lines::put_header(out, classed, ports, first);
+            let written = player_lines::put_header(out, ports, first);
             Turn {
-                stage: Stage::Playing(classed),
-                line: trace_reader::slots_line(classed) as usize,
+                stage: Stage::Playing,
+                line: 3,
                 used,
                 written,
             }
@@ -163,7 +164,6 @@ fn header_turn(text: &[u8], last: bool, table: &mut [u8], out: &mut [u8]) -> Tur
 // The turn at a block or the end.
 fn next_turn(
     engine: Engine,
-    classed: bool,
     line: usize,
     text: &[u8],
     last: bool,
@@ -171,21 +171,21 @@ fn next_turn(
     out: &mut [u8],
 ) -> Turn
     requires table_of { TableOf engine table.old }
-    requires line_bound { line ≤ 4 + block_lines * clock_in table.old }
+    requires line_bound { line ≤ 3 + block_lines * clock_in table.old }
     requires turn_room_in_bounds { turn_room ≤ length out.old }
     ensures { Turned engine
-        (next_turn (machine_of engine) classed line (state_of table.old) text.now
-        (next_in last classed (clock_in table.old) text.now))
+        (next_turn (machine_of engine) line (state_of table.old) text.now
+        (next_in last (clock_in table.old) text.now))
         text.now table.old out.old table.new out.new
         result.stage result.line result.used result.written }
 {
     let clock = layout_table::header::clock_of(table);
     let mut numbers = [0u32; trace::NUMBERS];
-    match trace_reader::read_block(text, classed, clock, last, &mut numbers) {
+    match trace_reader::read_block(text, clock, last, &mut numbers) {
         Answer::Slot(count, used, lines) => {
-            match play_slot(engine, classed, line, clock, count, &numbers, table, out) {
+            match play_slot(engine, line, clock, count, &numbers, table, out) {
                 Played::Ran(written) => Turn {
-                    stage: Stage::Playing(classed),
+                    stage: Stage::Playing,
                     line: line + lines as usize,
                     used,
                     written,
@@ -207,7 +207,7 @@ fn next_turn(
             over(Stage::TurnedBack, written)
         }
         Answer::More => Turn {
-            stage: Stage::Playing(classed),
+            stage: Stage::Playing,
             line,
             used: 0,
             written: 0,
@@ -227,10 +227,9 @@ fn over(stage: Stage, written: usize) -> Turn
     }
 }
 
-// Runs the slot of a block, and writes its lines; or writes the refusal. Of the numbers six for each arrival count.
+// Runs the slot of a block, and writes its lines; or writes the refusal. Of the numbers five for each arrival count.
 fn play_slot(
     engine: Engine,
-    classed: bool,
     line: usize,
     clock: u32,
     count: u32,
@@ -239,12 +238,12 @@ fn play_slot(
     out: &mut [u8],
 ) -> Played
     requires table_of { TableOf engine table.old }
-    requires clock_value { (clock ≡ clock_in table.old) × (line ≤ 4 + block_lines * clock) }
+    requires clock_value { (clock ≡ clock_in table.old) × (line ≤ 3 + block_lines * clock) }
     requires numbers_len { (length numbers.now ≡ block_numbers) × (count ≤ block_limit) }
     requires turn_room_in_bounds { turn_room ≤ length out.old }
     ensures { SlotPlayed
         ((machine_of engine).slot (state_of table.old) (arrivals_from count numbers.now))
-        classed clock line table.old out.old table.new out.new result }
+        clock line table.old out.old table.new out.new result }
 {
     let many = count as usize;
     let records = player_lines::records_of(numbers, many);
@@ -255,10 +254,10 @@ fn play_slot(
                 out,
                 0,
                 refusal,
-                player_lines::line_of(classed, line, place),
+                player_lines::line_of(line, place),
             ))
         }
-        Fault::Clear => Played::Ran(player_lines::put_slot(out, classed, clock, &answer)),
+        Fault::Clear => Played::Ran(player_lines::put_slot(out, clock, &answer)),
     }
 }
 

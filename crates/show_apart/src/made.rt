@@ -4,12 +4,12 @@ ghost use Rattle.std.specs.Prelude.{◌<◌};
 use crate::stage::show_fair;
 
 // Rows for 200 calls of eight arrivals. Those that are not filled name a call that never comes.
-type Rows = [[u32; 7]; 1600];
+type Rows = [[u32; 6]; 1600];
 
 const NEVER: u32 = 4294967295;
 
 pub(crate) fn show_all() {
-    let mut rows = [[NEVER; 7]; 1600];
+    let mut rows = [[NEVER; 6]; 1600];
     crowd_rows(&mut rows);
     show_made(b"64th cell: ", 2, 0, 64, &rows);
     show_made(b"65th cell: ", 2, 0, 133, &rows);
@@ -31,15 +31,6 @@ pub(crate) fn show_all() {
         400,
         &rows,
     );
-    class_rows(&mut rows);
-    show_made(b"200 slots of four classes: ", 16, 0, 400, &rows);
-    show_made(
-        b"200 slots of four classes, 8 outputs fair: ",
-        16,
-        21845,
-        400,
-        &rows,
-    );
 }
 
 // Input 1 keeps output 0 busy, so that the cells of input 0 stay: the 64th passes in call 63. A 65th is turned back
@@ -49,7 +40,7 @@ fn crowd_rows(rows: &mut Rows) {
     while k < 132 {
         let call = (k / 2 + k / 130) as u32;
         let input = (k % 2) as u32;
-        let row = [call, input, 0, 0, 0, 9 - 9 * input, call];
+        let row = [call, input, 0, 0, 9 - 9 * input, call];
         rows[k] = row;
         k += 1;
     }
@@ -66,7 +57,6 @@ fn equal_rows(rows: &mut Rows) {
             (k % 16) as u32,
             drawn % 4,
             drawn / 4 % 8,
-            0,
             7,
             k as u32,
         ];
@@ -87,23 +77,11 @@ fn load_rows(rows: &mut Rows) {
     }
 }
 
-// The rows have classes. Of 129 one is 4, which turns the slot back.
-fn class_rows(rows: &mut Rows) {
-    let mut seed = 2;
-    let mut k: usize = 0;
-    while k < 1600 {
-        let mut row = rows[k];
-        row[4] = draw(&mut seed) % 129 / 32;
-        rows[k] = row;
-        k += 1;
-    }
-}
-
 // Eight arrivals in a call.
-pub(crate) fn load(seed: &mut u32, call: u32) -> [[u32; 7]; 8]
+pub(crate) fn load(seed: &mut u32, call: u32) -> [[u32; 6]; 8]
     requires { call < 200 }
 {
-    let mut rows = [[NEVER; 7]; 8];
+    let mut rows = [[NEVER; 6]; 8];
     let mut k: usize = 0;
     while k < 8 {
         let row = load_row(seed, call, k as u32);
@@ -114,7 +92,7 @@ pub(crate) fn load(seed: &mut u32, call: u32) -> [[u32; 7]; 8]
 }
 
 // An arrival at one of two inputs. Of 129 flows one is 8, which turns the slot back.
-fn load_row(seed: &mut u32, call: u32, pair: u32) -> [u32; 7]
+fn load_row(seed: &mut u32, call: u32, pair: u32) -> [u32; 6]
     requires call_bound { call < 200 }
     requires pair_bound { pair < 8 }
 {
@@ -122,7 +100,7 @@ fn load_row(seed: &mut u32, call: u32, pair: u32) -> [u32; 7]
     let output = load_output(draw(seed));
     let flow = draw(seed) % 129 / 16;
     let rank = 2 * call + (7 * input + 5 * output + 11 * flow) % 64;
-    [call, input, output, flow, 0, rank, 8 * call + pair]
+    [call, input, output, flow, rank, 8 * call + pair]
 }
 
 fn load_output(drawn: u32) -> u32

@@ -2,6 +2,7 @@
 // against a shadow switch that was written apart: a line for each show, with what came of each call. A slot call that
 // is turned back has its number and the record's place (0 where no record is at fault), a call of cues its number
 // alone, and the calls after it go on as if it had not been.
+#![tactic(auto)]
 mod made;
 mod rehearsal;
 mod say;
@@ -24,7 +25,6 @@ fn main() {
     ranks();
     matchings();
     weights();
-    classes();
     made::show_all();
     rehearsal::show_all();
 }
@@ -47,14 +47,14 @@ fn starts() {
     wrong::show_start(b"start with 17 ports: ", 17, 0, FAIR_BYTES - 1);
     wrong::show_start(b"start with output 2 of 2 fair: ", 2, 4, FAIR_BYTES - 1);
     wrong::show_start(b"start with a mark at 31: ", 16, 2147483648, FAIR_BYTES);
-    wrong::show_start(b"start in 49447 bytes: ", 2, 3, FAIR_BYTES - 1);
+    wrong::show_start(b"start in 24679 bytes: ", 2, 3, FAIR_BYTES - 1);
 }
 
 // 2 comes before 10.
 fn lent() {
     wrong::show_slot(b"table of 0 ports: ", 0, 0, ANSWER_BYTES, TALLY_BYTES);
     wrong::show_slot(
-        b"arrivals of 23 bytes: ",
+        b"arrivals of 19 bytes: ",
         2,
         ARRIVAL_BYTES - 1,
         ANSWER_BYTES - 1,
@@ -68,7 +68,7 @@ fn lent() {
         TALLY_BYTES - 1,
     );
     wrong::show_slot(
-        b"answer of 647 bytes: ",
+        b"answer of 583 bytes: ",
         2,
         0,
         ANSWER_BYTES - 1,
@@ -78,7 +78,7 @@ fn lent() {
 
 // 3, in the first slot and after the last.
 fn clock_end() {
-    let rows = [[0, 0, 1, 0, 0, 5, 1], [1, 1, 1, 0, 0, 5, 2]];
+    let rows = [[0, 0, 1, 0, 5, 1], [1, 1, 1, 0, 5, 2]];
     show(b"first slot 4294967295: ", 2, 4294967295, 2, &rows, true);
     show(b"first slot 4294967294: ", 2, 4294967294, 3, &rows, true);
 }
@@ -87,42 +87,30 @@ fn clock_end() {
 fn records() {
     turned_back(
         b"input 2 of 2 ports: ",
-        [1, 0, 1, 0, 0, 1, 3],
-        [1, 2, 0, 0, 0, 1, 4],
+        [1, 0, 1, 0, 1, 3],
+        [1, 2, 0, 0, 1, 4],
     );
     turned_back(
         b"output 2 of 2 ports: ",
-        [1, 0, 2, 8, 0, 1, 3],
-        [1, 1, 0, 0, 0, 1, 4],
+        [1, 0, 2, 8, 1, 3],
+        [1, 1, 0, 0, 1, 4],
     );
-    turned_back(b"flow 8: ", [1, 0, 1, 8, 0, 1, 3], [1, 2, 1, 0, 0, 1, 4]);
-    turned_back(
-        b"input 1 twice: ",
-        [1, 1, 1, 0, 0, 1, 3],
-        [1, 1, 1, 1, 0, 1, 4],
-    );
+    turned_back(b"flow 8: ", [1, 0, 1, 8, 1, 3], [1, 2, 1, 0, 1, 4]);
+    turned_back(b"input 1 twice: ", [1, 1, 1, 0, 1, 3], [1, 1, 1, 1, 1, 4]);
 }
 
 // 7: rank 5 of input 0 waits.
 fn ranks() {
-    turned_back(
-        b"rank 4 after 5: ",
-        [1, 0, 0, 0, 0, 4, 3],
-        [1, 1, 1, 0, 0, 1, 4],
-    );
-    turned_back(
-        b"rank 5 after 5: ",
-        [1, 0, 0, 0, 0, 5, 3],
-        [1, 1, 1, 0, 0, 1, 4],
-    );
+    turned_back(b"rank 4 after 5: ", [1, 0, 0, 0, 4, 3], [1, 1, 1, 0, 1, 4]);
+    turned_back(b"rank 5 after 5: ", [1, 0, 0, 0, 5, 3], [1, 1, 1, 0, 1, 4]);
 }
 
 // Rank 5 of input 0 and rank 3 of input 1 come for output 0, then the two given records in call 1, then a cell for
 // output 1.
-fn turned_back(name: &[u8], first: [u32; 7], second: [u32; 7]) {
-    let before = [0, 0, 0, 0, 0, 5, 1];
-    let with = [0, 1, 0, 0, 0, 3, 2];
-    let after = [2, 0, 1, 0, 0, 6, 5];
+fn turned_back(name: &[u8], first: [u32; 6], second: [u32; 6]) {
+    let before = [0, 0, 0, 0, 5, 1];
+    let with = [0, 1, 0, 0, 3, 2];
+    let after = [2, 0, 1, 0, 6, 5];
     let rows = [before, with, first, second, after];
     show(name, 2, 0, 5, &rows, true);
 }
@@ -160,185 +148,135 @@ fn weights() {
     show_fair(b"no weights: ", 2, 0, 1, 8, &NO_WEIGHTS, true);
 }
 
-// Classes before ranks; 16, and in which order it comes; flows and made ranks of each class by themselves.
-fn classes() {
-    show(b"a safety call passes music: ", 2, 0, 4, &SAFETY, true);
-    show(b"ranks of two classes: ", 2, 0, 5, &TWO_CLASSES, true);
-    show(b"class 4: ", 2, 0, 6, &NO_CLASS, true);
-    show_fair(
-        b"ranks made in each class: ",
-        2,
-        0,
-        1,
-        5,
-        &CLASS_WEIGHTS,
-        true,
-    );
-}
-
-// Rank 9 of class 0 leaves before rank 0 of class 1; then classes 1, 2 and 3 leave in their order.
-const SAFETY: [[u32; 7]; 4] = [
-    [0, 0, 0, 0, 1, 0, 1],
-    [0, 1, 0, 0, 0, 9, 2],
-    [1, 0, 0, 0, 3, 0, 3],
-    [1, 1, 0, 0, 2, 5, 4],
-];
-
-// Rank 8 of class 2 falls behind no cell of its class, though rank 9 of class 1 waits; then rank 7 of class 2 falls.
-const TWO_CLASSES: [[u32; 7]; 4] = [
-    [0, 0, 0, 3, 1, 9, 1],
-    [0, 1, 0, 3, 0, 0, 2],
-    [1, 0, 0, 3, 2, 8, 3],
-    [2, 0, 0, 3, 2, 7, 4],
-];
-
-// 16 comes behind 4 and 5 and before 6; class 3 passes.
-const NO_CLASS: [[u32; 7]; 6] = [
-    [0, 0, 2, 8, 4, 0, 1],
-    [1, 0, 0, 8, 4, 0, 2],
-    [2, 0, 0, 7, 4, 0, 3],
-    [3, 1, 0, 0, 0, 0, 4],
-    [3, 1, 0, 0, 4, 0, 5],
-    [4, 0, 0, 7, 3, 5, 6],
-];
-
-// Class 1 begins from nothing where class 0 has left 1,024.
-const CLASS_WEIGHTS: [[u32; 7]; 4] = [
-    [0, 0, 0, 0, 0, 1024, 1],
-    [0, 1, 0, 0, 1, 1, 2],
-    [1, 0, 0, 0, 1, 1024, 3],
-    [2, 0, 0, 0, 0, 1024, 4],
-];
-
 // Input 0 goes on from its own last rank or from the one that left, whichever is larger; so does its flow 1.
-const WEIGHTS: [[u32; 7]; 6] = [
-    [0, 0, 0, 0, 0, 1024, 1],
-    [0, 1, 0, 0, 0, 1, 2],
-    [1, 0, 0, 0, 0, 1024, 3],
-    [2, 0, 0, 1, 0, 3, 4],
-    [4, 0, 0, 1, 0, 1024, 5],
-    [5, 1, 0, 0, 0, 7, 6],
+const WEIGHTS: [[u32; 6]; 6] = [
+    [0, 0, 0, 0, 1024, 1],
+    [0, 1, 0, 0, 1, 2],
+    [1, 0, 0, 0, 1024, 3],
+    [2, 0, 0, 1, 3, 4],
+    [4, 0, 0, 1, 1024, 5],
+    [5, 1, 0, 0, 7, 6],
 ];
 
 // In call 1 the rank of input 1 falls at output 0; at output 1 weights may.
-const ONE_FAIR: [[u32; 7]; 8] = [
-    [0, 0, 0, 0, 0, 9, 1],
-    [0, 1, 0, 0, 0, 2000, 2],
-    [1, 0, 1, 0, 0, 9, 3],
-    [1, 1, 0, 0, 0, 9, 4],
-    [2, 0, 1, 0, 0, 9, 5],
-    [2, 1, 1, 0, 0, 20, 6],
-    [3, 0, 1, 0, 0, 5, 7],
-    [3, 1, 1, 0, 0, 3, 8],
+const ONE_FAIR: [[u32; 6]; 8] = [
+    [0, 0, 0, 0, 9, 1],
+    [0, 1, 0, 0, 2000, 2],
+    [1, 0, 1, 0, 9, 3],
+    [1, 1, 0, 0, 9, 4],
+    [2, 0, 1, 0, 9, 5],
+    [2, 1, 1, 0, 20, 6],
+    [3, 0, 1, 0, 5, 7],
+    [3, 1, 1, 0, 3, 8],
 ];
 
 // 0 and 1,025 are no weights: 14 behind 5 and 6, and nothing is remembered of a slot that is turned back.
-const NO_WEIGHTS: [[u32; 7]; 10] = [
-    [0, 0, 0, 0, 0, 2, 1],
-    [1, 0, 0, 0, 0, 0, 2],
-    [2, 0, 0, 0, 0, 4, 3],
-    [2, 1, 0, 0, 0, 1025, 4],
-    [3, 0, 0, 8, 0, 0, 5],
-    [4, 1, 0, 0, 0, 2, 6],
-    [4, 1, 0, 1, 0, 0, 7],
-    [5, 0, 0, 0, 0, 4, 8],
-    [5, 1, 1, 0, 0, 0, 9],
-    [6, 0, 0, 0, 0, 4294967295, 10],
+const NO_WEIGHTS: [[u32; 6]; 10] = [
+    [0, 0, 0, 0, 2, 1],
+    [1, 0, 0, 0, 0, 2],
+    [2, 0, 0, 0, 4, 3],
+    [2, 1, 0, 0, 1025, 4],
+    [3, 0, 0, 8, 0, 5],
+    [4, 1, 0, 0, 2, 6],
+    [4, 1, 0, 1, 0, 7],
+    [5, 0, 0, 0, 4, 8],
+    [5, 1, 1, 0, 0, 9],
+    [6, 0, 0, 0, 4294967295, 10],
 ];
 
 // In slot 1 both cells are matched: rank 4, which is urgent, loses to rank 3, and goes straight in the second phase.
-const SEVERAL: [[u32; 7]; 5] = [
-    [0, 0, 0, 0, 0, 9, 1],
-    [0, 1, 0, 0, 0, 1, 2],
-    [0, 2, 0, 0, 0, 2, 3],
-    [1, 0, 0, 1, 0, 4, 4],
-    [1, 1, 0, 0, 0, 3, 5],
+const SEVERAL: [[u32; 6]; 5] = [
+    [0, 0, 0, 0, 9, 1],
+    [0, 1, 0, 0, 1, 2],
+    [0, 2, 0, 0, 2, 3],
+    [1, 0, 0, 1, 4, 4],
+    [1, 1, 0, 0, 3, 5],
 ];
 
 // Two flows of a pair: in slot 2 ranks 6 and 3 of input 2 for output 0 are urgent at once, rank 6 first in the list.
-const PAIR: [[u32; 7]; 11] = [
-    [0, 0, 0, 0, 0, 7, 1],
-    [0, 1, 0, 0, 0, 3, 2],
-    [0, 2, 0, 0, 0, 8, 3],
-    [0, 3, 0, 0, 0, 7, 4],
-    [1, 1, 0, 1, 0, 2, 5],
-    [1, 2, 0, 1, 0, 3, 6],
-    [1, 3, 0, 1, 0, 1, 7],
-    [2, 0, 0, 1, 0, 4, 8],
-    [2, 2, 0, 2, 0, 6, 9],
-    [2, 3, 0, 2, 0, 5, 10],
-    [3, 2, 1, 0, 0, 9, 11],
+const PAIR: [[u32; 6]; 11] = [
+    [0, 0, 0, 0, 7, 1],
+    [0, 1, 0, 0, 3, 2],
+    [0, 2, 0, 0, 8, 3],
+    [0, 3, 0, 0, 7, 4],
+    [1, 1, 0, 1, 2, 5],
+    [1, 2, 0, 1, 3, 6],
+    [1, 3, 0, 1, 1, 7],
+    [2, 0, 0, 1, 4, 8],
+    [2, 2, 0, 2, 6, 9],
+    [2, 3, 0, 2, 5, 10],
+    [3, 2, 1, 0, 9, 11],
 ];
 
 // In slot 1 rank 4 is urgent, and loses to scheduled cells that stand first in their lists: to rank 2, and then, at
 // the crosspoint, to rank 3.
-const SCHEDULED: [[u32; 7]; 6] = [
-    [0, 0, 0, 0, 0, 9, 1],
-    [0, 1, 0, 0, 0, 0, 2],
-    [0, 2, 0, 0, 0, 1, 3],
-    [1, 0, 0, 1, 0, 4, 4],
-    [1, 1, 0, 0, 0, 2, 5],
-    [1, 2, 0, 0, 0, 3, 6],
+const SCHEDULED: [[u32; 6]; 6] = [
+    [0, 0, 0, 0, 9, 1],
+    [0, 1, 0, 0, 0, 2],
+    [0, 2, 0, 0, 1, 3],
+    [1, 0, 0, 1, 4, 4],
+    [1, 1, 0, 0, 2, 5],
+    [1, 2, 0, 0, 3, 6],
 ];
 
 // The cell of the smaller slot; in slot 1 input 1 goes before input 0.
-const EQUAL: [[u32; 7]; 5] = [
-    [0, 0, 0, 0, 0, 1, 1],
-    [0, 2, 0, 0, 0, 4, 2],
-    [1, 0, 0, 0, 0, 4, 3],
-    [1, 1, 0, 0, 0, 4, 4],
-    [2, 0, 0, 1, 0, 4, 5],
+const EQUAL: [[u32; 6]; 5] = [
+    [0, 0, 0, 0, 1, 1],
+    [0, 2, 0, 0, 4, 2],
+    [1, 0, 0, 0, 4, 3],
+    [1, 1, 0, 0, 4, 4],
+    [2, 0, 0, 1, 4, 5],
 ];
 
 // Three cells of equal rank in each of slots 0 to 8. Those of a slot leave from input slot mod 3 on, also in later slots.
-const TURNS: [[u32; 7]; 27] = [
-    [0, 0, 0, 0, 0, 4, 0],
-    [0, 1, 0, 0, 0, 4, 1],
-    [0, 2, 0, 0, 0, 4, 2],
-    [1, 0, 0, 0, 0, 4, 3],
-    [1, 1, 0, 0, 0, 4, 4],
-    [1, 2, 0, 0, 0, 4, 5],
-    [2, 0, 0, 0, 0, 4, 6],
-    [2, 1, 0, 0, 0, 4, 7],
-    [2, 2, 0, 0, 0, 4, 8],
-    [3, 0, 0, 0, 0, 4, 9],
-    [3, 1, 0, 0, 0, 4, 10],
-    [3, 2, 0, 0, 0, 4, 11],
-    [4, 0, 0, 0, 0, 4, 12],
-    [4, 1, 0, 0, 0, 4, 13],
-    [4, 2, 0, 0, 0, 4, 14],
-    [5, 0, 0, 0, 0, 4, 15],
-    [5, 1, 0, 0, 0, 4, 16],
-    [5, 2, 0, 0, 0, 4, 17],
-    [6, 0, 0, 0, 0, 4, 18],
-    [6, 1, 0, 0, 0, 4, 19],
-    [6, 2, 0, 0, 0, 4, 20],
-    [7, 0, 0, 0, 0, 4, 21],
-    [7, 1, 0, 0, 0, 4, 22],
-    [7, 2, 0, 0, 0, 4, 23],
-    [8, 0, 0, 0, 0, 4, 24],
-    [8, 1, 0, 0, 0, 4, 25],
-    [8, 2, 0, 0, 0, 4, 26],
+const TURNS: [[u32; 6]; 27] = [
+    [0, 0, 0, 0, 4, 0],
+    [0, 1, 0, 0, 4, 1],
+    [0, 2, 0, 0, 4, 2],
+    [1, 0, 0, 0, 4, 3],
+    [1, 1, 0, 0, 4, 4],
+    [1, 2, 0, 0, 4, 5],
+    [2, 0, 0, 0, 4, 6],
+    [2, 1, 0, 0, 4, 7],
+    [2, 2, 0, 0, 4, 8],
+    [3, 0, 0, 0, 4, 9],
+    [3, 1, 0, 0, 4, 10],
+    [3, 2, 0, 0, 4, 11],
+    [4, 0, 0, 0, 4, 12],
+    [4, 1, 0, 0, 4, 13],
+    [4, 2, 0, 0, 4, 14],
+    [5, 0, 0, 0, 4, 15],
+    [5, 1, 0, 0, 4, 16],
+    [5, 2, 0, 0, 4, 17],
+    [6, 0, 0, 0, 4, 18],
+    [6, 1, 0, 0, 4, 19],
+    [6, 2, 0, 0, 4, 20],
+    [7, 0, 0, 0, 4, 21],
+    [7, 1, 0, 0, 4, 22],
+    [7, 2, 0, 0, 4, 23],
+    [8, 0, 0, 0, 4, 24],
+    [8, 1, 0, 0, 4, 25],
+    [8, 2, 0, 0, 4, 26],
 ];
 
 // Of equal cells of slot 15 that of input 15 goes first, then those of inputs 0, 1 and 14.
-const LAST_INPUT: [[u32; 7]; 4] = [
-    [0, 0, 0, 0, 0, 4, 1],
-    [0, 1, 0, 0, 0, 4, 2],
-    [0, 14, 0, 0, 0, 4, 3],
-    [0, 15, 0, 0, 0, 4, 4],
+const LAST_INPUT: [[u32; 6]; 4] = [
+    [0, 0, 0, 0, 4, 1],
+    [0, 1, 0, 0, 4, 2],
+    [0, 14, 0, 0, 4, 3],
+    [0, 15, 0, 0, 4, 4],
 ];
 
 // Three equal cells in each of the last three slots, whose numbers are 0, 1 and 2 mod 3; each slot has an output of its
 // own.
-const LAST_SLOTS: [[u32; 7]; 9] = [
-    [0, 0, 0, 0, 0, 4, 1],
-    [0, 1, 0, 0, 0, 4, 2],
-    [0, 2, 0, 0, 0, 4, 3],
-    [1, 0, 1, 0, 0, 4, 4],
-    [1, 1, 1, 0, 0, 4, 5],
-    [1, 2, 1, 0, 0, 4, 6],
-    [2, 0, 2, 0, 0, 4, 7],
-    [2, 1, 2, 0, 0, 4, 8],
-    [2, 2, 2, 0, 0, 4, 9],
+const LAST_SLOTS: [[u32; 6]; 9] = [
+    [0, 0, 0, 0, 4, 1],
+    [0, 1, 0, 0, 4, 2],
+    [0, 2, 0, 0, 4, 3],
+    [1, 0, 1, 0, 4, 4],
+    [1, 1, 1, 0, 4, 5],
+    [1, 2, 1, 0, 4, 6],
+    [2, 0, 2, 0, 4, 7],
+    [2, 1, 2, 0, 4, 8],
+    [2, 2, 2, 0, 4, 9],
 ];

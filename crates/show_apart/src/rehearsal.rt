@@ -73,35 +73,35 @@ pub(crate) fn show_all() {
 }
 
 // The cue holds ranks 2 and 9 of output 0, rank 9 at its crosspoint. In slot 2 that one blocks rank 4, which is urgent.
-const TWICE: [[u32; 7]; 8] = [
-    [1, 0, 0, 0, 0, 9, 1],
-    [1, 1, 0, 0, 0, 1, 2],
-    [1, 2, 0, 0, 0, 2, 3],
-    [2, 0, 0, 1, 0, 4, 4],
-    [2, 1, 0, 0, 0, 3, 5],
-    [2, 2, 1, 0, 0, 5, 6],
-    [3, 0, 2, 0, 0, 6, 7],
-    [4, 1, 1, 0, 0, 2, 8],
+const TWICE: [[u32; 6]; 8] = [
+    [1, 0, 0, 0, 9, 1],
+    [1, 1, 0, 0, 1, 2],
+    [1, 2, 0, 0, 2, 3],
+    [2, 0, 0, 1, 4, 4],
+    [2, 1, 0, 0, 3, 5],
+    [2, 2, 1, 0, 5, 6],
+    [3, 0, 2, 0, 6, 7],
+    [4, 1, 1, 0, 2, 8],
 ];
 
 // All are for output 0, which sends them by rank: what it sends after a return tells which cue that was.
-const FOUR: [[u32; 7]; 7] = [
-    [1, 0, 0, 0, 0, 1, 1],
-    [1, 1, 0, 0, 0, 2, 2],
-    [1, 2, 0, 0, 0, 3, 3],
-    [2, 0, 0, 0, 0, 4, 4],
-    [2, 1, 0, 0, 0, 5, 5],
-    [3, 0, 0, 0, 0, 8, 6],
-    [3, 2, 0, 0, 0, 6, 7],
+const FOUR: [[u32; 6]; 7] = [
+    [1, 0, 0, 0, 1, 1],
+    [1, 1, 0, 0, 2, 2],
+    [1, 2, 0, 0, 3, 3],
+    [2, 0, 0, 0, 4, 4],
+    [2, 1, 0, 0, 5, 5],
+    [3, 0, 0, 0, 8, 6],
+    [3, 2, 0, 0, 6, 7],
 ];
 
 // Two cells for the last slot that can run.
-const LAST: [[u32; 7]; 2] = [[1, 0, 1, 0, 0, 5, 1], [1, 1, 1, 0, 0, 6, 2]];
+const LAST: [[u32; 6]; 2] = [[1, 0, 1, 0, 5, 1], [1, 1, 1, 0, 6, 2]];
 
 // A rehearsal on a fresh switch, told aloud. The calls are a text, with a comma between two: `set`, `drop` or `return`
 // with a name, or `slot` with a digit. A slot has the arrivals of the rows that begin with its digit, and none does
 // with 0.
-fn rehearse(name: &[u8], ports: u32, first: u32, fair: u32, calls: &[u8], rows: &[[u32; 7]]) {
+fn rehearse(name: &[u8], ports: u32, first: u32, fair: u32, calls: &[u8], rows: &[[u32; 6]]) {
     let mut table = [0u8; FAIR_BYTES];
     let mut store = [0u8; STORE_BYTES];
     let mut tally = [0u8; TALLY_BYTES];
@@ -154,7 +154,7 @@ fn play(
     names: &mut Names,
     held: &mut Held,
     calls: &[u8],
-    rows: &[[u32; 7]],
+    rows: &[[u32; 6]],
 ) -> bool {
     let mut same = true;
     let mut at = 0;
@@ -199,7 +199,7 @@ fn take_call(
     names: &mut Names,
     held: &mut Held,
     call: &[u8],
-    rows: &[[u32; 7]],
+    rows: &[[u32; 6]],
 ) -> bool {
     if begins(call, b"slot ") {
         return slot(table, tally, shadow, digit(after(call, 5)), rows);
@@ -247,7 +247,7 @@ fn slot(
     tally: &mut Tally,
     shadow: &mut Shadow,
     number: u32,
-    rows: &[[u32; 7]],
+    rows: &[[u32; 6]],
 ) -> bool {
     let start = start_of(rows, number);
     let end = end_of(rows, start, number);

@@ -47,11 +47,7 @@ fn say_departure(answer: &Answer, at: usize, after: bool)
     if after {
         say(b" and ");
     }
-    if read_u32(answer, at + 16) != 0 {
-        tell_word(b"class ", answer, at + 16);
-        say(b" ");
-    }
-    tell_word(b"rank ", answer, at + 20);
+    tell_word(b"rank ", answer, at + 16);
     tell_word(b" from ", answer, at + 4);
     tell_word(b" to ", answer, at + 8);
 }

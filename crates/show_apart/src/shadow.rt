@@ -4,25 +4,25 @@
 ghost use Rattle.std.specs.Prelude.{◌<◌};
 
 // A shadow switch has 2,048 places for cells, its number of ports, its clock, and how many places have been taken; the
-// marks of its fair outputs, the last rank of each of four classes that each of sixteen outputs sent, and the last that
-// each of 8,192 flows was given. A cell that has left leaves its place unused.
-pub(crate) type Shadow = [u32; 24644];
+// marks of its fair outputs, the last rank that each of sixteen outputs sent, and the last that each of 2,048 flows was
+// given. A cell that has left leaves its place unused.
+pub(crate) type Shadow = [u32; 16404];
 
 const PLACES: usize = 2048;
 
-const PORTS: usize = 16384;
+const PORTS: usize = 14336;
 
-const CLOCK: usize = 16385;
+const CLOCK: usize = 14337;
 
-const USED: usize = 16386;
+const USED: usize = 14338;
 
-const FAIR: usize = 16387;
+const FAIR: usize = 14339;
 
-const LEFT: usize = 16388;
+const LEFT: usize = 14340;
 
-const GIVEN: usize = 16452;
+const GIVEN: usize = 14356;
 
-// The eight numbers of a place: 1 if a cell waits there, else 0; then the cell, with its tag before its slot.
+// The seven numbers of a place: 1 if a cell waits there, else 0; then the cell, with its tag before its slot.
 const WAITS: usize = 0;
 
 const INPUT: usize = 1;
@@ -31,15 +31,13 @@ const OUTPUT: usize = 2;
 
 const FLOW: usize = 3;
 
-const CLASS: usize = 4;
+const RANK: usize = 4;
 
-const RANK: usize = 5;
-
-const SLOT: usize = 7;
+const SLOT: usize = 6;
 
 // A switch in which no cell waits. Bit o of `fair` marks output o.
 pub(crate) fn fresh(ports: u32, first: u32, fair: u32) -> Shadow {
-    let mut shadow = [0; 24644];
+    let mut shadow = [0; 16404];
     shadow[PORTS] = ports;
     shadow[CLOCK] = first;
     shadow[FAIR] = fair;
@@ -51,10 +49,10 @@ pub(crate) fn clock(shadow: &Shadow) -> u32 {
     shadow[CLOCK]
 }
 
-// Takes a slot. A record is the number of the call, which is not looked at, then input, output, flow, class, rank and
-// tag. The result is 0, or the number of the refusal and 32 times the record's place. What each of sixteen outputs sends
-// goes into `sent`, in the eight numbers of a place.
-pub(crate) fn slot(shadow: &mut Shadow, records: &[[u32; 7]], sent: &mut [u32; 128]) -> u64 {
+// Takes a slot. A record is the number of the call, which is not looked at, then input, output, flow, rank and tag.
+// The result is 0, or the number of the refusal and 16 times the record's place. What each of sixteen outputs sends
+// goes into `sent`, in the seven numbers of a place.
+pub(crate) fn slot(shadow: &mut Shadow, records: &[[u32; 6]], sent: &mut [u32; 112]) -> u64 {
     let clock = shadow[CLOCK];
     if 4294967295 <= clock {
         return 3;
@@ -69,15 +67,15 @@ pub(crate) fn slot(shadow: &mut Shadow, records: &[[u32; 7]], sent: &mut [u32; 1
 }
 
 // The first record at fault, by the cells that wait before the slot.
-fn first_fault(shadow: &Shadow, records: &[[u32; 7]]) -> u64 {
-    let mut before = [0; 7];
+fn first_fault(shadow: &Shadow, records: &[[u32; 6]]) -> u64 {
+    let mut before = [0; 6];
     let mut k = 0;
     while k < records.len() {
         let record = records[k];
         let number = fault_of(shadow, record, k, before);
         k += 1;
         if number != 0 {
-            return number as u64 + 32 * k as u64;
+            return number as u64 + 16 * k as u64;
         }
         before = record;
     }
@@ -85,7 +83,7 @@ fn first_fault(shadow: &Shadow, records: &[[u32; 7]]) -> u64 {
 }
 
 // The checks of a record, in their order: 0 if it has no fault.
-fn fault_of(shadow: &Shadow, record: [u32; 7], k: usize, before: [u32; 7]) -> u8 {
+fn fault_of(shadow: &Shadow, record: [u32; 6], k: usize, before: [u32; 6]) -> u8 {
     let ports = shadow[PORTS];
     let input = record[INPUT];
     if ports <= input || ports <= record[OUTPUT] {
@@ -93,9 +91,6 @@ fn fault_of(shadow: &Shadow, record: [u32; 7], k: usize, before: [u32; 7]) -> u8
     }
     if 7 < record[FLOW] {
         return 5;
-    }
-    if 3 < record[CLASS] {
-        return 16;
     }
     if 0 < k && input <= before[INPUT] {
         return 6;
@@ -107,7 +102,7 @@ fn fault_of(shadow: &Shadow, record: [u32; 7], k: usize, before: [u32; 7]) -> u8
     if 4294967295 < rank {
         return 15;
     }
-    if falls(shadow, record, rank as u32) {
+    if falls(shadow, input, record[OUTPUT], record[FLOW], rank as u32) {
         return 7;
     }
     if 64 <= count_of(shadow, input) {
@@ -122,17 +117,17 @@ fn is_fair(shadow: &Shadow, output: u32) -> bool {
 }
 
 // The rank of a record's cell: the record's, or at a fair output the last rank that counts and the stride of the weight.
-fn rank_of(shadow: &Shadow, record: [u32; 7]) -> u64 {
+fn rank_of(shadow: &Shadow, record: [u32; 6]) -> u64 {
     if !is_fair(shadow, record[OUTPUT]) {
         return record[RANK] as u64;
     }
     last_of(shadow, record) as u64 + stride_of(record[RANK]) as u64
 }
 
-// The larger of the last rank that a record's flow was given and the last of its class that its output sent.
-fn last_of(shadow: &Shadow, record: [u32; 7]) -> u32 {
+// The larger of the last rank that a record's flow was given and the last that its output sent.
+fn last_of(shadow: &Shadow, record: [u32; 6]) -> u32 {
     let given = shadow[GIVEN + flow_of(record)];
-    let left = shadow[LEFT + left_of(record[OUTPUT], record[CLASS])];
+    let left = shadow[LEFT + (record[OUTPUT] % 16) as usize];
     if given < left {
         return left;
     }
@@ -146,30 +141,22 @@ fn stride_of(weight: u32) -> u32 {
     1048576 / weight
 }
 
-// The number of an output and a class, of outputs below 16 and classes below 4.
-fn left_of(output: u32, class: u32) -> usize
-    ensures { result < 64 }
-{
-    (4 * (output % 16) + class % 4) as usize
-}
-
-// The number of a record's flow, of inputs and outputs below 16, flows below 8 and classes below 4.
-fn flow_of(record: [u32; 7]) -> usize
-    ensures { result < 8192 }
+// The number of a record's flow, of inputs and outputs below 16 and flows below 8.
+fn flow_of(record: [u32; 6]) -> usize
+    ensures { result < 2048 }
 {
     let pair = 16 * (record[INPUT] % 16) + record[OUTPUT] % 16;
-    (4 * (8 * pair + record[FLOW] % 8) + record[CLASS] % 4) as usize
+    (8 * pair + record[FLOW] % 8) as usize
 }
 
-// Whether a cell of a record's flow waits with a higher rank than this.
-fn falls(shadow: &Shadow, record: [u32; 7], rank: u32) -> bool {
+// Whether a cell of the flow waits with a higher rank.
+fn falls(shadow: &Shadow, input: u32, output: u32, flow: u32, rank: u32) -> bool {
     let mut k = 0;
     while k < PLACES {
         if field(shadow, k, WAITS) != 0
-            && field(shadow, k, INPUT) == record[INPUT]
-            && field(shadow, k, OUTPUT) == record[OUTPUT]
-            && field(shadow, k, FLOW) == record[FLOW]
-            && field(shadow, k, CLASS) == record[CLASS]
+            && field(shadow, k, INPUT) == input
+            && field(shadow, k, OUTPUT) == output
+            && field(shadow, k, FLOW) == flow
             && rank < field(shadow, k, RANK)
         {
             return true;
@@ -193,7 +180,7 @@ fn count_of(shadow: &Shadow, input: u32) -> u32 {
 }
 
 // Each record becomes a cell that waits.
-fn accept(shadow: &mut Shadow, records: &[[u32; 7]]) {
+fn accept(shadow: &mut Shadow, records: &[[u32; 6]]) {
     let mut k = 0;
     while k < records.len() {
         take(shadow, records[k]);
@@ -202,7 +189,7 @@ fn accept(shadow: &mut Shadow, records: &[[u32; 7]]) {
 }
 
 // A record becomes a cell of the rank made, which a fair output's flow is given.
-fn take(shadow: &mut Shadow, record: [u32; 7]) {
+fn take(shadow: &mut Shadow, record: [u32; 6]) {
     let rank = rank_of(shadow, record);
     if 4294967295 < rank {
         return;
@@ -216,7 +203,7 @@ fn take(shadow: &mut Shadow, record: [u32; 7]) {
 }
 
 // A record, with the slot, at the next place.
-fn store(shadow: &mut Shadow, record: [u32; 7]) {
+fn store(shadow: &mut Shadow, record: [u32; 6]) {
     let used = shadow[USED];
     if 2048 <= used {
         return;
@@ -224,16 +211,16 @@ fn store(shadow: &mut Shadow, record: [u32; 7]) {
     let place = used as usize;
     let mut f = INPUT;
     while f < SLOT {
-        shadow[8 * place + f] = record[f];
+        shadow[7 * place + f] = record[f];
         f += 1;
     }
-    shadow[8 * place + SLOT] = shadow[CLOCK];
-    shadow[8 * place] = 1;
+    shadow[7 * place + SLOT] = shadow[CLOCK];
+    shadow[7 * place] = 1;
     shadow[USED] = used + 1;
 }
 
 // Each output sends its first cell, if it has one.
-fn send(shadow: &mut Shadow, sent: &mut [u32; 128]) {
+fn send(shadow: &mut Shadow, sent: &mut [u32; 112]) {
     let mut output = 0;
     while output < 16 {
         let place = first_for(shadow, output as u32);
@@ -243,14 +230,14 @@ fn send(shadow: &mut Shadow, sent: &mut [u32; 128]) {
     }
 }
 
-// The rank of the cell at a place, if it is one, is the last of its class that a fair output sent.
+// The rank of the cell at a place, if it is one, is the last that a fair output sent.
 fn remember(shadow: &mut Shadow, place: usize, output: usize)
     requires { output < 16 }
 {
     if PLACES <= place || !is_fair(shadow, output as u32) {
         return;
     }
-    shadow[LEFT + left_of(output as u32, field(shadow, place, CLASS))] = field(shadow, place, RANK);
+    shadow[LEFT + output] = field(shadow, place, RANK);
 }
 
 // Where the cell of highest output priority for an output waits.
@@ -279,17 +266,11 @@ fn earlier(shadow: &Shadow, output: u32, first: usize, k: usize) -> usize
     k
 }
 
-// Whether the cell at a place is sent before the one at another: by class, then rank, then slot, then the turn of its
-// input.
+// Whether the cell at a place is sent before the one at another: by rank, then slot, then the turn of its input.
 fn precedes(shadow: &Shadow, a: usize, b: usize) -> bool
     requires a_bound { a < 2048 }
     requires b_bound { b < 2048 }
 {
-    let class = field(shadow, a, CLASS);
-    let lower = field(shadow, b, CLASS);
-    if class != lower {
-        return class < lower;
-    }
     let rank = field(shadow, a, RANK);
     let other = field(shadow, b, RANK);
     if rank != other {
@@ -314,7 +295,7 @@ fn turn_of(ports: u32, slot: u32, input: u32) -> u64 {
 }
 
 // Moves the cell at a place, if it is one, to what the output sends.
-fn leave(shadow: &mut Shadow, place: usize, sent: &mut [u32; 128], output: usize)
+fn leave(shadow: &mut Shadow, place: usize, sent: &mut [u32; 112], output: usize)
     requires { output < 16 }
 {
     if PLACES <= place {
@@ -322,16 +303,16 @@ fn leave(shadow: &mut Shadow, place: usize, sent: &mut [u32; 128], output: usize
     }
     let mut f = WAITS;
     while f <= SLOT {
-        sent[8 * output + f] = shadow[8 * place + f];
+        sent[7 * output + f] = shadow[7 * place + f];
         f += 1;
     }
-    shadow[8 * place] = 0;
+    shadow[7 * place] = 0;
 }
 
 // A number of a place.
 fn field(shadow: &Shadow, k: usize, f: usize) -> u32
     requires k_bound { k < 2048 }
-    requires f_bound { f < 8 }
+    requires f_bound { f < 7 }
 {
-    shadow[8 * k + f]
+    shadow[7 * k + f]
 }

@@ -23,14 +23,14 @@ const MOST_BYTES: usize = (PORTS + 1) * ARRIVAL_BYTES;
 const SENT: usize = DEPARTURES_BYTES / 4;
 
 // A show of so many slot calls on a fresh switch without fair outputs. A row is an arrival: the number of its call,
-// counted from 0, then input, output, flow, class, rank and tag. A show that is not told aloud tells its refusals, and its
+// counted from 0, then input, output, flow, rank and tag. A show that is not told aloud tells its refusals, and its
 // cells at the end.
 pub(crate) fn show(
     name: &[u8],
     ports: u32,
     first: u32,
     calls: u32,
-    rows: &[[u32; 7]],
+    rows: &[[u32; 6]],
     aloud: bool,
 ) {
     show_fair(name, ports, first, 0, calls, rows, aloud);
@@ -43,7 +43,7 @@ pub(crate) fn show_fair(
     first: u32,
     fair: u32,
     calls: u32,
-    rows: &[[u32; 7]],
+    rows: &[[u32; 6]],
     aloud: bool,
 ) {
     let mut table = [0u8; FAIR_BYTES];
@@ -64,7 +64,7 @@ pub(crate) fn play(
     tally: &mut Tally,
     shadow: &mut Shadow,
     calls: u32,
-    rows: &[[u32; 7]],
+    rows: &[[u32; 6]],
     aloud: bool,
 ) -> bool {
     let mut same = true;
@@ -80,7 +80,7 @@ pub(crate) fn play(
 }
 
 // Where the rows of a call begin.
-pub(crate) fn start_of(rows: &[[u32; 7]], call: u32) -> usize
+pub(crate) fn start_of(rows: &[[u32; 6]], call: u32) -> usize
     ensures { result ≤ length rows.now }
 {
     let mut k = 0;
@@ -94,7 +94,7 @@ pub(crate) fn start_of(rows: &[[u32; 7]], call: u32) -> usize
 }
 
 // Where the rows of a call end that begin at a place.
-pub(crate) fn end_of(rows: &[[u32; 7]], at: usize, call: u32) -> usize
+pub(crate) fn end_of(rows: &[[u32; 6]], at: usize, call: u32) -> usize
     requires { at ≤ length rows.now }
     ensures { (at ≤ result) × (result ≤ length rows.now) }
 {
@@ -113,7 +113,7 @@ pub(crate) fn step(
     table: &mut Table,
     tally: &mut Tally,
     shadow: &mut Shadow,
-    records: &[[u32; 7]],
+    records: &[[u32; 6]],
     aloud: bool,
 ) -> bool {
     let mut arrivals = [0u8; MOST_BYTES];
@@ -127,11 +127,11 @@ pub(crate) fn step(
     } else if aloud {
         say_answer(&answer);
     }
-    result % 256 + 32 * (result / 256) == right && same_departures(&answer, &sent)
+    result % 256 + 16 * (result / 256) == right && same_departures(&answer, &sent)
 }
 
 // The records as bytes, as many as there is room for. How many bytes there are.
-fn lend(arrivals: &mut Arrivals, records: &[[u32; 7]]) -> usize {
+fn lend(arrivals: &mut Arrivals, records: &[[u32; 6]]) -> usize {
     let mut k = 0;
     while k < MOST_BYTES {
         if records.len() <= k / ARRIVAL_BYTES {

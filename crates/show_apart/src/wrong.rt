@@ -38,8 +38,8 @@ pub(crate) fn show_slot(name: &[u8], ports: u8, arrivals: usize, answer: usize, 
     requires answer_le_answer_size { answer ≤ answer_size }
     requires tally_le_tally_size { tally ≤ tally_size }
 {
-    let first = [[0, 0, 0, 0, 0, 5, 1], [0, 1, 0, 0, 0, 3, 2]];
-    let second = [[0, 1, 1, 0, 0, 4, 3]];
+    let first = [[0, 0, 0, 0, 5, 1], [0, 1, 0, 0, 3, 2]];
+    let second = [[0, 1, 1, 0, 4, 3]];
     let mut table = [0u8; FAIR_BYTES];
     let mut counts = [0u8; TALLY_BYTES];
     let mut shadow = shadow::fresh(2, 0, 0);

@@ -1,4 +1,4 @@
--- Scope 9: the starred shows as a table of rows, others of four classes, and the test that the definitions give a row. Rows
+-- Scope 9: the starred shows as a table of rows, and the test that the definitions give a row. Rows
 -- that the PIFO switch can answer are tested for it too, and slot calls for the output-queued switch.
 use Rattle.std.specs.Prelude.{ℕ, Bool, ◌&&◌, List, [], ◌∷◌, ◌++◌, map, eqb, replicate}
 use Prim.Native.String.{String}
@@ -6,7 +6,7 @@ use Rattle.std.proofs.Math.Option.{Option, none, some}
 use Rattle.laws.specs.Lists.{up_to}
 use Rattle.cell.specs.declared.Cell.{Cell}
 use Rattle.cell.specs.Refusal.{number}
-use Rattle.model.specs.Calls.{Call, call, sends, refuses, occupies, all_run, class_arrival, class_cell, arrival, cell}
+use Rattle.model.specs.Calls.{Call, call, sends, refuses, occupies, all_run, arrival, cell}
 use Rattle.model.specs.Checks.{Outcome, done, refused}
 use Rattle.model.specs.Fair.{Fair, start_fair}
 use Rattle.model.specs.State.{Switch}
@@ -91,36 +91,4 @@ starred =
     ∷ answers 1 4294967294
     (call (arrival 0 0 0 1 1 ∷ []) (sends (some (cell 0 0 0 1 1 4294967294) ∷ []) 0 0) ∷ call [] (refuses 3 0) ∷ [])
     4294967295
-    ∷ []
-
--- Shows of four classes.
-unfoldable pub classes : List Show
-classes =
-    -- a safety call of class 0 passes music of class 1, whatever their ranks
-    plays
-    "form=2\nports=2\nfirst=0\nslot=0\nin=0\nout=0\nflow=0\nclass=1\nrank=0\ntag=10\nin=1\nout=0\nflow=0\nclass=0\nrank=9\ntag=11\nslot=1\nend=2\n"
-    "form=2\nports=2\nfirst=0\nslot=0\nout=0\nin=1\nflow=0\nclass=0\nrank=9\ntag=11\nslot=1\nout=0\nin=0\nflow=0\nclass=1\nrank=0\ntag=10\nend=2\n"
-    -- the second record of a block stands six lines behind the first
-    ∷ plays
-    "form=2\nports=2\nfirst=0\nslot=0\nin=0\nout=0\nflow=0\nclass=3\nrank=1\ntag=10\nin=1\nout=0\nflow=0\nclass=4\nrank=1\ntag=11\nend=1\n"
-    "form=2\nports=2\nfirst=0\nrefused=16\nline=11\n"
-    -- where `ports` or `first` is at fault, the two lines of the refusal are all
-    ∷ plays "form=2\nports=17\nfirst=0\nend=0\n" "refused=1\nline=2\n"
-    ∷ plays "form=2\nports=2\nend=0\n" "refused=9\nline=3\n"
-    -- there is no third form, and in the first no line of a class
-    ∷ plays "form=3\nports=2\nfirst=0\nend=0\n" "refused=9\nline=1\n"
-    ∷ plays
-    "ports=2\nfirst=0\nslot=0\nin=0\nout=0\nflow=0\nclass=0\nrank=1\ntag=1\nend=1\n"
-    "ports=2\nfirst=0\nrefused=9\nline=7\n"
-    -- flow 8 gives 5 before class 4 gives 16, and 16 comes before the turn of an input
-    ∷ answers 2 0 (call (class_arrival 0 0 8 4 1 1 ∷ []) (refuses 5 1) ∷ []) 0
-    ∷ answers 2 0 (call (class_arrival 0 0 7 4 1 1 ∷ []) (refuses 16 1) ∷ []) 0
-    ∷ answers 2 0 (call (class_arrival 1 0 0 3 1 1 ∷ class_arrival 0 0 0 4 1 2 ∷ []) (refuses 16 2) ∷ []) 0
-    -- a rank below that of the same flow number in another class does not fall
-    ∷ answers 2 0
-    (call (class_arrival 0 0 0 1 9 1 ∷ class_arrival 1 0 0 0 1 2 ∷ [])
-    (sends (some (class_cell 1 0 0 0 1 2 0) ∷ none ∷ []) 0 0)
-    ∷ call (class_arrival 0 0 0 2 8 3 ∷ []) (sends (some (class_cell 0 0 0 1 9 1 0) ∷ none ∷ []) 0 0)
-    ∷ [])
-    2
     ∷ []

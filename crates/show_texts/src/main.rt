@@ -1,5 +1,6 @@
-// Good and damaged texts of both forms through the trace's reader and writer, a line for each. The damage stands at the
-// first, a middle and the last line.
+// Good and damaged texts through the trace's reader and writer, a line for each. The damage stands at the first, a
+// middle and the last line.
+#![tactic(auto)]
 use cell::Refusal;
 use libc::STDOUT_FILENO;
 use trace::Output;
@@ -11,10 +12,7 @@ fn main() {
     second_lines();
     middle_lines();
     last_lines();
-    form_lines();
-    class_lines();
     long_texts();
-    long_classed();
     written();
 }
 
@@ -25,15 +23,6 @@ fn accepted() {
         b"ports=2\nfirst=0\nslot=0\nin=0\nout=1\nflow=0\nrank=5\ntag=10\nslot=1\nend=2\n",
     );
     read(b"no slots", b"ports=16\nfirst=4294967295\nend=4294967295\n");
-    read(
-        b"whole, of the second form",
-        b"form=2\nports=2\nfirst=0\nslot=0\n\
-        in=0\nout=1\nflow=0\nclass=3\nrank=5\ntag=10\nslot=1\nend=2\n",
-    );
-    read(
-        b"no slots, of the second form",
-        b"form=2\nports=16\nfirst=4294967295\nend=4294967295\n",
-    );
 }
 
 // Damage in the line of `ports`.
@@ -95,55 +84,6 @@ fn last_lines() {
     );
 }
 
-// Damage in the line of `form` and right after it.
-fn form_lines() {
-    read(b"another form", b"form=3\nports=2\nfirst=0\nend=0\n");
-    read(
-        b"leading zero in the form",
-        b"form=02\nports=2\nfirst=0\nend=0\n",
-    );
-    read(b"unfinished form", b"form=2");
-    read(b"text stops after the form", b"form=2\n");
-    read(b"form twice", b"form=2\nform=2\nports=2\nfirst=0\nend=0\n");
-    read(b"form after ports", b"ports=2\nform=2\nfirst=0\nend=0\n");
-    read(
-        b"too many ports, of the second form",
-        b"form=2\nports=17\nrubbish",
-    );
-    read(
-        b"plus sign, of the second form",
-        b"form=2\nports=2\nfirst=+0\nend=0\n",
-    );
-}
-
-// Damage around the line of `class`; one above 3 is no damage to the text.
-fn class_lines() {
-    read(
-        b"class in the first form",
-        b"ports=2\nfirst=0\nslot=0\nin=0\nout=1\nflow=0\nclass=0\nrank=5\ntag=1\nend=1\n",
-    );
-    read(
-        b"no class in the second form",
-        b"form=2\nports=2\nfirst=0\nslot=0\nin=0\nout=1\nflow=0\nrank=5\ntag=1\nend=1\n",
-    );
-    read(
-        b"class before flow",
-        b"form=2\nports=2\nfirst=0\nslot=0\nin=0\nout=1\nclass=0\nflow=0\nrank=5\ntag=1\nend=1\n",
-    );
-    read(
-        b"class past 32 bits",
-        b"form=2\nports=2\nfirst=0\nslot=0\nin=0\nout=1\nflow=0\nclass=4294967296\nrank=5\ntag=1\nend=1\n",
-    );
-    read(
-        b"class above 3",
-        b"form=2\nports=2\nfirst=0\nslot=0\nin=0\nout=1\nflow=0\nclass=4\nrank=5\ntag=1\nend=1\n",
-    );
-    read(
-        b"leading zero behind a class",
-        b"form=2\nports=2\nfirst=0\nslot=0\nin=0\nout=1\nflow=0\nclass=0\nrank=5\ntag=01\nend=1\n",
-    );
-}
-
 // A number of four thousand digits, and a line that begins `in=` after the 16th arrival.
 fn long_texts() {
     let mut digits = [b'1'; 4007];
@@ -170,44 +110,17 @@ fn long_texts() {
     );
 }
 
-// The same line after the 16th arrival of the second form.
-fn long_classed() {
-    read(
-        b"a 17th arrival, of the second form",
-        b"form=2\nports=1\nfirst=0\nslot=0\n\
-        in=0\nout=0\nflow=0\nclass=0\nrank=0\ntag=0\nin=0\nout=0\nflow=0\nclass=0\nrank=0\ntag=0\n\
-        in=0\nout=0\nflow=0\nclass=0\nrank=0\ntag=0\nin=0\nout=0\nflow=0\nclass=0\nrank=0\ntag=0\n\
-        in=0\nout=0\nflow=0\nclass=0\nrank=0\ntag=0\nin=0\nout=0\nflow=0\nclass=0\nrank=0\ntag=0\n\
-        in=0\nout=0\nflow=0\nclass=0\nrank=0\ntag=0\nin=0\nout=0\nflow=0\nclass=0\nrank=0\ntag=0\n\
-        in=0\nout=0\nflow=0\nclass=0\nrank=0\ntag=0\nin=0\nout=0\nflow=0\nclass=0\nrank=0\ntag=0\n\
-        in=0\nout=0\nflow=0\nclass=0\nrank=0\ntag=0\nin=0\nout=0\nflow=0\nclass=0\nrank=0\ntag=0\n\
-        in=0\nout=0\nflow=0\nclass=0\nrank=0\ntag=0\nin=0\nout=0\nflow=0\nclass=0\nrank=0\ntag=0\n\
-        in=0\nout=0\nflow=0\nclass=0\nrank=0\ntag=0\nin=0\nout=0\nflow=0\nclass=0\nrank=0\ntag=0\n\
-        in=0\nout=0\nflow=0\nclass=0\nrank=0\ntag=0\nend=1\n",
-    );
-}
-
 // Contents through the writer.
 fn written() {
     let counts = [1u32, 0];
-    let numbers = [0u32, 1, 0, 0, 5, 10];
-    let later = [0u32, 1, 0, 3, 5, 10];
-    write(b"contents written", false, 2, 0, &counts, &numbers);
-    write(b"of the second form", true, 2, 0, &counts, &later);
-    write(b"ports out of range", false, 17, 0, &counts, &numbers);
-    write(
-        b"slot past the last",
-        false,
-        2,
-        4294967294,
-        &counts,
-        &numbers,
-    );
-    write(b"numbers missing", false, 2, 0, &counts, &numbers[..5]);
-    write(b"a class in the first form", false, 2, 0, &counts, &later);
+    let numbers = [0u32, 1, 0, 5, 10];
+    write(b"contents written", 2, 0, &counts, &numbers);
+    write(b"ports out of range", 17, 0, &counts, &numbers);
+    write(b"slot past the last", 2, 4294967294, &counts, &numbers);
+    write(b"numbers missing", 2, 0, &counts, &numbers[..4]);
     let crowd = [17u32];
-    let many = [0u32; 102];
-    write(b"seventeen arrivals", false, 2, 0, &crowd, &many);
+    let many = [0u32; 85];
+    write(b"seventeen arrivals", 2, 0, &crowd, &many);
 }
 
 // What reading the text by the grammar comes to.
@@ -223,10 +136,10 @@ fn read(name: &[u8], text: &[u8]) {
 }
 
 // What the writer makes of the contents in a buffer of 256 bytes.
-fn write(name: &[u8], classed: bool, ports: u32, first: u32, counts: &[u32], numbers: &[u32]) {
+fn write(name: &[u8], ports: u32, first: u32, counts: &[u32], numbers: &[u32]) {
     let mut out = [0u8; 256];
     print(name);
-    match trace_writer::write(classed, ports, first, counts, numbers, &mut out) {
+    match trace_writer::write(ports, first, counts, numbers, &mut out) {
         Output::Text(length) => {
             print(b":\n");
             print_first(&out, length);

@@ -44,9 +44,9 @@ in-list-listed c e b q = ap (λ x. x && same_flow e.cell c) (ap is_listed (sym q
 
 -- by the first number of its record
 pub in-list-word : (c : Cell) (e : Entry) (b n flow : ℕ) → place_of b ≡ e.place → n ≡ flow_word e.cell + 65536 * b
-    → flow ≡ flow_word c → e.cell.output < 256 → e.cell.flow < 256 → b < 256 → c.output < 256 → c.flow < 256
-    → eqb (flow_word e.cell) flow ≡ same_flow e.cell c → eqb n (flow + 65536) ≡ in_list_of c e
-in-list-word c e b n flow q word is output number place output' number' own =
+    → flow_word e.cell < 65536 → flow < 65536 → eqb (flow_word e.cell) flow ≡ same_flow e.cell c
+    → eqb n (flow + 65536) ≡ in_list_of c e
+in-list-word c e b n flow q word small few own =
     same (eqb n (flow + 65536)) (eqb b 1 && eqb (flow_word e.cell) flow)
     (λ h.
     let equal : n ≡ flow + 65536 = eqb-true n (flow + 65536) h in

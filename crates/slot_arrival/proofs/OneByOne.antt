@@ -26,7 +26,7 @@ use Rattle.cell.specs.declared.Arrival.{Arrival}
 use Rattle.cell.specs.declared.Cell.{Cell}
 use Rattle.cell.specs.declared.Refusal.{Refusal}
 use Rattle.cell.specs.Cell.{accepted, arrival_fits}
-use Rattle.cell.specs.Limits.{section_room, port_limit, flow_limit, class_limit, clock_end, fits32}
+use Rattle.cell.specs.Limits.{section_room, port_limit, flow_limit, clock_end, fits32}
 use Rattle.model.specs.State.{Entry, Switch, cells}
 use Rattle.model.specs.Checks.{fault, fault_from, first_fault}
 use Rattle.model.specs.Crossbar.{enter, arrive}
@@ -279,7 +279,6 @@ module _ (table : List ℕ) (records : List Arrival) (g : Arriving table records
             room = room-now;
             output = few-outputs;
             flow = few-flows;
-            class = few-classes;
             next = ap sound next-is ∙ after-sound (n + 1) (all_fit fits);
           }
         where
@@ -302,6 +301,3 @@ module _ (table : List ℕ) (records : List Arrival) (g : Arriving table records
 
           few-flows : a.flow < 256
           few-flows = omega (arith, ltb-true c.flow flow_limit (admit.flows c among))
-
-          few-classes : a.class < 256
-          few-classes = omega (arith, ltb-true c.class class_limit (admit.classes c among))

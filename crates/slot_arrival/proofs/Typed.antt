@@ -22,13 +22,12 @@ use Rattle.cell.proofs.Arrival.TheLaws as A'
 
 -- a record of numbers of 32 bits
 fits-arrival : (a : Arrival) → a.input < 4294967296 → a.output < 4294967296 → a.flow < 4294967296
-    → a.class < 4294967296 → a.rank < 4294967296 → a.tag < 4294967296 → arrival_fits a ≡ true
+    → a.rank < 4294967296 → a.tag < 4294967296 → arrival_fits a ≡ true
 unfolding arrival_fits fits32
-fits-arrival a i o f k r t =
+fits-arrival a i o f r t =
     let i' : leb a.input 4294967295 ≡ true = le-leb a.input 4294967295 (omega arith) in
     let o' : leb a.output 4294967295 ≡ true = le-leb a.output 4294967295 (omega arith) in
     let f' : leb a.flow 4294967295 ≡ true = le-leb a.flow 4294967295 (omega arith) in
-    let k' : leb a.class 4294967295 ≡ true = le-leb a.class 4294967295 (omega arith) in
     let r' : leb a.rank 4294967295 ≡ true = le-leb a.rank 4294967295 (omega arith) in
     let t' : leb a.tag 4294967295 ≡ true = le-leb a.tag 4294967295 (omega arith) in
     search and_i depth 9
@@ -37,7 +36,6 @@ arrival-fits : (a : Arrival) (vs : List Val) → Is A.the_row a vs → arrival_f
 arrival-fits a vs p =
     let o = LL.owed A.the_type A'.the_laws a vs p in
     fits-arrival a o.0.1 o.1.0.1 o.1.1.0.1 o.1.1.1.0.1 o.1.1.1.1.0.1
-    o.1.1.1.1.1.0.1
 
 pub held_fits : (held : List Arrival) (vs : List Val) → shadow (each Arrival (A.the_row).own_val held vs) → (n : ℕ) → n < length held
     → (d : Arrival) → arrival_fits (get_or held n d) ≡ true

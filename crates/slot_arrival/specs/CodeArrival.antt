@@ -44,7 +44,6 @@ pub record MayEnter (a : Arrival) (table : List ℕ) : Type 0 where
   pub room : count_in table a.input < section_room
   pub output : a.output < 256
   pub flow : a.flow < 256
-  pub class : a.class < 256
   pub next : sound_switch (entered (accepted (clock_in table - 1) a) (state_of table)) ≡ true
 
 -- how many entries of a section stand before a new cell

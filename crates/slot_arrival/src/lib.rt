@@ -1,11 +1,12 @@
 // Scope 3.1, arrival: the cell that a record becomes enters the list of its input, on the bytes of the table in place.
+#![tactic(auto)]
 ghost use Rattle.std.specs.Prelude.{◌≡◌, ◌+◌, ◌-◌, ◌*◌, ◌/◌, ◌^◌, ◌≤◌, ◌<◌, true, false, eqb, length, get_or};
 ghost use Rattle.cell.specs.Cell.{accepted};
 ghost use Rattle.cell.specs.Limits.{clock_end, section_room, port_limit};
 ghost use Rattle.model.specs.Crossbar.{in_list_of};
 ghost use Rattle.layout.specs.Entry.{entry_at, clock_in, count_in};
-ghost use Rattle.layout.specs.Code.{record_start, HasEntry, ports_in};
-ghost use Rattle.layout.specs.Table.{table_size, entry_size, state_of, encode, IsTable, entry_limit};
+ghost use Rattle.layout.specs.Code.{record_start, record_at, HasEntry, ports_in};
+ghost use Rattle.layout.specs.Table.{table_size, entry_size, entry_bytes, state_of, encode, IsTable, entry_limit};
 ghost use Rattle.layout_table.specs.CodeEntries.{flow_word};
 ghost use Rattle.slot_view.specs.CodeView.{places_in};
 ghost use Rattle.slot_view.specs.CodeViewed.{SetsOf};
@@ -53,7 +54,7 @@ pub fn arrive(
 fn enter(table: &mut [u8], c: Cell) -> usize
     requires table { IsTable table.old }
     requires input_bound { (c.input < ports_in table.old) × (count_in table.old c.input < section_room) }
-    requires output_bound { (c.output < 256) × (c.flow < 256) × (c.class < 256) }
+    requires output_bound { (c.output < 256) × (c.flow < 256) }
     ensures table_after { table.new ≡ encode (entered c (state_of table.old)) }
     ensures value { result ≡ section_room * c.input + enter_place c (section_in table.old c.input) }
 {
@@ -95,7 +96,7 @@ fn open_sets(
 fn new_place(table: &[u8], c: Cell) -> usize
     requires table { IsTable table.now }
     requires input_bound { c.input < ports_in table.now }
-    requires output_bound { (c.output < 256) × (c.flow < 256) × (c.class < 256) }
+    requires output_bound { (c.output < 256) × (c.flow < 256) }
     ensures { result ≡ section_room * c.input + enter_place c (section_in table.now c.input) }
 {
     let input = c.input as usize;
@@ -114,13 +115,13 @@ fn new_place(table: &[u8], c: Cell) -> usize
 
 // Whether an entry of the cell's input is in the list and of the cell's flow. The first four bytes of its record say
 // both, so that nothing branches on the place, which would be guessed badly.
-fn in_list(table: &[u8], k: usize, c: Cell, flow: u32) -> bool
+fn in_list(table: &[u8], k: usize, c: Cell, flow: u16) -> bool
     requires has_entry { HasEntry table.now k }
-    requires section_room_value { (k / section_room ≡ c.input) × (flow ≡ flow_word c) }
-    requires output_bound { (c.output < 256) × (c.flow < 256) × (c.class < 256) }
+    requires k_value { record_at table.now k ≡ entry_bytes (entry_at table.now k) }
+    requires section_room_value { (k / section_room ≡ c.input) × (flow ≡ flow_word c) × (c.output < 256) }
     ensures { result ≡ in_list_of c (entry_at table.now k) }
 {
-    layout::word::read_u32(table, layout_table::entry::start_of(k)) == flow + 65536
+    layout::word::read_u32(table, layout_table::entry::start_of(k)) == flow as u32 + 65536
 }
 
 // Moves the entries from `at` up to `end` one place up.

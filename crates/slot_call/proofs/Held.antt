@@ -96,7 +96,7 @@ module _ (k : ℕ) (rs : List Arrival) (l : ℕ) where
   Front = (arr_parts (shares R.the_row) (length (take k rs))).part full_share (take k rs) l 0
 
   abbrev pub Back : Fml
-  Back = cells (mem R.the_row) (drop_l k rs) l (at 0 24 (length (take k rs)))
+  Back = cells (mem R.the_row) (drop_l k rs) l (at 0 20 (length (take k rs)))
 
   module _ {M : Type 1} {𝓤 : Ura M} (𝓛 : Logic 𝓤) where
     open 𝓛 use {H}

@@ -1,4 +1,5 @@
 // A slot on what it is lent: the arrivals are lent as a slice of records, and the tally is lent to be changed in place.
+#![tactic(auto)]
 pub mod bytes;
 mod running;
 
@@ -22,8 +23,8 @@ use slot_records::{take_records, take_sound};
 
 // Takes a slot on the lent table with the lent records. The table is then the one after the slot, the first bytes of
 // the answer's buffer are its answer, and the tally counts it. A refusal is the first one of: 2, the table is broken;
-// 10, the buffer is too short for the answer; 3, the clock's end; record by record 4, 5, 16, 6, 7, 8. A refusal
-// keeps the table and the buffer, and the tally counts a refused slot.
+// 10, the buffer is too short for the answer; 3, the clock's end; record by record 4 to 8. A refusal keeps the table
+// and the buffer, and the tally counts a refused slot.
 pub fn slot(table: &mut [u8], records: &[Arrival], answer: &mut [u8], tally: &mut Tally) -> Fault
     ensures value { result
         ≡ refusal_of (records_slot table.old (length answer.old) records.now) }
@@ -51,7 +52,6 @@ fn hold(records: &[Arrival]) -> [Arrival; HELD]
         input: 0,
         output: 0,
         flow: 0,
-        class: 0,
         rank: 0,
         tag: 0,
     };

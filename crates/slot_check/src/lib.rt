@@ -2,6 +2,7 @@
 // input the count, the unused records, the entries in one pass, and what is asked of the entries together. The
 // questions on a section's records are those of `slot_section`; the slots that may be the same are compared here. The
 // sets of positions that the check makes of a section are handed on.
+#![tactic(auto)]
 ghost use Rattle.std.specs.Prelude.{true, false, not, ◌||◌, ◌≡◌, ◌+◌, ◌-◌, ◌*◌, ◌/◌, ◌%◌, ◌<◌, ◌≤◌, length};
 ghost use Rattle.laws.specs.Lists.{some?, all?, pairwise, between};
 ghost use Rattle.cell.specs.Limits.{port_limit, section_room};
@@ -16,7 +17,6 @@ ghost use Rattle.slot_check.specs.Handed.{Handed};
 use cell::Switch;
 use layout::{CELLS, PORTS, TABLE_BYTES, word};
 use layout_table::{entry, header};
-use slot_section::MARKS;
 
 // Whether a section is sound; and if it is, its cells by their places, as sets of positions, and the heads of its list.
 #[derive(Drop)]
@@ -95,7 +95,7 @@ fn are_sections(
     ensures handed { result ≡ true → Handed bytes.now listed.new heads.new
         crossed.new buffered.new }
 {
-    let mut marks = [0u8; MARKS];
+    let mut marks = [0u8; 256];
     let mut i = 0;
     while i < PORTS {
         let section = is_section(bytes, ports, clock, i, &mut marks);
@@ -113,7 +113,7 @@ fn are_sections(
 
 // Whether the section of an input is one of a table, and its sets. An input that the switch does not have has no
 // entries.
-fn is_section(bytes: &[u8], ports: u32, clock: u32, input: usize, marks: &mut [u8; MARKS]) -> Sorted
+fn is_section(bytes: &[u8], ports: u32, clock: u32, input: usize, marks: &mut [u8; 256]) -> Sorted
     requires bytes_len { (length bytes.now ≡ table_size) × (ports ≤ port_limit) × (input < port_limit) }
     requires marks_below { MarksBelow (2 * input + 1) marks.old }
     ensures sound_value { result.sound ≡ is_section ports clock bytes.now input }
@@ -170,7 +170,7 @@ fn are_sound(
     first: usize,
     end: usize,
     mark: u8,
-    marks: &mut [u8; MARKS],
+    marks: &mut [u8; 256],
 ) -> Sorted
     requires bytes_len { (length bytes.now ≡ table_size) × (ports ≤ port_limit) × (mark < 255) × MarksBelow mark marks.old }
     requires section_room_bound { (first + section_room ≤ entry_limit) × (first % section_room ≡ 0) }

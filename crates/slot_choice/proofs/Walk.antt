@@ -1,11 +1,9 @@
--- Rules 1 to 3 for a head, by the keys at the crosspoints.
+-- Rules 2 and 3 for a head, by the keys at the crosspoints.
 --     cell-number, cell-output     its number, and its output
 --     ready-is                     its crosspoint is empty
---     held-known                   where its key is that of the cell there, there is one
---     blocked-tied, -apart         it is blocked or not
---     best_key, -known, -entry     the key of the best cell of its output, where there is one, and that it is an entry
+--     best_key, best-known         the key of the best cell of its output, and where there is one
 --     urgent-behind, -tied, -apart it is urgent or not
-use Prim.Native.Nat.{ℕ, ◌+◌, ◌*◌, ◌/◌, ◌<◌, ◌≤◌}
+use Prim.Native.Nat.{ℕ, ◌+◌, ◌*◌, ◌/◌, ◌<◌, ◌≤◌, ◌^◌}
 use native.Mathlib.Omega.{arith}
 use mathlib.Core.Bool.{Bool, true, false, not, ◌&&◌, and-true}
 use mathlib.Core.Path.{◌≡◌, sym, ◌∙◌, ap, ap₂, subst}
@@ -22,7 +20,7 @@ use Rattle.laws.proofs.Lists.{all?-e, keep-nil, keep-pass, keep-mem, mem-keep-in
 use Rattle.cell.specs.declared.Cell.{Cell}
 use Rattle.cell.specs.Limits.{section_room}
 use Rattle.cell.specs.Order.{over, key}
-use Rattle.cell.proofs.Keys.{Numbers, key-top, over-keys}
+use Rattle.cell.proofs.Keys.{over-key-input}
 use Rattle.cell.proofs.Order.{over-trans}
 use Rattle.model.specs.Phase.{Waiting, ahead, beats, same_input, same_output, same_crosspoint, blocked, crosspoint_empty}
 use Rattle.model.specs.Phase.{is_urgent, crosspoints}
@@ -32,15 +30,15 @@ use Rattle.layout.specs.Entry.{entry_at}
 use Rattle.layout.specs.Code.{ports_in}
 use Rattle.layout.specs.Table.{entry_limit}
 use Rattle.layout_table.specs.CodeEntries.{nowhere}
+use Rattle.layout_table.proofs.Keys.{over-keys}
 use Rattle.slot_view.specs.CodeView.{places_in, waiting_in, InTable, crosspoint_at}
-use Rattle.slot_view.specs.CodeChoices.{best_of, empty, best}
+use Rattle.slot_view.specs.CodeChoices.{best_of}
 use Rattle.slot_view.specs.CodeScan.{Holds}
 use Rattle.slot_view.specs.CodeViewed.{no_key}
 use Rattle.slot_view.proofs.Keys.{key_at-cell, key_at-none}
 use Rattle.slot_view.proofs.Window.{waiting_at-at, waiting_at-cell, waiting_at-input, in_table-below, agrees-holds}
-use Rattle.slot_leaders.specs.CodeKeys.{BestUpTo}
-use Rattle.slot_leaders.proofs.Best.{Chief, chief-of, of-best}
-use Rattle.slot_choice.specs.CodeWalk.{CrossKnown, BestKnown, CellAt, cell_at, scheduled_at}
+use Rattle.slot_leaders.proofs.Best.{Chief, chief-of}
+use Rattle.slot_choice.specs.CodeWalk.{KeysKnown, BestKnown, CellAt, cell_at, scheduled_at}
 use Rattle.slot_choice.proofs.Scans.{empty-normal}
 
 -- a number is of no entry, or of one
@@ -51,7 +49,7 @@ stands n = go (either (leb nowhere n))
     go (inl t) = inl (leb-true nowhere n t)
     go (inr t) = inr (leb-false nowhere n t)
 
-module _ {table : List ℕ} {cross keys : List (List ℕ)} (w : CrossKnown table cross keys) {input position : ℕ}
+module _ {table : List ℕ} {keys : List (List ℕ)} (w : KeysKnown table keys) {input position : ℕ}
     (a : CellAt table input position) where
   -- the cell, its number, and the cells at the crosspoints
   abbrev k : ℕ
@@ -78,15 +76,11 @@ module _ {table : List ℕ} {cross keys : List (List ℕ)} (w : CrossKnown table
   own-input : e.cell.input ≡ input
   own-input = waiting_at-input table (places_in table) k ∙ (let q : k / section_room ≡ input = omega (arith, a.small) in q)
 
-  holds : Holds table cross cells
-  holds = agrees-holds table (places_in table) w.readable cross w.agrees
+  holds : Holds table w.cross cells
+  holds = agrees-holds table (places_in table) w.readable w.cross w.agrees
 
-  cell-numbers : (n : ℕ) → InTable table n → Numbers (entry_at table n).cell
-  cell-numbers n t = record { rank = w.ranks n t; slot = w.readable.early n t }
-
-  -- the key of a cell is below that of none
-  key-some : (n : ℕ) → InTable table n → key (entry_at table n).cell < no_key
-  key-some n t = omega (arith, key-top (entry_at table n).cell (cell-numbers n t))
+  slot-fits : (n : ℕ) → InTable table n → (entry_at table n).cell.slot < 2 ^ 32
+  slot-fits n t = omega (arith, w.readable.early n t)
 
   ------------------------------------------------------------------------
   -- before the scheduled cell
@@ -145,7 +139,7 @@ module _ {table : List ℕ} {cross keys : List (List ℕ)} (w : CrossKnown table
 
     -- the number that stands there, and its key
     abbrev number : ℕ
-    number = crosspoint_at cross input o
+    number = crosspoint_at w.cross input o
 
     abbrev held : ℕ
     held = get_or (get_or keys o []) input 0
@@ -154,7 +148,7 @@ module _ {table : List ℕ} {cross keys : List (List ℕ)} (w : CrossKnown table
     there : (x : Waiting) → Memᴰ x cells → same_crosspoint e x ≡ true → x.at ≡ number
     there x m s =
         sym (holds.filled x m)
-        ∙ ap₂ (crosspoint_at cross) (sym (crosspoint-input e x s) ∙ own-input) (sym (crosspoint-output e x s) ∙ goes)
+        ∙ ap₂ (crosspoint_at w.cross) (sym (crosspoint-input e x s) ∙ own-input) (sym (crosspoint-output e x s) ∙ goes)
 
     there-cell : (x : Waiting) → Memᴰ x cells → same_crosspoint e x ≡ true → x.cell ≡ (entry_at table number).cell
     there-cell x m s = holds.cell x m ∙ ap (λ n. (entry_at table n).cell) (there x m s)
@@ -186,7 +180,7 @@ module _ {table : List ℕ} {cross keys : List (List ℕ)} (w : CrossKnown table
       held-key = w.keyed.at input o cell-input port ∙ key_at-cell table number l
 
       held_below : held ≢ no_key
-      held_below q = omega (arith, held-key, key-some number inside)
+      held_below q = omega (arith, held-key, w.below number inside)
 
       not-clear : crosspoint_empty cells e ≡ false
       unfolding crosspoint_empty
@@ -211,12 +205,23 @@ module _ {table : List ℕ} {cross keys : List (List ℕ)} (w : CrossKnown table
               → over (ports_in table) e.cell x.cell ≡ over (ports_in table) own (entry_at table number).cell
           overs x m s = ap₂ (over (ports_in table)) (waiting_at-cell table (places_in table) k) (there-cell x m s)
 
+      -- both are of one input, so the keys decide
+      blocked-key : blocked (ports_in table) cells e ≡ ltb (key own) held
+      blocked-key =
+          blocked-over
+          ∙ over-key-input (ports_in table) own (entry_at table number).cell (slot-fits k a.inside)
+          (slot-fits number inside)
+          (ap (λ c. c.input) (sym (waiting_at-cell table (places_in table) k))
+          ∙ crosspoint-input e full.0 full.2
+          ∙ ap (λ c. c.input) (there-cell full.0 full.1 full.2))
+          ∙ ap (ltb (key own)) (sym held-key)
+
       ----------------------------------------------------------------------
       -- the crosspoints of its output
 
-      chief : Chief table cross holds o
+      chief : Chief table w.cross holds o
       chief =
-          chief-of table cross holds o full.1 (sym (crosspoint-output e full.0 full.2) ∙ goes)
+          chief-of table w.cross holds o full.1 (sym (crosspoint-output e full.0 full.2) ∙ goes)
 
       module _ {r : ℕ} (best : r ≡ best_of (ports_in table) cells o) where
         best-inside : InTable table r
@@ -259,6 +264,20 @@ module _ {table : List ℕ} {cross keys : List (List ℕ)} (w : CrossKnown table
         go (inl l) = eq-eqb held no_key (held_none l) ∙ sym (clear l)
         go (inr l) = ne_eqb held no_key (held_below l) ∙ sym (not-clear l)
 
+    blocked-is : (ltb (key own) held && not (eqb held no_key)) ≡ blocked (ports_in table) cells e
+    blocked-is = go (stands number)
+      where
+        go : (nowhere ≤ number) ⊎ (number < nowhere)
+            → (ltb (key own) held && not (eqb held no_key)) ≡ blocked (ports_in table) cells e
+        go (inl l) =
+            and_false_r (ltb (key own) held) (not (eqb held no_key))
+            (not-false-i (eqb held no_key) (eq-eqb held no_key (held_none l)))
+            ∙ sym (normal l)
+        go (inr l) =
+            ap (λ b. ltb (key own) held && not b) (ne_eqb held no_key (held_below l))
+            ∙ and-true (ltb (key own) held)
+            ∙ sym (blocked-key l)
+
     -- where it is blocked, its crosspoint is full
     blocked-full : blocked (ports_in table) cells e ≡ true → number < nowhere
     blocked-full t = go (stands number)
@@ -267,45 +286,13 @@ module _ {table : List ℕ} {cross keys : List (List ℕ)} (w : CrossKnown table
         go (inl l) = absurd (clash t (normal l))
         go (inr l) = l
 
-    module _ {x : ℕ} (own_key : x ≡ key (entry_at table (section_room * input + position)).cell) where
-      -- where its key is that of the cell there, there is one
-      pub held-known : x ≡ held → number < nowhere
-      held-known q = go (stands number)
-        where
-          go : (nowhere ≤ number) ⊎ (number < nowhere) → number < nowhere
-          go (inl l) = absurd (omega (arith, q, own_key, held_none l, key-some k a.inside))
-          go (inr l) = l
-
-      -- then the cells decide
-      pub blocked-tied : x ≡ held
-          → over (ports_in table) own (entry_at table number).cell ≡ blocked (ports_in table) cells e
-      blocked-tied q = sym (blocked-over (held-known q))
-
-      -- otherwise the keys do
-      pub blocked-apart : x ≢ held → (ltb x held && not (eqb held no_key)) ≡ blocked (ports_in table) cells e
-      blocked-apart d = go (stands number)
-        where
-          go : (nowhere ≤ number) ⊎ (number < nowhere)
-              → (ltb x held && not (eqb held no_key)) ≡ blocked (ports_in table) cells e
-          go (inl l) =
-              and_false_r (ltb x held) (not (eqb held no_key))
-              (not-false-i (eqb held no_key) (eq-eqb held no_key (held_none l)))
-              ∙ sym (normal l)
-          go (inr l) =
-              ap (λ b. ltb x held && not b) (ne_eqb held no_key (held_below l))
-              ∙ and-true (ltb x held)
-              ∙ ap₂ ltb own_key (held-key l)
-              ∙ over-keys (ports_in table) own (entry_at table number).cell (cell-numbers k a.inside)
-              (cell-numbers number (inside l)) (λ q. d (own_key ∙ q ∙ sym (held-key l)))
-              ∙ sym (blocked-over l)
-
     ------------------------------------------------------------------------
     -- by the best of its output
 
-    module _ {numbers least : List ℕ} (b : BestKnown table cross keys numbers least) {x : ℕ}
+    module _ {best least : List ℕ} (b : BestKnown table keys best least) {x : ℕ}
         (own_key : x ≡ key (entry_at table (section_room * input + position)).cell) where
       abbrev rival : ℕ
-      rival = get_or numbers o 0
+      rival = get_or best o 0
 
       pub best_key : rival < nowhere → get_or least o 0 ≡ key (entry_at table rival).cell
       best_key l = b.leasts o port ∙ key_at-cell table rival l
@@ -316,28 +303,17 @@ module _ {table : List ℕ} {cross keys : List (List ℕ)} (w : CrossKnown table
         where
           go : (nowhere ≤ rival) ⊎ (rival < nowhere) → rival < nowhere
           go (inl l) =
-              absurd (omega (arith, q, own_key, b.leasts o port, key_at-none table rival l, key-some k a.inside))
+              absurd (omega (arith, q, own_key, b.leasts o port, key_at-none table rival l, w.below k a.inside))
           go (inr l) = l
 
-      -- and it is a cell of the table
-      pub best-entry : rival < nowhere → InTable table rival
-      best-entry l = go (of-best table cross o holds port w.readable.ports)
-        where
-          is : rival ≡ best_of (ports_in table) cells o
-          is = b.bests o port
-
-          go : BestUpTo table cross o (ports_in table) (best_of (ports_in table) cells o) → InTable table rival
-          go (empty q f) = absurd (omega (arith, is))
-          go (best q u) =
-              subst (InTable table) (u.own.held ∙ sym is)
-              (w.agrees.real u.own.holder o (omega (arith, u.own.early, w.readable.ports)) port
-              (omega (arith, u.own.held))).0
-
-      module _ {s : ℕ} (l : position < s) {c : Bool} (test-is : c ≡ blocked (ports_in table) cells e) where
+      module _ {s : ℕ} (l : position < s) where
         urgent-is : {t : Bool} → (number < nowhere → t ≡ over (ports_in table) own (entry_at table rival).cell)
-            → (c && t) ≡ is_urgent (ports_in table) cells (scheduled_at table input s) e
+            → ((ltb x held && not (eqb held no_key)) && t) ≡ is_urgent (ports_in table) cells (scheduled_at table input s) e
         unfolding is_urgent
-        urgent-is {t} h = ap (λ d. d && t) test-is ∙ go (either test)
+        urgent-is {t} h =
+            ap (λ y. (ltb y held && not (eqb held no_key)) && t) own_key
+            ∙ ap (λ c. c && t) blocked-is
+            ∙ go (either test)
           where
             test : Bool
             test = blocked (ports_in table) cells e
@@ -351,20 +327,21 @@ module _ {table : List ℕ} {cross keys : List (List ℕ)} (w : CrossKnown table
             go : (test ≡ true) ⊎ (test ≡ false) → (test && t) ≡ (test && (before && upper))
             go (inl f) =
                 let full = blocked-full f in
-                ap (λ d. test && d)
+                ap (λ c. test && c)
                 (h full
                 ∙ sym (over-best full (b.bests o port))
-                ∙ sym (ap (λ d. d && upper) (foremost s ∙ lt-ltb position s l)))
+                ∙ sym (ap (λ c. c && upper) (foremost s ∙ lt-ltb position s l)))
             go (inr f) = and-false-l test t f ∙ sym (and-false-l test (before && upper) f)
 
         -- its key is the least
         pub urgent-tied : {t : Bool} → t ≡ over (ports_in table) own (entry_at table rival).cell
-            → (c && t) ≡ is_urgent (ports_in table) cells (scheduled_at table input s) e
+            → ((ltb x held && not (eqb held no_key)) && t) ≡ is_urgent (ports_in table) cells (scheduled_at table input s) e
         urgent-tied q = urgent-is (λ _. q)
 
         -- it is not
         pub urgent-apart : x ≢ get_or least o 0
-            → (c && ltb x (get_or least o 0)) ≡ is_urgent (ports_in table) cells (scheduled_at table input s) e
+            → ((ltb x held && not (eqb held no_key)) && ltb x (get_or least o 0))
+            ≡ is_urgent (ports_in table) cells (scheduled_at table input s) e
         urgent-apart d = urgent-is go
           where
             go : number < nowhere → ltb x (get_or least o 0) ≡ over (ports_in table) own (entry_at table rival).cell
@@ -372,6 +349,5 @@ module _ {table : List ℕ} {cross keys : List (List ℕ)} (w : CrossKnown table
                 let there = best-inside full (b.bests o port) in
                 let least-is = best_key (in_table-below w.readable there) in
                 ap₂ ltb own_key least-is
-                ∙ over-keys (ports_in table) own (entry_at table rival).cell (cell-numbers k a.inside)
-                (cell-numbers rival there)
+                ∙ over-keys (ports_in table) own (entry_at table rival).cell (slot-fits k a.inside) (slot-fits rival there)
                 (λ q. d (own_key ∙ q ∙ sym least-is))

@@ -4,6 +4,7 @@ use Rattle.std.specs.Prelude.{ℕ, ◌+◌, ◌*◌, ◌%◌, ◌^◌, ◌<◌, 
 use Rattle.sets.specs.Sets.{positions, members, first_of}
 use Rattle.sets.specs.Code.{with_one}
 use Rattle.cell.specs.Limits.{port_limit, section_room}
+use Rattle.cell.specs.Order.{key}
 use Rattle.model.specs.Phase.{Waiting, Phase, phase, crosspoints}
 use Rattle.layout.specs.Entry.{entry_at}
 use Rattle.layout_table.specs.CodeEntries.{nowhere}
@@ -11,26 +12,22 @@ use Rattle.slot_view.specs.CodeChoices.{of_input, scheduled_of, best_of}
 use Rattle.slot_view.specs.CodeView.{places_in, waiting_in, waiting_at, InTable, Agrees}
 use Rattle.slot_view.specs.CodeScan.{Readable, some_urgent}
 use Rattle.layout.specs.Code.{ports_in}
-use Rattle.slot_view.specs.CodeViewed.{key_at, Keyed}
+use Rattle.slot_view.specs.CodeViewed.{no_key, key_at, Keyed}
 
 ------------------------------------------------------------------------
 -- what the walk asks
 
--- the crosspoints are those of the table, with the keys of their cells, whose ranks have 32 bits
-pub record CrossKnown (table : List ℕ) (cross keys : List (List ℕ)) : Type 0 where
+-- the crosspoints are those of the table, by the keys of their cells, which are below the key of none
+pub record KeysKnown (table : List ℕ) (keys : List (List ℕ)) : Type 0 where
   pub readable : Readable table
+  pub cross : List (List ℕ)
   pub agrees : Agrees table (places_in table) cross
   pub keyed : Keyed table cross keys
-  pub ranks : (k : ℕ) → InTable table k → (entry_at table k).cell.rank < 2 ^ 32
-
--- the keys are those of such crosspoints
-pub record KeysKnown (table : List ℕ) (keys : List (List ℕ)) : Type 0 where
-  pub cross : List (List ℕ)
-  pub known : CrossKnown table cross keys
+  pub below : (k : ℕ) → InTable table k → key (entry_at table k).cell < no_key
 
 -- and the best cell there of each output and its key are known
-pub record BestKnown (table : List ℕ) (cross keys : List (List ℕ)) (best least : List ℕ) : Type 0 where
-  pub known : CrossKnown table cross keys
+pub record BestKnown (table : List ℕ) (keys : List (List ℕ)) (best least : List ℕ) : Type 0 where
+  pub known : KeysKnown table keys
   pub bests : (output : ℕ) → output < port_limit
       → get_or best output 0 ≡ best_of (ports_in table) (crosspoints (waiting_in table)) output
   pub leasts : (output : ℕ) → output < port_limit → get_or least output 0 ≡ key_at table (get_or best output 0)

@@ -1,16 +1,17 @@
 // Scope 3.3 to 3.6, rules 1 to 4: which cells a phase schedules, which are urgent, and which are matched. Rule 3
 // asks for the best crosspoint cells of the outputs, and rule 6 goes on from them.
 // Entry k of a table is a cell of input k / 64. The view of the table is only read.
+#![tactic(auto)]
 ghost use Rattle.std.specs.Prelude.{◌≡◌, ℕ, ◌<◌, length, get_or, replicate};
 ghost use Rattle.cell.specs.Limits.{port_limit};
-ghost use Rattle.model.specs.Phase.{blocked, is_urgent, crosspoint_empty, crosspoints};
+ghost use Rattle.model.specs.Phase.{is_urgent, crosspoint_empty, crosspoints};
 ghost use Rattle.layout.specs.Code.{ports_in};
 ghost use Rattle.layout_table.specs.CodeEntries.{nowhere};
 ghost use Rattle.slot_view.specs.CodeView.{places_in, waiting_in, Square, Agrees};
 ghost use Rattle.slot_view.specs.CodeScan.{Readable};
 ghost use Rattle.slot_view.specs.CodeViewed.{head_set, ListsOf, Keyed, Chosen};
-ghost use Rattle.slot_choice.specs.CodeWalk.{CrossKnown, KeysKnown, BestKnown, CellAt, cell_at, scheduled_at};
-ghost use Rattle.slot_choice.specs.CodeWalk.{Scanned, ScannedAll, entered, Entered};
+ghost use Rattle.slot_choice.specs.CodeWalk.{KeysKnown, BestKnown, CellAt, cell_at, scheduled_at, Scanned};
+ghost use Rattle.slot_choice.specs.CodeWalk.{ScannedAll, entered, Entered};
 
 use layout::{CELLS, PORTS};
 use layout_table::priority::NOWHERE;
@@ -41,13 +42,18 @@ pub fn choose(
 {
     let mut best = [NOWHERE; PORTS];
     let mut least = [0; PORTS];
-    slot_leaders::best_of_each(table, cross, keys, &mut best, &mut least);
+    slot_leaders::best_of_each(
+        layout_table::header::ports_of(table) as u32,
+        cross,
+        keys,
+        &mut best,
+        &mut least,
+    );
     let mut scheduled = [NOWHERE; PORTS];
     let mut candidates = [0; PORTS];
     let urgent = scan_each(
         table,
         heads,
-        cross,
         keys,
         &best,
         &least,
@@ -69,14 +75,13 @@ pub fn choose(
 fn scan_each(
     table: &[u8],
     heads: &[u64; PORTS],
-    cross: &[[u16; PORTS]; PORTS],
     keys: &[[u64; PORTS]; PORTS],
     best: &[u16; PORTS],
     least: &[u64; PORTS],
     scheduled: &mut [u16; PORTS],
     urgent: &mut [u64; PORTS],
 ) -> bool
-    requires best_known { BestKnown table.now cross.now keys.now best.now least.now }
+    requires best_known { BestKnown table.now keys.now best.now least.now }
     requires by_index { (input : ℕ) → input < port_limit → get_or heads.now input 0
         ≡ head_set table.now (places_in table.now) input }
     requires scheduled_value { (scheduled.old ≡ replicate port_limit nowhere) × (urgent.old ≡ replicate port_limit 0) }
@@ -86,7 +91,7 @@ fn scan_each(
     let ports = layout_table::header::ports_of(table);
     let mut input = 0;
     while input < ports {
-        let found = scan(table, heads[input], cross, keys, best, least, input);
+        let found = scan(table, heads[input], keys, best, least, input);
         scheduled[input] = found.scheduled;
         urgent[input] = found.urgent;
         some = some | (found.urgent != 0);
@@ -101,13 +106,12 @@ fn scan_each(
 fn scan(
     table: &[u8],
     heads: u64,
-    cross: &[[u16; PORTS]; PORTS],
     keys: &[[u64; PORTS]; PORTS],
     best: &[u16; PORTS],
     least: &[u64; PORTS],
     input: usize,
 ) -> Found
-    requires best_known { BestKnown table.now cross.now keys.now best.now least.now }
+    requires best_known { BestKnown table.now keys.now best.now least.now }
     requires input_bound { (input < ports_in table.now) × (heads ≡ head_set table.now (places_in table.now) input) }
     ensures { Scanned table.now input result.scheduled result.urgent }
 {
@@ -119,14 +123,14 @@ fn scan(
             break;
         }
         left = sets::rest(left);
-        let member = is_urgent(table, cross, keys, best, least, input, position, CELLS);
+        let member = is_urgent(table, keys, best, least, input, position, CELLS);
         urgent = sets::with_if(urgent, position, member);
     }
     let scheduled = sets::first(left);
     while left != 0 {
         let position = sets::first(left);
         left = sets::rest(left);
-        let member = is_urgent(table, cross, keys, best, least, input, position, scheduled);
+        let member = is_urgent(table, keys, best, least, input, position, scheduled);
         urgent = sets::with_if(urgent, position, member);
     }
     Found {
@@ -150,35 +154,11 @@ fn is_ready(table: &[u8], keys: &[[u64; PORTS]; PORTS], input: usize, position: 
     keys[output][input] == NO_KEY
 }
 
-// Rule 1 for a head, by its position: its crosspoint holds a cell of lower output priority. Where both keys are equal,
-// as those of later classes are, the cells themselves are compared.
-fn is_blocked(
-    table: &[u8],
-    cross: &[[u16; PORTS]; PORTS],
-    keys: &[[u64; PORTS]; PORTS],
-    input: usize,
-    position: usize,
-) -> bool
-    requires cross_known { CrossKnown table.now cross.now keys.now }
-    requires cell_at { CellAt table.now input position }
-    ensures { result ≡ blocked (ports_in table.now) (crosspoints (waiting_in table.now))
-        (cell_at table.now input position) }
-{
-    let k = CELLS * input + position;
-    let output = layout_table::entry::output_of(table, k) as usize;
-    let key = layout_table::entry::key_of(table, k);
-    let held = keys[output][input];
-    if key == held {
-        return layout_table::priority::is_over(table, k, cross[input][output]);
-    }
-    (key < held) & (held != NO_KEY)
-}
-
 // Rule 3 for a head, by its position, and for any scheduled cell of its input, by its own; 64 or more stands for none.
-// The tests are those of Pan and Yang, section 4.2, in the order of their text.
+// The tests are those of Pan and Yang, section 4.2, in the order of their text. No branch is taken on the first, as it
+// would be guessed badly.
 fn is_urgent(
     table: &[u8],
-    cross: &[[u16; PORTS]; PORTS],
     keys: &[[u64; PORTS]; PORTS],
     best: &[u16; PORTS],
     least: &[u64; PORTS],
@@ -186,21 +166,22 @@ fn is_urgent(
     position: usize,
     scheduled: usize,
 ) -> bool
-    requires best_known { BestKnown table.now cross.now keys.now best.now least.now }
+    requires best_known { BestKnown table.now keys.now best.now least.now }
     requires cell_at { CellAt table.now input position }
     ensures { result ≡ is_urgent (ports_in table.now) (crosspoints (waiting_in table.now))
         (scheduled_at table.now input scheduled) (cell_at table.now input position) }
 {
-    // Whether it is blocked. No branch is taken on it, as it would be guessed badly.
-    let blocked = is_blocked(table, cross, keys, input, position);
+    let k = CELLS * input + position;
+    let output = layout_table::entry::output_of(table, k) as usize;
+    let key = layout_table::entry::key_of(table, k);
+    // Whether it is blocked: its crosspoint holds a cell of lower output priority. Of one input the keys decide.
+    let held = keys[output][input];
+    let blocked = (key < held) & (held != NO_KEY);
     // Its place: before the scheduled cell.
     if position >= scheduled {
         return false;
     }
     // The crosspoints of its output: over every cell there, so over the best.
-    let k = CELLS * input + position;
-    let output = layout_table::entry::output_of(table, k) as usize;
-    let key = layout_table::entry::key_of(table, k);
     let rival = least[output];
     if key == rival {
         return blocked

@@ -1,13 +1,13 @@
 -- The checks of a slot's records, on the bytes.
 --     port-by-input, port-by-output    4 by the two fields
---     flow-below, class-below          what 5 and 16 say of a record that passes
+--     flow-below                       what 5 says of a record that passes
 --     turn-after                       6 by the lowest input whose turn it is
 --     own-flow                         the flow of an entry of the record's input, by the numbers of the flows
 --     outranks-by                      7 of one entry
 --     Fallen                           7 by a pass over the section of the record's input
 --     full-count                       8 by the count of the record's input
---     fault-none, port-none            all six, and 4, 5, 16, 6 where no cell waits
---     port-found, -clear, -passed      4, 5, 16, 6 first, then 7 and 8 by the waiting cells
+--     fault-none, port-none            all five, and 4 to 6 where no cell waits
+--     port-found, -clear, -passed      4 to 6 first, then 7 and 8 by the waiting cells
 --     clear-not                        a fault is not `Clear`
 use Prim.Native.Nat.{ℕ, zero, suc, ◌+◌, ◌*◌, ◌-◌, ◌/◌, ◌≤◌, ◌<◌}
 use mathlib.Core.Bool.{Bool, true, false, cond, not, ◌&&◌, ◌||◌}
@@ -28,12 +28,12 @@ use Rattle.laws.proofs.Lists.{Passing, some?-e, some?-i, some?-false, some?-map,
 use Rattle.laws.proofs.Count.{count-all, count_map}
 use Rattle.cell.specs.declared.Cell.{Cell}
 use Rattle.cell.specs.declared.Refusal.{Refusal}
-use Rattle.cell.specs.declared.Refusal.TheVariants.{NoSuchPort, NoSuchFlow, NoSuchClass, InputOrder}
+use Rattle.cell.specs.declared.Refusal.TheVariants.{NoSuchPort, NoSuchFlow, InputOrder}
 use Rattle.cell.specs.Flow.{same_flow}
-use Rattle.cell.specs.Limits.{section_room, flow_limit, class_limit, input_full}
+use Rattle.cell.specs.Limits.{section_room, flow_limit, input_full}
 use Rattle.cell.proofs.Flow.{flow-input}
 use Rattle.model.specs.State.{Entry, cells}
-use Rattle.model.specs.Checks.{no_such_port, no_such_flow, no_such_class, out_of_turn, falling_rank, full, fault}
+use Rattle.model.specs.Checks.{no_such_port, no_such_flow, out_of_turn, falling_rank, full, fault}
 use Rattle.model.proofs.Admitted.{Faultless, faultless, port-input, port-output}
 use Rattle.model.proofs.Bags.{flatten-mem, mem-flatten}
 use Rattle.model.proofs.Sections.{count-flatten-one}
@@ -64,15 +64,11 @@ port-by-output ports p c e h =
     rw (inside, e)
 
 ------------------------------------------------------------------------
--- 5 and 16
+-- 5
 
 pub flow-below : (c : Cell) → no_such_flow c ≡ false → c.flow < flow_limit
 unfolding no_such_flow
 flow-below c h = ltb-true c.flow flow_limit (not-false (ltb c.flow flow_limit) h)
-
-pub class-below : (c : Cell) → no_such_class c ≡ false → c.class < class_limit
-unfolding no_such_class
-class-below c h = ltb-true c.class class_limit (not-false (ltb c.class class_limit) h)
 
 ------------------------------------------------------------------------
 -- 6
@@ -112,11 +108,10 @@ module _ {A : Type 0} (p : A → Bool) where
 
 -- by the numbers of the flows
 pub own-flow : (bs : List ℕ) (k : ℕ) (c : Cell) (word flow : ℕ) → k / 64 ≡ c.input → c.output < 256
-    → c.flow < 256 → (entry_at bs k).cell.output < 256 → (entry_at bs k).cell.flow < 256
-    → word ≡ flow_word (entry_at bs k).cell → flow ≡ flow_word c
+    → (entry_at bs k).cell.output < 256 → word ≡ flow_word (entry_at bs k).cell → flow ≡ flow_word c
     → eqb word flow ≡ same_flow (entry_at bs k).cell c
-own-flow bs k c word flow input hc fc hd fd here there =
-    ap₂ eqb here there ∙ flow-word (entry_at bs k).cell c (entry_at-input bs k ∙ input) hd hc fd fc
+own-flow bs k c word flow input hc hd here there =
+    ap₂ eqb here there ∙ flow-word (entry_at bs k).cell c (entry_at-input bs k ∙ input) hd hc
 
 -- by the flow and the rank
 pub outranks-by : (c d : Cell) (same : Bool) (rank : ℕ) → same ≡ same_flow d c → rank ≡ d.rank
@@ -221,19 +216,19 @@ module _ (bs : List ℕ) (t : IsTable bs) (c : Cell) where
             ne_eqb e.cell.input c.input (λ q. h (sym (own-input j e m) ∙ q)))
 
 ------------------------------------------------------------------------
--- all six
+-- all five
 
 pub fault-none : (ports : ℕ) (waiting : List Cell) (before : Option Cell) (c : Cell) → no_such_port ports c ≡ false
-    → no_such_flow c ≡ false → no_such_class c ≡ false → out_of_turn before c ≡ false → falling_rank waiting c ≡ false
-    → full waiting c ≡ false → fault ports waiting before c ≡ none
+    → no_such_flow c ≡ false → out_of_turn before c ≡ false → falling_rank waiting c ≡ false → full waiting c ≡ false
+    → fault ports waiting before c ≡ none
 unfolding fault
-fault-none ports waiting before c p f k t r u = rw (p, f, k, t, r, u)
+fault-none ports waiting before c p f t r u = rw (p, f, t, r, u)
 
--- the first four, where no cell waits
+-- the first three, where no cell waits
 pub port-none : (ports : ℕ) (before : Option Cell) (c : Cell) → no_such_port ports c ≡ false → no_such_flow c ≡ false
-    → no_such_class c ≡ false → out_of_turn before c ≡ false → fault ports [] before c ≡ none
+    → out_of_turn before c ≡ false → fault ports [] before c ≡ none
 unfolding falling_rank full some? count
-port-none ports before c p f k t = fault-none ports [] before c p f k t refl refl
+port-none ports before c p f t = fault-none ports [] before c p f t refl refl
 
 ------------------------------------------------------------------------
 -- as the code answers it
@@ -252,12 +247,12 @@ turn_by : (turn : ℕ) → (before : Option Cell) × (turn_after before ≡ turn
 unfolding turn_after
 turn_by zero = (none, refl)
 turn_by (suc n) =
-    (some (record { input = n; output = 0; flow = 0; class = 0; rank = 0; tag = 0; slot = 0 }), add-one n)
+    (some (record { input = n; output = 0; flow = 0; rank = 0; tag = 0; slot = 0 }), add-one n)
 
 ------------------------------------------------------------------------
--- 4, 5, 16, 6, and then 7 and 8
+-- 4 to 6, and then 7 and 8
 
--- what the checks of a record's ports, flow, class and turn say
+-- what the checks of a record's ports, flow and turn say
 abbrev pub PortSays : ℕ → ℕ → ℕ → Cell → Fault → Type 0
 PortSays ports turn place c found =
     (before : Option Cell) → turn_after before ≡ turn → found ≡ fault_at place (fault ports [] before c)
@@ -269,19 +264,16 @@ then_by o later = elim o [ some r ↦ some r | none ↦ later ]
 fault-parts : (ports : ℕ) (waiting : List Cell) (before : Option Cell) (c : Cell)
     → fault ports waiting before c ≡ then_by (fault ports [] before c) (waiting_fault waiting c)
 unfolding fault falling_rank full waiting_fault some? count
-fault-parts ports waiting before c = go (no_such_port ports c) (no_such_flow c) (no_such_class c) (out_of_turn before c)
+fault-parts ports waiting before c = go (no_such_port ports c) (no_such_flow c) (out_of_turn before c)
   where
-    go : (p f k t : Bool)
-        → cond p (some NoSuchPort) (cond f (some NoSuchFlow) (cond k (some NoSuchClass) (cond t (some InputOrder)
-        (waiting_fault waiting c))))
-        ≡ then_by (cond p (some NoSuchPort) (cond f (some NoSuchFlow) (cond k (some NoSuchClass)
-        (cond t (some InputOrder) none))))
+    go : (p f t : Bool)
+        → cond p (some NoSuchPort) (cond f (some NoSuchFlow) (cond t (some InputOrder) (waiting_fault waiting c)))
+        ≡ then_by (cond p (some NoSuchPort) (cond f (some NoSuchFlow) (cond t (some InputOrder) none)))
         (waiting_fault waiting c)
-    go true f k t = refl
-    go false true k t = refl
-    go false false true t = refl
-    go false false false true = refl
-    go false false false false = refl
+    go true f t = refl
+    go false true t = refl
+    go false false true = refl
+    go false false false = refl
 
 module _ (ports : ℕ) (waiting : List Cell) (turn place : ℕ) (c : Cell) (found : Fault)
     (says : PortSays ports turn place c found) where
@@ -301,7 +293,7 @@ module _ (ports : ℕ) (waiting : List Cell) (turn place : ℕ) (c : Cell) (foun
     none_found : (before : Option Cell) → turn_after before ≡ turn → fault ports [] before c ≡ none
     none_found before e = clear_none place _ (sym (says before e) ∙ clear)
 
-    -- the ports, the flow and the class are there
+    -- the ports and the flow are there
     pub port-clear : InPorts ports c
     port-clear =
         let w = turn_by turn in
@@ -310,7 +302,6 @@ module _ (ports : ℕ) (waiting : List Cell) (turn place : ℕ) (c : Cell) (foun
           input = port-input ports c passes.port;
           output = port-output ports c passes.port;
           flow = flow-below c passes.flow;
-          class = class-below c passes.class;
         }
 
     -- and the waiting cells decide

@@ -36,7 +36,7 @@ use Rattle.slot_faults.proofs.Stored.{table-ports, table-clock}
 
 -- no record: it stands for what lies past the end
 abbrev pub no_record : Arrival
-no_record = record { input = 0; output = 0; flow = 0; class = 0; rank = 0; tag = 0 }
+no_record = record { input = 0; output = 0; flow = 0; rank = 0; tag = 0 }
 
 module _ (held : List Arrival) (many : ℕ) (all : length held ≡ 17) (enough : many ≤ 17) where
   pub held-length : length (take many held) ≡ many

@@ -1,4 +1,4 @@
--- Scope 6, refusals 3 to 8 and 16: what turns a slot back, by its table and its records.
+-- Scope 6, refusals 3 to 8: what turns a slot back, by its table and its records.
 use Rattle.std.specs.Prelude.{ℕ, ◌+◌, ◌<◌, Bool, true, false, cond, ◌&&◌, List, [], map, ltb, eqb, get_or}
 use Rattle.std.proofs.Math.Option.{Option, none, some}
 use Rattle.cell.specs.declared.Arrival.{Arrival}
@@ -7,7 +7,7 @@ use Rattle.cell.specs.declared.Refusal.{Refusal}
 use Rattle.cell.specs.declared.Refusal.TheVariants.{ClockEnd, RankOrder, Full}
 use Rattle.cell.specs.Cell.{accepted}
 use Rattle.cell.specs.Flow.{same_flow}
-use Rattle.cell.specs.Limits.{clock_end, flow_limit, class_limit}
+use Rattle.cell.specs.Limits.{clock_end, flow_limit}
 use Rattle.model.specs.State.{Entry, Switch, cells}
 use Rattle.model.specs.Checks.{falling_rank, full, fault, first_fault}
 use Rattle.layout.specs.Table.{state_of}
@@ -26,12 +26,11 @@ coming s records = map (accepted s.clock) records
 abbrev pub fault_by : Switch → Option Cell → Arrival → Option Refusal
 fault_by s before a = fault s.ports (cells s) before (accepted s.clock a)
 
--- a record's ports, its flow and its class are there
+-- a record's ports and its flow are there
 pub record InPorts (ports : ℕ) (c : Cell) : Type 0 where
   pub input : c.input < ports
   pub output : c.output < ports
   pub flow : c.flow < flow_limit
-  pub class : c.class < class_limit
 
 -- the fault of a record by the waiting cells alone
 unfoldable pub waiting_fault : List Cell → Cell → Option Refusal

@@ -1,11 +1,10 @@
-// The checks of one record: 4, 5, 16, 6, 7, 8.
+// The checks of one record, 4 to 8.
 ghost use Rattle.std.specs.Prelude.{◌≡◌, [], ◌/◌, ◌<◌};
 ghost use Rattle.std.proofs.Math.Option.{Option};
 ghost use Rattle.cell.specs.declared.Cell.{Cell};
 ghost use Rattle.cell.specs.Limits.{section_room};
 ghost use Rattle.model.specs.State.{cells};
-ghost use Rattle.model.specs.Checks.{no_such_port, no_such_flow, no_such_class, out_of_turn};
-ghost use Rattle.model.specs.Checks.{falling_rank, full, fault};
+ghost use Rattle.model.specs.Checks.{no_such_port, no_such_flow, out_of_turn, falling_rank, full, fault};
 ghost use Rattle.layout.specs.Entry.{entry_at};
 ghost use Rattle.layout.specs.Code.{HasEntry, ports_in};
 ghost use Rattle.layout.specs.Table.{state_of, IsTable};
@@ -28,7 +27,7 @@ pub(crate) fn check_record(table: &[u8], turn: u32, place: u32, c: Cell) -> Faul
     waiting_fault(table, place, c)
 }
 
-// The checks that look at no waiting cell: 4, 5, 16, 6.
+// The checks that look at no waiting cell, 4 to 6.
 pub fn port_fault(table: &[u8], turn: u32, place: u32, c: Cell) -> Fault
     requires { IsTable table.now }
     ensures { (before : Option Cell) → turn_after before ≡ turn → result
@@ -40,16 +39,13 @@ pub fn port_fault(table: &[u8], turn: u32, place: u32, c: Cell) -> Fault
     if no_such_flow(c) {
         return Fault::At(Refusal::NoSuchFlow, place);
     }
-    if no_such_class(c) {
-        return Fault::At(Refusal::NoSuchClass, place);
-    }
     if out_of_turn(turn, c) {
         return Fault::At(Refusal::InputOrder, place);
     }
     Fault::Clear
 }
 
-// The checks by the waiting cells, 7 and 8, of a record that passes 4, 5 and 16.
+// The checks by the waiting cells, 7 and 8, of a record that passes 4 and 5.
 pub fn waiting_fault(table: &[u8], place: u32, c: Cell) -> Fault
     requires table { IsTable table.now }
     requires in_ports { InPorts (ports_in table.now) c }
@@ -83,13 +79,6 @@ fn no_such_flow(c: Cell) -> bool
     !Switch::flow_in_range(c.flow)
 }
 
-// 16: a class is above 3.
-fn no_such_class(c: Cell) -> bool
-    ensures { result ≡ no_such_class c }
-{
-    !Switch::class_in_range(c.class)
-}
-
 // 6: an input is not above that of the record before it.
 fn out_of_turn(turn: u32, c: Cell) -> bool
     ensures { (before : Option Cell) → turn_after before ≡ turn → result ≡ out_of_turn before c }
@@ -102,7 +91,7 @@ fn out_of_turn(turn: u32, c: Cell) -> bool
 fn falling_rank(table: &[u8], c: Cell) -> bool
     requires table { IsTable table.now }
     requires input_bound { c.input < ports_in table.now }
-    requires output_bound { (c.output < 256) × (c.flow < 256) × (c.class < 256) }
+    requires output_bound { (c.output < 256) × (c.flow < 256) }
     ensures { result ≡ falling_rank (cells (state_of table.now)) c }
 {
     let input = c.input as usize;
@@ -118,9 +107,9 @@ fn falling_rank(table: &[u8], c: Cell) -> bool
 }
 
 // Whether an entry of the record's input is of the record's flow and has a higher rank.
-fn outranked(table: &[u8], k: usize, c: Cell, flow: u32) -> bool
+fn outranked(table: &[u8], k: usize, c: Cell, flow: u16) -> bool
     requires has_entry { HasEntry table.now k }
-    requires section_room_value { (k / section_room ≡ c.input) × (flow ≡ flow_word c) × (c.output < 256) × (c.flow < 256) }
+    requires section_room_value { (k / section_room ≡ c.input) × (flow ≡ flow_word c) × (c.output < 256) }
     ensures { result ≡ outranks c (entry_at table.now k).cell }
 {
     (layout_table::entry::flow_word_of(table, k) == flow)

@@ -1,5 +1,5 @@
-// Scope 6, refusals 3 to 8 and 16: what turns a slot back, looked for in its table and its records before anything of it
-// runs.
+// Scope 6, refusals 3 to 8: what turns a slot back, looked for in its table and its records before anything of it runs.
+#![tactic(auto)]
 pub mod checks;
 
 ghost use Rattle.std.specs.Prelude.{◌≡◌, ◌+◌, ◌≤◌, ◌<◌, take};
@@ -16,8 +16,8 @@ use cell::{Arrival, Cell, Fault, Refusal, Switch};
 use checks::check_record;
 use layout::HELD;
 
-// What turns a slot back, of a sound table and the first of the held records: 3, then record by record 4, 5, 16, 6,
-// 7, 8. The first fault is found, with the record's place.
+// What turns a slot back, of a sound table and the first of the held records: 3, then record by record 4 to 8. The
+// first fault is found, with the record's place.
 pub fn first_fault(table: &[u8], records: [Arrival; HELD], many: usize) -> Fault
     requires table { IsTable table.now }
     requires many_le_held_limit { many ≤ held_limit }
@@ -70,7 +70,6 @@ pub fn cell_of(a: Arrival, clock: u32) -> Cell
         input: a.input,
         output: a.output,
         flow: a.flow,
-        class: a.class,
         rank: a.rank,
         tag: a.tag,
         slot: clock,

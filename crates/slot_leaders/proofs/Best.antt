@@ -1,5 +1,5 @@
 -- The best cell at the crosspoints of an output, crosspoint by crosspoint.
---     best-zero, -more   the choice among the first inputs' crosspoints
+--     BestUpTo           the choice among the first inputs' crosspoints; best-zero, best-more
 --     best_of_lem, of-best   over all inputs it is the definition's choice, and the definition's choice is it
 use Prim.Native.Nat.{ℕ, zero, suc, ◌+◌, ◌/◌, ◌<◌, ◌≤◌}
 use native.Mathlib.Numerals.{add-one}
@@ -28,11 +28,10 @@ use Rattle.layout.specs.Table.{entry_limit}
 use Rattle.layout_table.specs.CodeEntries.{nowhere, better_of}
 use Rattle.layout_table.proofs.Better.{better-none}
 use Rattle.slot_view.specs.CodeView.{crosspoint_at}
-use Rattle.slot_view.specs.CodeChoices.{number_of, to_output, best_of, empty, best}
+use Rattle.slot_view.specs.CodeChoices.{number_of, to_output, best_of, BestAmong, empty, best}
 use Rattle.slot_view.specs.CodeScan.{Holds}
 use Rattle.slot_view.proofs.Choices
 use Rattle.slot_view.proofs.Choices.{Ordered, best-same}
-use Rattle.slot_leaders.specs.CodeKeys.{Crossed, BestUpTo}
 
 ------------------------------------------------------------------------
 -- the first of a list
@@ -77,11 +76,19 @@ module _ (output : ℕ) where
 ------------------------------------------------------------------------
 -- the best of the crosspoints of the first inputs
 
-module _ (table : List ℕ) (cross : List (List ℕ)) (output : ℕ) where
-  abbrev UpTo : ℕ → ℕ → Type 0
-  UpTo n r = BestUpTo table cross output n r
+-- a number that stands at a crosspoint of an output, of one of the first n inputs
+pub record Crossed (cross : List (List ℕ)) (output n k : ℕ) : Type 0 where
+  pub some : k < nowhere
+  pub holder : ℕ
+  pub early : holder < n
+  pub held : crosspoint_at cross holder output ≡ k
 
-  pub best-zero : UpTo 0 nowhere
+module _ (table : List ℕ) (cross : List (List ℕ)) (output : ℕ) where
+  -- the choice among those of the first n inputs
+  abbrev pub BestUpTo : ℕ → ℕ → Type 0
+  BestUpTo n r = BestAmong table (Crossed cross output n) r
+
+  pub best-zero : BestUpTo 0 nowhere
   best-zero = empty refl (λ k c. omega (arith, c.early))
 
   later : (n k : ℕ) → Crossed cross output n k → Crossed cross output (n + 1) k
@@ -103,7 +110,7 @@ module _ (table : List ℕ) (cross : List (List ℕ)) (output : ℕ) where
         let w = h.real i output l o (omega arith) in
         ap (λ n. (entry_at table n).cell.input) (sym (w.2 ∙ e)) ∙ ap (λ c. c.input) (sym (h.cell w.0 w.1)) ∙ w.3
 
-    pub best-more : (n r : ℕ) → n < 16 → UpTo n r → UpTo (n + 1) (better_of table r (crosspoint_at cross n output))
+    pub best-more : (n r : ℕ) → n < 16 → BestUpTo n r → BestUpTo (n + 1) (better_of table r (crosspoint_at cross n output))
     best-more n r s b = go (leb nowhere x) refl
       where
         x : ℕ
@@ -117,10 +124,10 @@ module _ (table : List ℕ) (cross : List (List ℕ)) (output : ℕ) where
             let other = held-input r c.holder (omega (arith, c.early)) c.some c.held in
             omega (arith, c.early))))
 
-        go : (t : Bool) → leb nowhere x ≡ t → UpTo (n + 1) (better_of table r x)
+        go : (t : Bool) → leb nowhere x ≡ t → BestUpTo (n + 1) (better_of table r x)
         go true e =
             let none = leb-true nowhere x e in
-            subst (UpTo (n + 1)) (sym (better-none table r x none))
+            subst (BestUpTo (n + 1)) (sym (better-none table r x none))
             (best-same table (later n) r (λ k c. back k c (earlier n k c)) b)
           where
             back : (k : ℕ) → Crossed cross output (n + 1) k → Crossed cross output n k ⊎ (k ≡ x) → Crossed cross output n k
@@ -152,7 +159,7 @@ module _ (table : List ℕ) (cross : List (List ℕ)) (output : ℕ) where
           held = rw q at (h.filled e m);
         }
 
-    pub best_of_lem : (r : ℕ) → ports_in table ≤ 16 → UpTo (ports_in table) r → r ≡ best_of (ports_in table) cells output
+    pub best_of_lem : (r : ℕ) → ports_in table ≤ 16 → BestUpTo (ports_in table) r → r ≡ best_of (ports_in table) cells output
     unfolding best_of best_for to_output
     best_of_lem r ports (empty e f) =
         e
@@ -223,16 +230,16 @@ module _ (table : List ℕ) (cross : List (List ℕ)) (output : ℕ) where
                 (clash (beats-i (ports_in table) w.0 g (w.4 ∙ sym q) t) (mem-least-first (beats (ports_in table)) cells m w.1))
 
     -- the choice that is found input by input
-    found : (n : ℕ) → n ≤ 16 → (r : ℕ) × UpTo n r
+    found : (n : ℕ) → n ≤ 16 → (r : ℕ) × BestUpTo n r
     found zero l = (nowhere, best-zero)
     found (suc n) l =
         let w = found n (omega arith) in
         (better_of table w.0 (crosspoint_at cross n output), rw (← add-one n) (best-more n w.0 (omega arith) w.1))
 
-    pub of-best : ports_in table ≤ 16 → UpTo (ports_in table) (best_of (ports_in table) cells output)
+    pub of-best : ports_in table ≤ 16 → BestUpTo (ports_in table) (best_of (ports_in table) cells output)
     of-best ports =
         let w = found (ports_in table) ports in
-        subst (UpTo (ports_in table)) (best_of_lem w.0 ports w.1) w.1
+        subst (BestUpTo (ports_in table)) (best_of_lem w.0 ports w.1) w.1
 
 ------------------------------------------------------------------------
 -- the definition's choice, by its cell

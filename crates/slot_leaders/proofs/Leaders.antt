@@ -1,8 +1,7 @@
 -- Which input leads an output by its row of keys.
 --     least-all                     the least of a row, part by part
---     round-came, turn-position     the member of a set that comes first in a round, and where that begins
---     member-input                  the members of a set of inputs
---     inputs-some, -fit, leads      some input has the least key, and which of them leads
+--     round-came                    the member of a set that comes first in a round
+--     inputs-some, leads            some input has the least key, and which of them leads
 --     least-none, .., least_more    output by output
 use Prim.Native.Nat.{ℕ, ◌+◌, ◌%◌, ◌^◌, ◌<◌, ◌≤◌, min}
 use native.Mathlib.Nat.{min-eq_left, min-eq_right, zero-add, mod-lt}
@@ -19,11 +18,11 @@ use Rattle.laws.proofs.Tests.{clash, by-fail, and_i, and_l, and_r, not-false-i}
 use Rattle.sets.specs.Sets.{positions, has, first_of}
 use Rattle.sets.specs.Code.{from}
 use Rattle.sets.proofs.Digits.{has-past}
-use Rattle.sets.proofs.Members.{has-set_from, has-from, set_from-lt, first-before, first-position, first_member}
+use Rattle.sets.proofs.Members.{has-set_from, has-from, first-before, first-position, first_member}
 use Rattle.sets.proofs.Operations.{from_less}
 use Rattle.cell.specs.Order.{first_in_turn, in_turn}
 use Rattle.cell.proofs.Turn.{in_turn-up, in_turn-round, in_turn-below}
-use Rattle.slot_leaders.specs.CodeKeys.{least_of_four, least_of, has_key, holders_of, LeastTo, FirstInRound}
+use Rattle.slot_leaders.specs.CodeKeys.{least_of_four, least_of, has_key, holders_of, LeastTo, FirstInRound, Leads}
 use Rattle.slot_leaders.proofs.Columns.{set_both}
 
 ------------------------------------------------------------------------
@@ -106,15 +105,6 @@ some-member set i h = go (compare 0 set)
 has-holders : (row : List ℕ) (key i : ℕ) → has (holders_of row key) i ≡ (ltb i 16 && eqb (get_or row i 0) key)
 has-holders row key i = has-set_from (has_key row key) 0 16 i ∙ ap (λ j. ltb i 16 && has_key row key j) (zero-add i)
 
--- a member of a set of inputs is one
-pub member-input : {set i : ℕ} → set < 2 ^ 16 → has set i ≡ true → i < 16
-member-input {set} {i} fits h = go (compare i 16)
-  where
-    go : Compared i 16 → i < 16
-    go (below l) = l
-    go (equal l) = absurd (clash h (has-past 16 set i fits (omega arith)))
-    go (above l) = absurd (clash h (has-past 16 set i fits (omega arith)))
-
 ------------------------------------------------------------------------
 -- the member that comes first in a round
 
@@ -187,23 +177,25 @@ module _ {set start : ℕ} (some : 0 < set) (fits : set < 2 ^ positions) (positi
   round-came is_some is_none is (inr (b, e)) =
       subst (λ n. FirstInRound set start (first_of n)) (sym e) (round-early (sym is ∙ is_none b))
 
--- a round begins at an input
-pub turn-position : (ports slot : ℕ) {start : ℕ} → start ≡ first_in_turn ports slot → 0 < ports → ports ≤ 16 → start < positions
-turn-position ports slot turn some few = omega (arith, turn, mod-lt slot some)
-
--- of the inputs that have a key that which comes first in the round of its slot
-pub record Leads (ports : ℕ) (row : List ℕ) (key r : ℕ) : Type 0 where
-  pub inside : r < 16
-  pub held : get_or row r 0 ≡ key
-  pub first : (i : ℕ) → i < 16 → get_or row i 0 ≡ key
-      → (i ≡ r) ⊎ (in_turn (first_in_turn ports (key % 2 ^ 32)) r i ≡ true)
-
--- of the inputs that have the least key
-module _ (row : List ℕ) {key inputs : ℕ} (least : key ≡ least_of row) (holders : inputs ≡ holders_of row (least_of row)) where
+-- of the inputs that have the least key, in the round of the slot that it has
+module _ (ports : ℕ) (row : List ℕ) {key inputs start : ℕ} (least : key ≡ least_of row)
+    (holders : inputs ≡ holders_of row (least_of row)) (turn : start ≡ first_in_turn ports (key % 2 ^ 32)) where
   inputs-at : (i : ℕ) → has inputs i ≡ (ltb i 16 && eqb (get_or row i 0) key)
   inputs-at i = ap (λ s. has s i) (holders ∙ ap (holders_of row) (sym least)) ∙ has-holders row key i
 
-  -- there is one
+  pub leads : {r : ℕ} → FirstInRound inputs start r → Leads ports row key r
+  leads {r} f = record {
+    inside = ltb-true r 16 (and_l (ltb r 16) (eqb (get_or row r 0) key) both);
+    held = eqb-true (get_or row r 0) key (and_r (ltb r 16) (eqb (get_or row r 0) key) both);
+    first = λ i l h.
+        subst (λ n. (i ≡ r) ⊎ (in_turn n r i ≡ true)) turn
+        (f.first i (omega arith)
+        (inputs-at i ∙ and_i (ltb i 16) (eqb (get_or row i 0) key) (lt-ltb i 16 l) (eq-eqb _ _ h)));
+  }
+    where
+      both : (ltb r 16 && eqb (get_or row r 0) key) ≡ true
+      both = sym (inputs-at r) ∙ f.member
+
   pub inputs-some : 0 < inputs
   inputs-some =
       let all = least-all row in
@@ -212,21 +204,8 @@ module _ (row : List ℕ) {key inputs : ℕ} (least : key ≡ least_of row) (hol
       ∙ and_i (ltb all.holder 16) (eqb (get_or row all.holder 0) key) (lt-ltb all.holder 16 all.high)
       (eq-eqb _ _ (all.held ∙ sym least)))
 
-  pub inputs-fit : inputs < 2 ^ 16
-  inputs-fit = omega (arith, holders, set_from-lt (has_key row (least_of row)) 0 16)
-
-  -- in the round of the slot that it has
-  pub leads : {ports r : ℕ} → FirstInRound inputs (first_in_turn ports (key % 2 ^ 32)) r → Leads ports row key r
-  leads {r = r} f = record {
-    inside = ltb-true r 16 (and_l (ltb r 16) (eqb (get_or row r 0) key) both);
-    held = eqb-true (get_or row r 0) key (and_r (ltb r 16) (eqb (get_or row r 0) key) both);
-    first = λ i l h.
-        f.first i (omega arith)
-        (inputs-at i ∙ and_i (ltb i 16) (eqb (get_or row i 0) key) (lt-ltb i 16 l) (eq-eqb _ _ h));
-  }
-    where
-      both : (ltb r 16 && eqb (get_or row r 0) key) ≡ true
-      both = sym (inputs-at r) ∙ f.member
+  pub turn-position : 0 < ports → ports ≤ 16 → start < positions
+  turn-position some few = omega (arith, turn, mod-lt (key % 2 ^ 32) some)
 
 ------------------------------------------------------------------------
 -- output by output

@@ -1,15 +1,10 @@
--- The best crosspoint cell of an output, by its row of keys and cell by cell. Only `best_of_each`, its functions and its
--- caller cite these.
+-- The best crosspoint cell of an output by its row of keys. Only `best_of_each`, its functions and its caller cite these.
 use Rattle.std.specs.Prelude.{ℕ, ◌+◌, ◌%◌, ◌^◌, ◌<◌, min, Bool, true, ◌⊎◌, ◌≡◌, List, [], eqb, length, get_or}
 use Rattle.sets.specs.Sets.{positions, has, set_from}
 use Rattle.cell.specs.Limits.{port_limit}
 use Rattle.cell.specs.Order.{first_in_turn, in_turn}
 use Rattle.layout_table.specs.CodeEntries.{nowhere}
 use Rattle.slot_view.specs.CodeView.{crosspoint_at}
-use Rattle.slot_view.specs.CodeChoices.{BestAmong}
-
-------------------------------------------------------------------------
--- by keys
 
 -- the least of four numbers of a row, and of all sixteen
 abbrev pub least_of_four : List ℕ → ℕ → ℕ
@@ -40,22 +35,22 @@ pub record FirstInRound (set start r : ℕ) : Type 0 where
   pub inside : r < positions
   pub first : (i : ℕ) → i < positions → has set i ≡ true → (i ≡ r) ⊎ (in_turn start r i ≡ true)
 
--- what stands at a crosspoint of an output, of the one of some inputs that comes first in the round of a key's slot
-pub record FirstByTurn (ports : ℕ) (cross : List (List ℕ)) (output inputs key r : ℕ) : Type 0 where
-  pub input : ℕ
-  pub first : FirstInRound inputs (first_in_turn ports (key % 2 ^ 32)) input
-  pub number : r ≡ min (crosspoint_at cross input output) nowhere
+-- of the inputs that have a key that which comes first in the round of its slot
+pub record Leads (ports : ℕ) (row : List ℕ) (key r : ℕ) : Type 0 where
+  pub inside : r < port_limit
+  pub held : get_or row r 0 ≡ key
+  pub first : (i : ℕ) → i < port_limit → get_or row i 0 ≡ key
+      → (i ≡ r) ⊎ (in_turn (first_in_turn ports (key % 2 ^ 32)) r i ≡ true)
 
-------------------------------------------------------------------------
--- cell by cell
-
--- a number that stands at a crosspoint of an output, of one of the first n inputs
-pub record Crossed (cross : List (List ℕ)) (output n k : ℕ) : Type 0 where
-  pub some : k < nowhere
+-- the key is the least of an output, and the number stands at the crosspoint of the input that goes first of those that
+-- have it
+pub record Leading (ports : ℕ) (cross keys : List (List ℕ)) (output number key : ℕ) : Type 0 where
+  pub least : key ≡ least_of (get_or keys output [])
   pub holder : ℕ
-  pub early : holder < n
-  pub held : crosspoint_at cross holder output ≡ k
+  pub holds : Leads ports (get_or keys output []) key holder
+  pub number_is : number ≡ min (crosspoint_at cross holder output) nowhere
 
--- the choice among those
-abbrev pub BestUpTo : List ℕ → List (List ℕ) → ℕ → ℕ → ℕ → Type 0
-BestUpTo table cross output n r = BestAmong table (Crossed cross output n) r
+-- of the first n outputs
+pub record LeadingTo (ports : ℕ) (cross keys : List (List ℕ)) (n : ℕ) (best least : List ℕ) : Type 0 where
+  pub best-size : length best ≡ port_limit
+  pub each : (output : ℕ) → output < n → Leading ports cross keys output (get_or best output 0) (get_or least output 0)

@@ -1,46 +1,36 @@
 // The best crosspoint cell of each output, which rule 3 asks for and from which rule 6 goes on. It is found by the keys
-// of the cells at the crosspoints; where two have one key, the round of its slot decides between their inputs. Where no
-// cell of an output is of class 0, all its keys are the late one, and the cells themselves are compared.
-ghost use Rattle.std.specs.Prelude.{◌≡◌, [], ℕ, ◌+◌, ◌^◌, ◌≤◌, ◌<◌, min, length, get_or};
+// of the cells at the crosspoints; where two have one key, the round of its slot decides between their inputs.
+#![tactic(auto)]
+ghost use Rattle.std.specs.Prelude.{◌≡◌, [], ◌+◌, ◌≤◌, ◌<◌, min, length, get_or};
 ghost use Rattle.sets.specs.Sets.{positions};
 ghost use Rattle.cell.specs.Limits.{port_limit};
-ghost use Rattle.layout.specs.Code.{ports_in};
-ghost use Rattle.slot_view.specs.CodeScan.{Readable, Bests};
-ghost use Rattle.slot_view.specs.CodeView.{places_in, Agrees};
-ghost use Rattle.slot_view.specs.CodeViewed.{key_at, Keyed};
-ghost use Rattle.slot_leaders.specs.CodeKeys.{least_of_four, least_of, holders_of, LeastTo, FirstInRound};
-ghost use Rattle.slot_leaders.specs.CodeKeys.{FirstByTurn, BestUpTo};
+ghost use Rattle.slot_leaders.specs.CodeKeys.{least_of_four, least_of, holders_of, LeastTo, FirstInRound, LeadingTo};
 
-use cell::LATE_KEY;
 use layout::PORTS;
 use layout_table::priority::NOWHERE;
 
-// The best crosspoint cell of each output, and its key. Nothing branches on a tie, as that would be guessed badly; the
-// divisions stand in a loop of their own, in which they overlap.
+// The best crosspoint cell of each output of a switch with so many ports, and its key. Nothing branches on a tie, as
+// that would be guessed badly; the divisions stand in a loop of their own, in which they overlap.
 pub fn best_of_each(
-    table: &[u8],
+    ports: u32,
     cross: &[[u16; PORTS]; PORTS],
     keys: &[[u64; PORTS]; PORTS],
     best: &mut [u16; PORTS],
     least: &mut [u64; PORTS],
 )
-    requires readable { Readable table.now }
-    requires agrees { Agrees table.now (places_in table.now) cross.now × Keyed table.now cross.now keys.now }
+    requires ports_nonzero { (0 < ports) × (ports ≤ port_limit) }
     requires best_len { (length best.old ≡ port_limit) × (length least.old ≡ port_limit) }
-    ensures bests { Bests table.now cross.now best.new }
-    ensures by_index { (output : ℕ) → output < port_limit → get_or least.new output 0
-        ≡ key_at table.now (get_or best.new output 0) }
+    ensures { LeadingTo ports cross.now keys.now port_limit best.new
+        least.new }
 {
-    let ports = layout_table::header::ports_of(table) as u32;
     let mut holders = [0; PORTS];
     least_of_each(keys, least, &mut holders);
     let mut output = 0;
     while output < PORTS {
-        best[output] = if least[output] == LATE_KEY {
-            best_by_cells(table, cross, output)
-        } else {
-            first_by_turn(ports, cross, output, holders[output], least[output])
-        };
+        let slot = (least[output] % 4294967296) as u32;
+        let input = first_in_round(holders[output], cell::first_in_turn(ports, slot) as usize);
+        let number = cross[input][output];
+        best[output] = if number < NOWHERE { number } else { NOWHERE };
         output += 1;
     }
 }
@@ -102,24 +92,6 @@ fn holders_of(keys: &[[u64; PORTS]; PORTS], output: usize, key: u64) -> u64
     holders
 }
 
-// What stands at the crosspoint of the input that comes first, of some inputs, in the round of the slot that their key has.
-fn first_by_turn(
-    ports: u32,
-    cross: &[[u16; PORTS]; PORTS],
-    output: usize,
-    inputs: u64,
-    key: u64,
-) -> u16
-    requires ports_nonzero { (0 < ports) × (ports ≤ port_limit) × (output < port_limit) }
-    requires inputs_nonzero { (0 < inputs) × (inputs < 2 ^ port_limit) }
-    ensures { FirstByTurn ports cross.now output inputs key result }
-{
-    let slot = (key % 4294967296) as u32;
-    let input = first_in_round(inputs, cell::first_in_turn(ports, slot) as usize);
-    let number = cross[input][output];
-    if number < NOWHERE { number } else { NOWHERE }
-}
-
 // The member of a set that comes first in the round that begins at `start`: the first from there on, or else the first
 // of all.
 fn first_in_round(set: u64, start: usize) -> usize
@@ -128,19 +100,4 @@ fn first_in_round(set: u64, start: usize) -> usize
 {
     let late = sets::from(set, start);
     sets::first(if late != 0 { late } else { set })
-}
-
-// The best cell at the crosspoints of an output, cell by cell.
-fn best_by_cells(table: &[u8], cross: &[[u16; PORTS]; PORTS], output: usize) -> u16
-    requires { Readable table.now × Agrees table.now (places_in table.now) cross.now × (output < port_limit) }
-    ensures { BestUpTo table.now cross.now output (ports_in table.now) result }
-{
-    let ports = layout_table::header::ports_of(table);
-    let mut best = NOWHERE;
-    let mut input = 0;
-    while input < ports {
-        best = layout_table::priority::better(table, best, cross[input][output]);
-        input += 1;
-    }
-    best
 }

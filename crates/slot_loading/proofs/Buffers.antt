@@ -2,10 +2,9 @@
 --     key-held                           a number with the key of a cell is that of a cell
 --     better-order, better-key           which of two is the better, by their order or by their keys
 --     best_none, best-wider, best-all    the choices of all outputs: of no cells, up to a later end, of all cells
---     held-inside                        the one so far is a cell of the table, or none
 --     best-choose, picked-came           with one cell more, chosen by a test
 --     Choosing                           with those of an input, by a loop over their set
-use Prim.Native.Nat.{ℕ, ◌+◌, ◌*◌, ◌≤◌, ◌<◌}
+use Prim.Native.Nat.{ℕ, ◌+◌, ◌*◌, ◌^◌, ◌≤◌, ◌<◌}
 use native.Mathlib.Omega.{arith}
 use mathlib.Core.Bool.{Bool, true, false, cond}
 use mathlib.Core.Path.{◌≡◌, refl, sym, ◌∙◌, ap, subst}
@@ -18,7 +17,6 @@ use lib.Seq.{get_or-set_same, get_or-set_other}
 use Rattle.sets.specs.Sets.{first_of}
 use Rattle.cell.specs.Limits.{section_room}
 use Rattle.cell.specs.Order.{over, key}
-use Rattle.cell.proofs.Keys.{Numbers, over-keys}
 use Rattle.laws.proofs.Compared.{Compared, below, equal, above, compare}
 use Rattle.sets.specs.Code.{rest_of}
 use Rattle.model.specs.State.{is_buffered}
@@ -30,7 +28,8 @@ use Rattle.layout.proofs.Table.{decode-bytes}
 use Rattle.layout.specs.Code.{ports_in}
 use Rattle.layout_table.specs.CodeEntries.{nowhere, better_of}
 use Rattle.layout_table.proofs.Better.{better-first, better-over, better-under}
-use Rattle.slot_view.specs.CodeChoices.{BestAmong, empty, best}
+use Rattle.layout_table.proofs.Keys.{slot-below, over-keys}
+use Rattle.slot_view.specs.CodeChoices.{BestAmong, empty}
 use Rattle.slot_view.specs.CodeView.{waiting_at, waiting_in, places_in, InTable}
 use Rattle.slot_view.specs.CodeViewed.{no_key, key_at, Buffered, BestBuffered, buffered_set}
 use Rattle.slot_view.proofs.Choices.{Ordered, best-same, best-more}
@@ -38,14 +37,14 @@ use Rattle.slot_view.proofs.Own.{table-readable, waiting_in-orderly}
 use Rattle.slot_view.proofs.Window.{in_table-i, in_table-below}
 use Rattle.slot_loading.specs.Code.{BufferedBelow, BestBelow}
 use Rattle.slot_loading.proofs.Walk.{Passing, passing-start, passing-end, passing-this, passing-below, passing-next}
-use Rattle.slot_view.proofs.Keys.{key_at-cell, key_at-none, entry-numbers-in, key_below}
+use Rattle.slot_view.proofs.Keys.{key_at-cell, key_at-none, key_below}
 
 ------------------------------------------------------------------------
 -- which of two is the better
 
 module _ (table : List ℕ) (good : IsTable table) where
-  cell-numbers : (k : ℕ) → InTable table k → Numbers (entry_at table k).cell
-  cell-numbers = entry-numbers-in table (table-readable table good) (decode-bytes table (state_of table) good)
+  slot-fits : (k : ℕ) → k < nowhere → (entry_at table k).cell.slot < 2 ^ 32
+  slot-fits = slot-below table (table-readable table good).size (decode-bytes table (state_of table) good)
 
   -- the key of a cell is below that of none
   below_none : (k : ℕ) → InTable table k → key (entry_at table k).cell < no_key
@@ -75,9 +74,9 @@ module _ (table : List ℕ) (good : IsTable table) where
     better-order l false e = better-under table held k small l (sym e)
 
     -- where their keys differ, by these; the other may be none
-    pub better-key : (held < nowhere → InTable table held) → key (entry_at table k).cell ≢ key_at table held
+    pub better-key : key (entry_at table k).cell ≢ key_at table held
         → better_of table held k ≡ cond (ltb (key (entry_at table k).cell) (key_at table held)) k held
-    better-key inside d = go (compare held nowhere)
+    better-key d = go (compare held nowhere)
       where
         first : nowhere ≤ held → better_of table held k ≡ cond (ltb (key (entry_at table k).cell) (key_at table held)) k held
         first l =
@@ -91,8 +90,8 @@ module _ (table : List ℕ) (good : IsTable table) where
             let rival = key_at-cell table held l in
             better-order l (ltb (key (entry_at table k).cell) (key_at table held))
             (ap (ltb (key (entry_at table k).cell)) rival
-            ∙ over-keys (ports_in table) (entry_at table k).cell (entry_at table held).cell (cell-numbers k t)
-            (cell-numbers held (inside l))
+            ∙ over-keys (ports_in table) (entry_at table k).cell (entry_at table held).cell (slot-fits k small)
+            (slot-fits held l)
             (λ e. d (e ∙ sym rival)))
         go (equal l) = first (omega arith)
         go (above l) = first (omega arith)
@@ -137,15 +136,14 @@ best-wider l none c =
     }
 
 -- of all cells
-pub best-all : (table numbers rivals : List ℕ)
-    → BestBelow table (places_in table) (section_room * ports_in table) numbers rivals
-    → BestBuffered table (places_in table) numbers
-best-all table numbers rivals w =
+pub best-all : (table best rivals : List ℕ) → BestBelow table (places_in table) (section_room * ports_in table) best rivals
+    → BestBuffered table (places_in table) best
+best-all table best rivals w =
     record {
       size = w.size;
       each =
           λ o h.
-          best-same table (λ k b. b.cell) (get_or numbers o 0)
+          best-same table (λ k b. b.cell) (get_or best o 0)
           (λ k b. record { early = omega (arith, b.entry.input); cell = b }) (w.each o h);
     }
 
@@ -158,14 +156,6 @@ module _ (table : List ℕ) (good : IsTable table) (k output : ℕ) (b : Buffere
   buffered-port =
       let r = table-readable table good in
       omega (arith, b.goes, r.outputs k b.entry, r.ports)
-
-  pub held-inside : get_or numbers output 0 < nowhere → InTable table (get_or numbers output 0)
-  held-inside l = go (c.each output buffered-port)
-    where
-      go : BestAmong table (BufferedBelow table (places_in table) output k) (get_or numbers output 0)
-          → InTable table (get_or numbers output 0)
-      go (empty e f) = absurd (omega arith)
-      go (best s b) = b.own.cell.entry
 
   -- of two buffered cells of an output one is over the other
   ordered : (n : ℕ) → Buffered table (places_in table) output n → Ordered table k n

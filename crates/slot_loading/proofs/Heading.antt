@@ -7,38 +7,34 @@ use mathlib.Core.Logic.{◌⊎◌, inl, inr, ◌≢◌}
 use mathlib.Core.List.{List}
 use borrow.Author.Tests.{eqb-true, eqb-false, eq-eqb, ne_eqb, lt-ltb, le-ltb}
 use lib.Dec.{eqb, ltb}
-use lib.ListN.{length, get_or}
+use lib.ListN.{get_or}
 use Rattle.laws.proofs.Tests.{either, clash, by-pass, by-fail, and-false-l, and_false_r}
 use Rattle.sets.specs.Sets.{positions, has, first_of}
 use Rattle.sets.proofs.Digits.{has-past, same-members}
 use Rattle.sets.proofs.Members.{has-set_from, has-with_one, set_of-lt}
 use Rattle.cell.specs.Flow.{same_flow}
 use Rattle.cell.specs.Limits.{section_room}
+use Rattle.cell.proofs.Flow.{flow-i, flow-e}
 use Rattle.laws.proofs.Compared.{Compared, below, equal, above, compare}
 use Rattle.sets.specs.Code.{with_one, rest_of}
 use Rattle.model.specs.State.{is_listed}
 use Rattle.layout.specs.Entry.{entry_at, count_in}
-use Rattle.layout.specs.Table.{place_of, state_of, IsTable}
-use Rattle.layout.proofs.Halves.{number_at-byte}
-use Rattle.layout.proofs.Number.{number_at-below}
-use Rattle.layout.proofs.Records.{entry_at-input, entry_at-class}
-use Rattle.layout.proofs.Table.{decode-bytes}
-use Rattle.layout.specs.Code.{ports_in, record_start}
+use Rattle.layout.specs.Table.{place_of, IsTable}
+use Rattle.layout.proofs.Records.{entry_at-input}
+use Rattle.layout.specs.Code.{ports_in}
 use Rattle.layout_table.specs.CodeEntries.{flow_word}
-use Rattle.layout_table.proofs.Entries.{flow-word}
 use Rattle.slot_view.specs.CodeView.{waiting_at, waiting_in, InTable, places_in}
 use Rattle.slot_view.specs.CodeViewed.{is_head, listed_set, head_set}
 use Rattle.slot_view.specs.CodeScan.{Readable}
 use Rattle.slot_view.proofs.Heads.{Listed, head-unlisted, head-none, head-same, head-after}
 use Rattle.slot_view.proofs.Own.{table-readable}
 use Rattle.slot_view.proofs.Together.{contiguous}
-use Rattle.slot_view.proofs.Window.{in_table-below}
 use Rattle.slot_loading.proofs.Walk.{Walk, walk_start, walk-member, walk-position, walk-next}
 use Rattle.slot_loading.proofs.Walk.{section-fits, section-member, section-none, section-end}
 
 -- above every flow word
 abbrev pub no_flow : ℕ
-no_flow = 4294967295
+no_flow = 65535
 
 -- the listed cell right before the bound: none, or one whose flow word is `last`
 pub data Before (table : List ℕ) (input bound last : ℕ) : Type 0 where
@@ -142,20 +138,6 @@ module _ (table : List ℕ) (good : IsTable table) (input : ℕ) (port : input <
           let m = section-member table good input port is_in (first_of left) (walk-member w.walk some).0 in
           record { entry = m.0; place = m.1 }
 
-      -- its class is a byte
-      class-byte : (entry_at table k).cell.class < 256
-      unfolding k
-      class-byte =
-          let at = record_start (section_room * input + first_of left) + 3 in
-          let room : at + 1 ≤ length table =
-          omega (arith, readable.size, in_table-below readable here.entry) in
-          omega (
-            arith,
-            entry_at-class table (section_room * input + first_of left),
-            number_at-byte at table,
-            number_at-below 1 at table (decode-bytes table (state_of table) good) room,
-          )
-
       -- the listed cells before it are passed
       passed : (a : ℕ) → Listed table (places_in table) a → a < k → a < section_room * input + w.bound
       unfolding listed_set is_in k
@@ -178,7 +160,6 @@ module _ (table : List ℕ) (good : IsTable table) (input : ℕ) (port : input <
               is,
               readable.outputs k here.entry,
               readable.flows k here.entry,
-              class-byte,
               readable.ports,
             )
 
@@ -207,22 +188,24 @@ module _ (table : List ℕ) (good : IsTable table) (input : ℕ) (port : input <
                 last_one : (a : ℕ) → Listed table (places_in table) a → a / section_room ≡ k / section_room → a < k → a ≤ x
                 last_one a l _ h = omega (arith, passed a l h, next)
 
-                -- the words say which flows are the same
-                by-words : eqb (flow_word (entry_at table x).cell) (flow_word (entry_at table k).cell)
-                    ≡ same_flow (entry_at table x).cell (entry_at table k).cell
-                by-words =
-                    flow-word (entry_at table x).cell (entry_at table k).cell
-                    (entry_at-input table x ∙ alike ∙ sym (entry_at-input table k))
-                    (omega (arith, readable.outputs x listed.entry, readable.ports))
-                    (omega (arith, readable.outputs k here.entry, readable.ports))
-                    (omega (arith, readable.flows x listed.entry))
-                    (omega (arith, readable.flows k here.entry))
-
                 same-words : flow ≡ last → same_flow (entry_at table x).cell (entry_at table k).cell ≡ true
-                same-words e = sym by-words ∙ eq-eqb _ _ (sym word ∙ sym e ∙ is)
+                same-words e =
+                    let outputs = readable.outputs x listed.entry in
+                    let outputs-here = readable.outputs k here.entry in
+                    let words : flow_word (entry_at table x).cell ≡ flow_word (entry_at table k).cell =
+                    sym word ∙ sym e ∙ is in
+                    flow-i
+                    (record {
+                      input = entry_at-input table x ∙ alike ∙ sym (entry_at-input table k);
+                      output = omega (arith, readable.ports);
+                      flow = omega (arith, readable.ports);
+                    })
 
                 other-words : (flow ≡ last → ⊥) → same_flow (entry_at table x).cell (entry_at table k).cell ≡ false
-                other-words d = sym by-words ∙ ne_eqb _ _ (λ q. d (is ∙ sym q ∙ sym word))
+                other-words d =
+                    by-fail _ (λ s.
+                    let f = flow-e (entry_at table x).cell (entry_at table k).cell s in
+                    d (is ∙ ap₂ (λ o n. o + 256 * n) (sym f.output) (sym f.flow) ∙ sym word))
 
                 by-flow : (eqb flow last ≡ true) ⊎ (eqb flow last ≡ false) → not (eqb flow last) ≡ head k
                 by-flow (inl t) =

@@ -2,13 +2,14 @@
 // its list; then from these the crosspoints with the keys of their cells, and the best cell in each output's buffer.
 // What is asked of each place is a loop over its set. The check hands the sets on; for a table that was not checked
 // one pass over each input's entries makes them.
+#![tactic(auto)]
 ghost use Rattle.std.specs.Prelude.{cond, ◌≡◌, ℕ, ◌+◌, ◌*◌, ◌<◌, get_or};
 ghost use Rattle.cell.specs.Order.{key as cell_key};
 ghost use Rattle.cell.specs.Limits.{section_room, port_limit};
 ghost use Rattle.layout.specs.Table.{IsTable};
 ghost use Rattle.layout.specs.Entry.{entry_at};
 ghost use Rattle.layout.specs.Code.{ports_in};
-ghost use Rattle.layout_table.specs.CodeEntries.{nowhere, better_of};
+ghost use Rattle.layout_table.specs.CodeEntries.{better_of};
 ghost use Rattle.slot_view.specs.CodeView.{InTable, places_in};
 ghost use Rattle.slot_view.specs.CodeViewed.{key_at, listed_set, head_set, crossed_set, buffered_set, Buffered};
 ghost use Rattle.slot_view.specs.CodeViewed.{SetsOf, NoSets, Occupied, Blank};
@@ -18,7 +19,7 @@ use layout::{CELLS, PORTS};
 use slot_view::NO_KEY;
 
 // Above every flow word.
-const NO_FLOW: u32 = 4294967295;
+const NO_FLOW: u16 = 65535;
 
 // The cells of an input by their places, as sets of positions.
 #[derive(Drop)]
@@ -208,11 +209,11 @@ pub fn choose_cell(table: &[u8], k: usize, best: &mut [u16; PORTS], rivals: &mut
     rivals[output] = if first { key } else { rival };
 }
 
-// Whether an output sends a cell before the one that it would send so far, by their keys; where these are equal, by the
-// cells. That one may be none: no cell's key is equal to its key.
+// Whether an output sends a cell before the one that it would send so far, by their keys. That one may be none: no
+// cell's key is equal to its key.
 fn is_better(table: &[u8], k: usize, key: u64, held: u16, rival: u64) -> bool
     requires table { IsTable table.now }
-    requires in_table { InTable table.now k × (held < nowhere → InTable table.now held) }
+    requires in_table { InTable table.now k }
     requires key_value { (key ≡ cell_key (entry_at table.now k).cell) × (rival ≡ key_at table.now held) }
     ensures { better_of table.now held k ≡ cond result k held }
 {

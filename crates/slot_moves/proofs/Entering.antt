@@ -25,8 +25,7 @@ use Rattle.slot_view.specs.CodeView.{cross_with, in_table, crosspoint_at, InTabl
 use Rattle.slot_view.specs.CodeScan.{Readable, Bests}
 use Rattle.slot_view.proofs.Choices.{Ordered, best-same, best-more}
 use Rattle.slot_view.proofs.Window.{agrees-holds, in_table-below}
-use Rattle.slot_leaders.specs.CodeKeys.{Crossed, BestUpTo}
-use Rattle.slot_leaders.proofs.Best.{of-best}
+use Rattle.slot_leaders.proofs.Best.{Crossed, BestUpTo, of-best}
 use Rattle.slot_steps.specs.CodeSteps.{entered}
 use Rattle.slot_moves.specs.CodeMoves.{written, sending, entering}
 use Rattle.slot_moves.proofs.Agreeing.{output_at, agrees-real, agrees-sending, output-small, Sendable}

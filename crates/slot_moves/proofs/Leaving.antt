@@ -336,11 +336,8 @@ module _ {table : List ℕ} (r : Readable table) (places : List ℕ) (size : len
   follows? : Bool
   follows? = ltb next positions && eqb (flow_word (entry_at table (at next)).cell) (flow_word (entry_at table k).cell)
 
-  output-byte : (m : ℕ) → InTable table m → (entry_at table m).cell.output < 256
-  output-byte m t = omega (arith, r.outputs m t, r.ports)
-
-  flow-byte : (m : ℕ) → InTable table m → (entry_at table m).cell.flow < 256
-  flow-byte m t = omega (arith, r.flows m t)
+  byte : (m : ℕ) → InTable table m → (entry_at table m).cell.output < 256
+  byte m t = omega (arith, r.outputs m t, r.ports)
 
   next-entry : next < positions → InTable table (at next)
   next-entry l = section-own next (list-e next (next-behind list x l).0).0
@@ -350,8 +347,7 @@ module _ {table : List ℕ} (r : Readable table) (places : List ℕ) (size : len
   words l =
       let inside : next < n = (list-e next (next-behind list x l).0).0 in
       flow-word (entry_at table (at next)).cell (entry_at table k).cell
-      (entry_at-input table (at next) ∙ own next inside ∙ sym (entry_at-input table k)) (output-byte (at next) (next-entry l))
-      (output-byte k entry) (flow-byte (at next) (next-entry l)) (flow-byte k entry)
+      (entry_at-input table (at next) ∙ own next inside ∙ sym (entry_at-input table k)) (byte (at next) (next-entry l)) (byte k entry)
 
   follows-e : follows? ≡ true → Follows
   unfolding Follows follows?

@@ -14,7 +14,7 @@ use Rattle.layout.specs.Table.{entry_limit}
 use Rattle.slot_view.specs.CodeView.{InTable, Agrees, Square}
 use Rattle.slot_view.specs.CodeScan.{Readable}
 use Rattle.slot_view.specs.CodeChoices.{empty, best}
-use Rattle.slot_leaders.specs.CodeKeys.{Crossed, BestUpTo}
+use Rattle.slot_leaders.proofs.Best.{Crossed, BestUpTo}
 use Rattle.slot_steps.specs.CodeSteps.{take_of}
 use Rattle.slot_moves.specs.CodeMoves.{written, pulling}
 use Rattle.slot_steps.proofs.Rules.{take_none, take-best}

@@ -26,7 +26,7 @@ use Rattle.layout.specs.Number.{word}
 use Rattle.layout.specs.Table.{table_size, entry_limit}
 use Rattle.layout.specs.Entry.{entry_at}
 use Rattle.layout.specs.Code.{record_start, place_byte_at, entries_between}
-use Rattle.slot_section.specs.Code.{is_entry, in_reach, low_place, high_place, Collected, MarksBelow, mark_count}
+use Rattle.slot_section.specs.Code.{is_entry, in_reach, low_place, high_place, Collected, MarksBelow}
 use Rattle.layout.proofs.Records.{between-nil, between_cons, between-each, between-mem, entries_between-nil, entries_between-cons}
 use Rattle.slot_section.proofs.Fields.{is_entry-i, is_entry-e}
 use Rattle.slot_section.proofs.Marks.{Marked, marked-none, marked-one}
@@ -91,7 +91,7 @@ module _ (ports clock : ℕ) (bs : List ℕ) (known : (i : ℕ) → Fits w8 (get
       record {
         word =
             eq-eqb _ 0
-            (ranges-i bs (λ i. (known i).fits) k (omega arith) (omega (arith, f.output), f.flow, f.high, f.class));
+            (ranges-i bs (λ i. (known i).fits) k (omega arith) (omega (arith, f.output), f.flow, f.high, f.zero));
         place = placed-i bs k f.low f.high;
         reach = and_i _ _ (lt-ltb cell.output ports f.output) (lt-ltb cell.slot clock f.slot);
       }
@@ -107,7 +107,7 @@ module _ (ports clock : ℕ) (bs : List ℕ) (known : (i : ℕ) → Fits w8 (get
         flow = ranges.1;
         low = placed-e bs k p.place;
         high = ranges.2;
-        class = ranges.3;
+        zero = ranges.3;
         slot = ltb-true cell.slot clock (and_r (ltb cell.output ports) _ p.reach);
       })
 
@@ -163,8 +163,7 @@ module _ (ports clock : ℕ) (bs : List ℕ) (from to mark : ℕ) (marks : List 
         → Collecting ports clock bs from to mark (set marks n mark) (again || eqb (get_or marks n 0) mark)
         (bit_or bits first) (pushed low (eqb (place % 2) 1)) (pushed high (eqb (place / 2 % 2) 1)) (k - 1)
     unfolding all? pairwise some? slot_is low_place high_place no_spare
-    collecting-next here first read n byte low_byte place is =
-        let few : n < mark_count = omega arith in
+    collecting-next here first read n byte few place is =
         let e = entry_at bs (k - 1) in
         let behind = entries_between bs k to in
         let back : k - 1 + 1 ≡ k = omega arith in

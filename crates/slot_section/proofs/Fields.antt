@@ -7,12 +7,12 @@ use native.Mathlib.Nat.{add-zero}
 use native.Mathlib.Omega.{arith}
 use borrow.Author.Tests.{ltb-true, lt-ltb, eq-eqb, eqb-true}
 use lib.Dec.{ltb, eqb, lit≤}
-use lib.ListN.{length, drop, replicate, length-drop}
+use lib.ListN.{length, drop, get_or, replicate, length-drop}
 use lib.Seq.{length-take-le}
 use Rattle.laws.specs.Lists.{all?, between}
 use Rattle.laws.proofs.Tests.{same, and_i, and_l, and_r}
 use Rattle.laws.proofs.Lists.{all?-mono}
-use Rattle.cell.specs.Limits.{port_limit, flow_limit, class_limit, section_room, fits32}
+use Rattle.cell.specs.Limits.{port_limit, flow_limit, section_room, fits32}
 use Rattle.model.specs.Sound.{sound_entry}
 use Rattle.layout.specs.Number.{bytes_of, number_of, number_at, word, same_bytes}
 use Rattle.layout.specs.Table.{table_size, entry_size, place_byte, place_of, entry_bytes, entry_of, entry_limit}
@@ -21,8 +21,8 @@ use Rattle.layout.specs.Code.{record_start, record_at, place_byte_at, entries_be
 use Rattle.slot_section.specs.Code.{is_entry, is_unused, in_range}
 use Rattle.layout.proofs.Number.{bytes?, bytes?-take, bytes?-drop, bytes_of-at, bytes_of-last, same_bytes-refl, same_bytes-exact, word_fits}
 use Rattle.layout.proofs.Table.{place_byte-range, entry_bytes-place}
-use Rattle.layout.proofs.Records.{entry_at-input, entry_at-rank, entry_at-tag, record_at-number, all?-entries_between}
-use Rattle.layout_table.proofs.Places.{place-i}
+use Rattle.layout.proofs.Records.{entry_at-input, entry_at-rank, entry_at-tag, record_at-number, record_at-byte, all?-entries_between}
+use Rattle.layout_table.proofs.Places.{place-i, exact-zero}
 
 ------------------------------------------------------------------------
 -- the bytes of an entry
@@ -32,15 +32,16 @@ pub number-again : (w at n : ℕ) (bs rest : List ℕ) → bytes? bs ≡ true �
     → rest ≡ drop (at + w) bs → bytes_of w n ++ rest ≡ drop at bs
 number-again w at n bs rest h room e follows = ap (λ n. bytes_of w n ++ rest) e ∙ bytes_of-at w at bs h room rest follows
 
--- sixteen bytes are those of the entry that they would stand for if the place is one
+-- sixteen bytes are those of the entry that they would stand for if the place is one and the zero is
 entry_bytes-i : (input : ℕ) (r : List ℕ) → bytes? r ≡ true → length r ≡ entry_size
-    → place_byte (place_of (number_at 1 2 r)) ≡ number_at 1 2 r → entry_bytes (entry_of input r) ≡ r
+    → place_byte (place_of (number_at 1 2 r)) ≡ number_at 1 2 r → ◌≡◌ {A = ℕ} (number_at 1 3 r) 0
+    → entry_bytes (entry_of input r) ≡ r
 unfolding entry_bytes entry_of word
-entry_bytes-i input r h size place =
+entry_bytes-i input r h size place zero =
     number-again 1 0 _ r _ h (omega arith) refl
     (number-again 1 1 _ r _ h (omega arith) refl
     (number-again 1 2 _ r _ h (omega arith) place
-    (number-again 1 3 _ r _ h (omega arith) refl
+    (number-again 1 3 0 r _ h (omega arith) (sym zero)
     (number-again 4 4 _ r _ h (omega arith) refl
     (number-again 4 8 _ r _ h (omega arith) refl (bytes_of-last 4 12 r h size))))))
 
@@ -59,12 +60,13 @@ module _ (bs : List ℕ) (h : bytes? bs ≡ true) (size : length bs ≡ table_si
   length-record : length (record_at bs k) ≡ entry_size
   length-record = length-record_at bs k (omega arith)
 
-  -- its bytes are those of its entry exactly if the place is one
-  exact-i : 1 ≤ place_byte_at bs k → place_byte_at bs k ≤ 3 → entry_bytes (entry_at bs k) ≡ record_at bs k
+  -- its bytes are those of its entry exactly if the place is one and the zero is
+  exact-i : 1 ≤ place_byte_at bs k → place_byte_at bs k ≤ 3 → ◌≡◌ {A = ℕ} (get_or bs (record_start k + 3) 0) 0
+      → entry_bytes (entry_at bs k) ≡ record_at bs k
   unfolding entry_at record_at place_byte_at
-  exact-i low high =
+  exact-i low high zero =
       entry_bytes-i (k / section_room) (record_at bs k) record_at-bytes length-record
-      (place-i (place_byte_at bs k) low high)
+      (place-i (place_byte_at bs k) low high) (record_at-byte bs k 3 (lit≤ tt) ∙ zero)
 
   exact-place : entry_bytes (entry_at bs k) ≡ record_at bs k → place_byte_at bs k ≡ place_byte (entry_at bs k).place
   unfolding place_byte_at
@@ -82,7 +84,7 @@ pub record Fields (ports clock : ℕ) (bs : List ℕ) (k : ℕ) : Type 0 where
   pub flow : (entry_at bs k).cell.flow < flow_limit
   pub low : 1 ≤ place_byte_at bs k
   pub high : place_byte_at bs k ≤ 3
-  pub class : (entry_at bs k).cell.class < class_limit
+  pub zero : ◌≡◌ {A = ℕ} (get_or bs (record_start k + 3) 0) 0
   pub slot : (entry_at bs k).cell.slot < clock
 
 module _ (ports clock : ℕ) (bs : List ℕ) (h : bytes? bs ≡ true) (size : length bs ≡ table_size) (k : ℕ) (within : k < entry_limit)
@@ -91,14 +93,13 @@ module _ (ports clock : ℕ) (bs : List ℕ) (h : bytes? bs ≡ true) (size : le
     unfolding is_entry sound_entry
     is_entry-i f =
         let e = entry_at bs k in
-        let exact = exact-i bs h size k within f.low f.high in
+        let exact = exact-i bs h size k within f.low f.high f.zero in
         and_i _ _ (ap (same_bytes (entry_bytes e)) (sym exact) ∙ same_bytes-refl (entry_bytes e))
         (and_i _ _ (eq-eqb e.cell.input (k / section_room) (entry_at-input bs k))
         (and_i _ _ (lt-ltb e.cell.output ports f.output)
         (and_i _ _ (lt-ltb e.cell.flow flow_limit f.flow)
-        (and_i _ _ (lt-ltb e.cell.class class_limit f.class)
         (and_i _ _ (rank-fits bs h size k within)
-        (and_i _ _ (tag_fits bs h size k within) (lt-ltb e.cell.slot clock f.slot)))))))
+        (and_i _ _ (tag_fits bs h size k within) (lt-ltb e.cell.slot clock f.slot))))))
 
     pub is_entry-e : is_entry ports clock bs k ≡ true → Fields ports clock bs k
     unfolding is_entry sound_entry
@@ -110,8 +111,7 @@ module _ (ports clock : ℕ) (bs : List ℕ) (h : bytes? bs ≡ true) (size : le
         same_bytes-exact (entry_bytes e) (record_at bs k) (and_l bytes (sound_entry ports clock (k / section_room) e) t) in
         let output : ltb e.cell.output ports ≡ true = search (and_l, and_r) in
         let flow : ltb e.cell.flow flow_limit ≡ true = search (and_l, and_r) in
-        let class : ltb e.cell.class class_limit ≡ true = search (and_l, and_r) depth 9 in
-        let slot : ltb e.cell.slot clock ≡ true = search (and_l, and_r) depth 9 in
+        let slot : ltb e.cell.slot clock ≡ true = search (and_l, and_r) depth 7 in
         let place = exact-place bs h size k within exact in
         let bounds = place_byte-range e.place in
         record {
@@ -119,7 +119,7 @@ module _ (ports clock : ℕ) (bs : List ℕ) (h : bytes? bs ≡ true) (size : le
           flow = ltb-true _ _ flow;
           low = omega arith;
           high = omega arith;
-          class = ltb-true _ _ class;
+          zero = exact-zero bs k exact;
           slot = ltb-true _ _ slot;
         }
 
@@ -132,8 +132,7 @@ is_entry-in_range ports clock bs k few t =
     let good : sound_entry ports clock (k / section_room) e ≡ true = and_r (same_bytes (entry_bytes e) (record_at bs k)) _ t in
     let output : ltb e.cell.output ports ≡ true = search (and_l, and_r) in
     let flow : ltb e.cell.flow flow_limit ≡ true = search (and_l, and_r) in
-    let class : ltb e.cell.class class_limit ≡ true = search (and_l, and_r) depth 9 in
-    and_i _ _ (lt-ltb e.cell.output port_limit (omega (arith, ltb-true))) (and_i _ _ flow class)
+    and_i _ _ (lt-ltb e.cell.output port_limit (omega (arith, ltb-true))) flow
 
 pub entries-in_range : (ports clock : ℕ) (bs : List ℕ) (from to : ℕ) → ports ≤ port_limit
     → all? (is_entry ports clock bs) (between from to) ≡ true → all? in_range (entries_between bs from to) ≡ true

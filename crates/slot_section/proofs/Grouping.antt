@@ -23,16 +23,15 @@ use Rattle.sets.proofs.Members.{has-with_one, with_one-lt, has-without_one}
 use Rattle.sets.specs.Code.{with_one, rest_of}
 use Rattle.cell.specs.Flow.{same_flow}
 use Rattle.cell.specs.Limits.{section_room, fits32}
-use Rattle.cell.specs.Order.{over, key_in_class}
-use Rattle.cell.proofs.Flow.{flow-i, flow-e, flow-sym, flow-trans, flow-class}
-use Rattle.cell.proofs.Keys.{in-class-key-input}
-use Rattle.cell.proofs.Order.{over-one-class}
+use Rattle.cell.specs.Order.{over, key}
+use Rattle.cell.proofs.Flow.{flow-i, flow-e, flow-sym, flow-trans}
+use Rattle.cell.proofs.Keys.{over-key-input}
 use Rattle.model.specs.State.{Entry}
 use Rattle.model.specs.Sound.{together}
 use Rattle.layout.specs.Entry.{entry_at}
 use Rattle.layout.specs.Table.{table_size, entry_limit}
 use Rattle.layout.specs.Code.{record_start}
-use Rattle.slot_section.specs.Code.{in_range, entries_in, breaks_flow, mark_count, MarksBelow, is_first_of_flow, heads_in}
+use Rattle.slot_section.specs.Code.{in_range, entries_in, breaks_flow, MarksBelow, is_first_of_flow, heads_in}
 use Rattle.layout_table.specs.CodeEntries.{flow_number}
 use Rattle.layout.proofs.Records.{entry_at-input, entry_at-slot}
 use Rattle.layout.proofs.Number.{bytes?, word_fits, fits32-below}
@@ -146,21 +145,18 @@ module _ {first : ℕ} {e g : Entry} (he : Good first e) (hg : Good first g) whe
       same (of_flow e g) (eqb (flow_number e) (flow_number g))
       (λ t.
       let f = flow-e e.cell g.cell t in
-      eq-eqb (flow_number e) (flow_number g) (omega (arith, f.output, f.class, f.flow)))
+      eq-eqb (flow_number e) (flow_number g) (omega (arith, f.output, f.flow)))
       (λ t.
       let be = in_range-e e he.range in
       let bg = in_range-e g hg.range in
       let number : flow_number e ≡ flow_number g = eqb-true (flow_number e) (flow_number g) t in
-      flow-i
-      (record { input = he.input ∙ sym hg.input; output = omega arith; class = omega arith; flow = omega arith }))
+      flow-i (record { input = he.input ∙ sym hg.input; output = omega arith; flow = omega arith }))
 
-  -- which goes first, of one flow by the keys in their class
-  key-first : (ports : ℕ) → of_flow e g ≡ true
-      → over ports e.cell g.cell ≡ not (leb (key_in_class g.cell) (key_in_class e.cell))
-  key-first ports t =
-      over-one-class ports e.cell g.cell (flow-class e.cell g.cell t)
-      ∙ in-class-key-input ports e.cell g.cell he.slot hg.slot (he.input ∙ sym hg.input)
-      ∙ turned (key_in_class e.cell) (key_in_class g.cell) (either (ltb (key_in_class e.cell) (key_in_class g.cell)))
+  -- which goes first, by key
+  key-first : (ports : ℕ) → over ports e.cell g.cell ≡ not (leb (key g.cell) (key e.cell))
+  key-first ports =
+      over-key-input ports e.cell g.cell he.slot hg.slot (he.input ∙ sym hg.input)
+      ∙ turned (key e.cell) (key g.cell) (either (ltb (key e.cell) (key g.cell)))
     where
       turned : (m n : ℕ) → (ltb m n ≡ true) ⊎ (ltb m n ≡ false) → ltb m n ≡ not (leb n m)
       turned m n (inl t) = t ∙ ap not (sym (lt-leb n m (ltb-true m n t)))
@@ -202,15 +198,10 @@ passed_none q set passed left v some =
 ------------------------------------------------------------------------
 -- the walk
 
--- what is chosen where the test holds may be another that is equal there
-cond-where : (b m : Bool) {x y : Bool} → (b ≡ true → x ≡ y) → cond b x m ≡ cond b y m
-cond-where true m h = h refl
-cond-where false m h = refl
-
 -- the number of the last entry's flow and its key, where there is one
 pub data Ends (l : List Entry) (flow number : ℕ) : Type 0 where
-  none : l ≡ [] → flow ≡ mark_count → Ends l flow number
-  last : (p : List Entry) (f : Entry) → l ≡ p ++ (f ∷ []) → flow ≡ flow_number f → number ≡ key_in_class f.cell
+  none : l ≡ [] → flow ≡ 128 → Ends l flow number
+  last : (p : List Entry) (f : Entry) → l ≡ p ++ (f ∷ []) → flow ≡ flow_number f → number ≡ key f.cell
       → Ends l flow number
 
 -- the entries passed stand together unless `broken`, the first of each flow are among `heads`, their flows are marked,
@@ -227,7 +218,7 @@ pub record Flows (bs : List ℕ) (first set mark : ℕ) (marks : List ℕ) (brok
 
 module _ (bs : List ℕ) (first chosen mark : ℕ) (marks : List ℕ) where
   pub flows-start : chosen < 2 ^ positions → MarksBelow mark marks → (number : ℕ)
-      → Flows bs first chosen mark marks false 0 mark_count number chosen
+      → Flows bs first chosen mark marks false 0 128 number chosen
   unfolding together some? is_first_of_flow
   flows-start fits below number =
       record {
@@ -282,7 +273,7 @@ module _ (bs : List ℕ) (first chosen mark : ℕ) (marks : List ℕ) where
           (subst (Memᴰ g) (sym whole)
           (mathlib.Core.List.Memᴰ.append_left (this ∷ entries_at bs first (members (rest_of left))) m))
 
-      module _ (n k : ℕ) (is : n ≡ flow_number this) (few : n < mark_count) (keyed : k ≡ key_in_class this.cell) where
+      module _ (n k : ℕ) (is : n ≡ flow_number this) (few : n < 128) (keyed : k ≡ key this.cell) where
         -- the mark says whether one before is of its flow
         met : eqb (get_or marks n 0) mark ≡ some? (λ x. of_flow x this) before
         unfolding flow_is
@@ -317,15 +308,14 @@ module _ (bs : List ℕ) (first chosen mark : ℕ) (marks : List ℕ) where
                 let hf = before-good here in
                 let flows : eqb n flow ≡ of_flow f this =
                 ap₂ eqb is flow-is ∙ eqb-turned (flow_number this) (flow_number f) ∙ sym (flow-number hf this-good) in
-                let order : of_flow f this ≡ true → not (leb k number) ≡ over ports f.cell this.cell = λ t.
-                ap₂ (λ x y. not (leb x y)) keyed number_is ∙ sym (key-first hf this-good ports t) in
+                let order : not (leb k number) ≡ over ports f.cell this.cell =
+                ap₂ (λ x y. not (leb x y)) keyed number_is ∙ sym (key-first hf this-good ports) in
                 let others : not (eqb (get_or marks n 0) mark) ≡ none? (λ x. of_flow x this) before =
                 ap not met ∙ sym (none?-not-some? (λ x. of_flow x this) before) in
                 ap₂ ◌&&◌ (w.stand ports)
                 (split (eqb n flow) (leb k number) (eqb (get_or marks n 0) mark)
                 ∙ ap (λ s. cond s (not (leb k number)) (not (eqb (get_or marks n 0) mark))) flows
-                ∙ ap (cond (of_flow f this) (not (leb k number))) others
-                ∙ cond-where (of_flow f this) _ order)
+                ∙ ap₂ (λ o m. cond (of_flow f this) o m) order others)
                 ∙ sym
                 (ap (λ l. together ports (l ++ (this ∷ []))) is_last
                 ∙ together-snoc ports p f this

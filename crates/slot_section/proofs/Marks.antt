@@ -10,11 +10,11 @@ use lib.Dec.{eqb}
 use lib.ListN.{length, get_or, set, replicate, length-set, length-replicate}
 use lib.Seq.{get_or-set_same, get_or-set_other}
 use Rattle.laws.proofs.Tests.{either, or_r}
-use Rattle.slot_section.specs.Code.{MarksBelow, mark_count}
+use Rattle.slot_section.specs.Code.{MarksBelow}
 
 -- marks that have been cleared
-pub marks-clear : MarksBelow 1 (replicate mark_count 0)
-marks-clear = record { size = length-replicate {A = ℕ} mark_count 0; each = λ n. omega (arith, zeros mark_count n) }
+pub marks-clear : MarksBelow 1 (replicate 256 0)
+marks-clear = record { size = length-replicate {A = ℕ} 256 0; each = λ n. omega (arith, zeros 256 n) }
   where
     zeros : (m n : ℕ) → ◌≡◌ {A = ℕ} (get_or (replicate m 0) n 0) 0
     zeros zero n = refl
@@ -27,9 +27,9 @@ below_more m n marks h below = record { size = below.size; each = λ k. omega (a
 
 -- at each number, whether it was met in this pass
 pub record Marked (mark : ℕ) (marks : List ℕ) (met : ℕ → Bool) : Type 0 where
-  pub room : length marks ≡ mark_count
+  pub room : length marks ≡ 256
   pub most : (n : ℕ) → get_or marks n 0 ≤ mark
-  pub each : (n : ℕ) → n < mark_count → eqb (get_or marks n 0) mark ≡ met n
+  pub each : (n : ℕ) → n < 256 → eqb (get_or marks n 0) mark ≡ met n
 
 -- at the start of a pass
 pub marked-none : (mark : ℕ) (marks : List ℕ) (met : ℕ → Bool) → MarksBelow mark marks
@@ -47,7 +47,7 @@ module _ {mark : ℕ} {marks : List ℕ} {met : ℕ → Bool} (w : Marked mark m
   marked-below = record { size = w.room; each = λ n. omega (arith, w.most n) }
 
   -- one number more
-  pub marked-one : (m : ℕ) → m < mark_count → (more : ℕ → Bool) → ((n : ℕ) → more n ≡ (met n || eqb n m))
+  pub marked-one : (m : ℕ) → m < 256 → (more : ℕ → Bool) → ((n : ℕ) → more n ≡ (met n || eqb n m))
       → Marked mark (set marks m mark) more
   marked-one m few more is =
       record {
@@ -57,7 +57,7 @@ module _ {mark : ℕ} {marks : List ℕ} {met : ℕ → Bool} (w : Marked mark m
       }
     where
       at : (n : ℕ) → (eqb n m ≡ true) ⊎ (eqb n m ≡ false)
-          → (get_or (set marks m mark) n 0 ≤ mark) × (n < mark_count → eqb (get_or (set marks m mark) n 0) mark ≡ more n)
+          → (get_or (set marks m mark) n 0 ≤ mark) × (n < 256 → eqb (get_or (set marks m mark) n 0) mark ≡ more n)
       at n (inl t) =
           let here : get_or (set marks m mark) n 0 ≡ mark =
           ap (λ k. get_or (set marks m mark) k 0) (eqb-true n m t)

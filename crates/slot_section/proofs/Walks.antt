@@ -14,7 +14,7 @@ use Rattle.laws.proofs.Numbers.{numbers_from-add}
 use Rattle.sets.specs.Sets.{set_from, minus, both, members}
 use Rattle.sets.proofs.Operations.{or-none}
 use Rattle.sets.proofs.Members.{minus-set_from, both-set_from, set_from-ext, members-set_from}
-use Rattle.cell.specs.Limits.{port_limit, flow_limit, class_limit, section_room}
+use Rattle.cell.specs.Limits.{port_limit, flow_limit, section_room}
 use Rattle.model.specs.State.{Entry, is_listed, is_crossed, is_buffered}
 use Rattle.layout.specs.Entry.{entry_at}
 use Rattle.layout.specs.Code.{place_byte_at, entries_between}
@@ -109,15 +109,11 @@ module _ (p : ℕ → Bool) (from m to : ℕ) (low : from ≤ m) (high : m ≤ t
 ------------------------------------------------------------------------
 -- fields in range
 
-pub in_range-e : (e : Entry) → in_range e ≡ true
-    → (e.cell.output < port_limit) × (e.cell.flow < flow_limit) × (e.cell.class < class_limit)
+pub in_range-e : (e : Entry) → in_range e ≡ true → (e.cell.output < port_limit) × (e.cell.flow < flow_limit)
 unfolding in_range
 in_range-e e h =
     let output = ltb e.cell.output port_limit in
-    let flow = ltb e.cell.flow flow_limit in
-    let class = ltb e.cell.class class_limit in
-    let rest = and_r output (flow && class) h in
-    (ltb-true _ _ (and_l output _ h), ltb-true _ _ (and_l flow class rest), ltb-true _ _ (and_r flow class rest))
+    (ltb-true _ _ (and_l output _ h), ltb-true _ _ (and_r output (ltb e.cell.flow flow_limit) h))
 
 ------------------------------------------------------------------------
 -- sets of entries

@@ -3,7 +3,7 @@ use Rattle.std.specs.Prelude.{ℕ, ◌+◌, ◌-◌, ◌/◌, ◌%◌, ◌<◌, 
 use Rattle.laws.specs.Lists.{all?, pairwise, between, none?, up_to}
 use Rattle.sets.specs.Sets.{set_from, members, has, set_of}
 use Rattle.cell.specs.Flow.{same_flow}
-use Rattle.cell.specs.Limits.{port_limit, section_room, flow_in_range, class_in_range}
+use Rattle.cell.specs.Limits.{port_limit, section_room, flow_in_range}
 use Rattle.model.specs.State.{Entry}
 use Rattle.model.specs.Sound.{sound_entry, other_slot}
 use Rattle.layout.specs.Number.{same_bytes}
@@ -20,9 +20,9 @@ is_entry ports clock bs k =
 unfoldable pub is_unused : List ℕ → ℕ → Bool
 is_unused bs k = same_bytes (replicate entry_size 0) (record_at bs k)
 
--- an entry goes to an output and is of a flow and a class that there can be
+-- an entry goes to an output and is of a flow that there can be
 unfoldable pub in_range : Entry → Bool
-in_range e = ltb e.cell.output port_limit && (flow_in_range e.cell.flow && class_in_range e.cell.class)
+in_range e = ltb e.cell.output port_limit && flow_in_range e.cell.flow
 
 -- an entry goes to an output of the switch and came before the clock
 unfoldable pub in_reach : ℕ → ℕ → Entry → Bool
@@ -46,13 +46,9 @@ pub record Collected (ports clock : ℕ) (bs : List ℕ) (from to : ℕ) (good a
   pub highs : good ≡ true → high ≡ set_from (high_place bs) from (to - from)
   pub slots : good ≡ true → again ≡ false → pairwise other_slot (entries_between bs from to) ≡ true
 
--- so many marks: one for each flow that an input can have, and so one for each byte
-abbrev pub mark_count : ℕ
-mark_count = 512
-
--- the marks are all below this one
+-- the marks, one for each byte, are all below this one
 pub record MarksBelow (mark : ℕ) (marks : List ℕ) : Type 0 where
-  pub size : length marks ≡ mark_count
+  pub size : length marks ≡ 256
   pub each : (n : ℕ) → get_or marks n 0 < mark
 
 ------------------------------------------------------------------------

@@ -1,6 +1,7 @@
 // What is asked of the records of one input's section (scope 5.1), one function for each question: whether the unused
 // records are zero, whether the others are entries, whether no two crossed ones go to one output, and whether the
 // listed ones of each flow stand together. What a pass learns on its way, the places and the heads, is handed on.
+#![tactic(auto)]
 ghost use Rattle.std.specs.Prelude.{true, ◌≡◌, ℕ, ◌+◌, ◌%◌, ◌≤◌, eqb, length};
 ghost use Rattle.laws.specs.Lists.{all?, pairwise, between};
 ghost use Rattle.cell.specs.Limits.{port_limit, section_room};
@@ -34,15 +35,12 @@ pub struct Flows {
 // So many unused records are gathered together: their number is known, and the processor's wide registers serve.
 const BLOCK: usize = 8;
 
-// So many flows an input can have, each with a mark; the low bytes of slots are marked there too.
-pub const MARKS: usize = 512;
-
 // The number of no flow.
-const NO_FLOW: usize = MARKS;
+const NO_FLOW: usize = 128;
 
-// The bits of a record's first four bytes that no entry has: those of an output above 15, a flow above 7, a place above 3
-// and a class above 3.
-const SPARE_BITS: u32 = 0xfcfc_f8f0;
+// The bits of a record's first four bytes that no entry has: those of an output above 15, a flow above 7 and a place
+// above 3, and all of the fourth byte.
+const SPARE_BITS: u32 = 0xfffc_f8f0;
 
 // Whether each of these records is zero, of which there are at most those of a section. The bits of whole blocks are
 // gathered, the last block's first, so that the block before it may reach into it; nothing else is looked at twice.
@@ -95,7 +93,7 @@ pub fn collect(
     from: usize,
     to: usize,
     mark: u8,
-    marks: &mut [u8; MARKS],
+    marks: &mut [u8; 256],
 ) -> Places
     requires bytes_len { (length bytes.now ≡ table_size) × (from ≤ to) × (to ≤ entry_limit) × (to ≤ from + section_room) }
     requires ports_le_port_limit { (ports ≤ port_limit) × MarksBelow mark marks.old }
@@ -173,7 +171,7 @@ pub fn flows_together(
     first: usize,
     listed: u64,
     mark: u8,
-    marks: &mut [u8; MARKS],
+    marks: &mut [u8; 256],
 ) -> Flows
     requires bytes_len { (length bytes.now ≡ table_size) × (first + section_room ≤ entry_limit) × (first % section_room ≡ 0) }
     requires listed_value { all? in_range (entries_in bytes.now first listed) ≡ true }
@@ -191,7 +189,7 @@ pub fn flows_together(
         let position = sets::first(left);
         let k = first + position;
         let flow = entry::flow_number(bytes, k);
-        let key = entry::key_in_class_of(bytes, k);
+        let key = entry::key_of(bytes, k);
         let met = marks[flow] == mark;
         broken = broken | breaks_flow(flow == last, key <= last_key, met);
         heads = sets::with_if(heads, position, !met);

@@ -1,6 +1,7 @@
 // Scope 3.7 and 3.8, rules 5 and 6, one cell at a time. For each rule a function chooses the number of a cell, 1,024 for
 // none, and a function moves that cell: its place is written into the table at once, and the view of the table follows
 // it.
+#![tactic(auto)]
 ghost use Rattle.std.specs.Prelude.{◌≡◌, ◌<◌, length};
 ghost use Rattle.cell.specs.Limits.{port_limit};
 ghost use Rattle.layout.specs.Entry.{entry_at};

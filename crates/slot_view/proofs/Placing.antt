@@ -22,7 +22,7 @@ use Rattle.layout.specs.Number.{number_of, number_at, word}
 use Rattle.layout.specs.Entry.{entry_at, clock_in, count_in}
 use Rattle.layout.specs.Code.{record_start, ports_in}
 use Rattle.layout.specs.Table.{table_size, place_of, entry_limit}
-use Rattle.layout.proofs.Records.{entry_at-input, entry_at-output, entry_at-flow, entry_at-class, entry_at-rank, entry_at-tag, entry_at-slot}
+use Rattle.layout.proofs.Records.{entry_at-input, entry_at-output, entry_at-flow, entry_at-rank, entry_at-tag, entry_at-slot}
 use Rattle.layout.proofs.Records.{place_byte_at-byte}
 use Rattle.layout_table.specs.CodeEntries.{nowhere}
 use Rattle.slot_view.specs.CodeChoices.{BestAmong, empty, best}
@@ -95,9 +95,6 @@ module _ (table : List ℕ) (k v : ℕ) where
   placed-flow : (j : ℕ) → (entry_at new j).cell.flow ≡ (entry_at table j).cell.flow
   placed-flow j = entry_at-flow new j ∙ byte-kept (record_start j + 1) (λ e. omega arith) ∙ sym (entry_at-flow table j)
 
-  placed-class : (j : ℕ) → (entry_at new j).cell.class ≡ (entry_at table j).cell.class
-  placed-class j = entry_at-class new j ∙ byte-kept (record_start j + 3) (λ e. omega arith) ∙ sym (entry_at-class table j)
-
   word_kept : (j at : ℕ) → 4 ≤ at → at ≤ 12 → word new (record_start j + at) ≡ word table (record_start j + at)
   word_kept j at low high = word_set (record_start j + at) (record_start k + 2) v table (apart j at low high)
 
@@ -108,7 +105,6 @@ module _ (table : List ℕ) (k v : ℕ) where
         input = (entry_at-input new j ∙ sym (entry_at-input table j)) z;
         output = placed-output j z;
         flow = placed-flow j z;
-        class = placed-class j z;
         rank = (entry_at-rank new j ∙ word_kept j 4 (omega arith) (omega arith) ∙ sym (entry_at-rank table j)) z;
         tag = (entry_at-tag new j ∙ word_kept j 8 (omega arith) (omega arith) ∙ sym (entry_at-tag table j)) z;
         slot = (entry_at-slot new j ∙ word_kept j 12 (omega arith) (omega arith) ∙ sym (entry_at-slot table j)) z;

@@ -1,5 +1,6 @@
 // Prints the strides of the weights, one a line, from w = 1. It divides: the constant table of `fair_strides` is
 // compared with what is printed.
+#![tactic(auto)]
 ghost use Rattle.std.specs.Prelude.{◌≡◌};
 ghost use Rattle.strides.specs.Text.{strides_text};
 

@@ -9,7 +9,6 @@ use mathlib.Core.Path.{◌≡◌, refl, ◌∙◌}
 use lib.ListN.{length, set}
 use lib.Seq.{sets}
 use Rattle.cell.specs.declared.Arrival.{Arrival}
-use Rattle.trace.specs.Contents.{arrival_numbers}
 use Rattle.trace.specs.Piece.{numbers_of}
 
 pub numbers_of-append : (rs ss : List Arrival) → numbers_of (rs ++ ss) ≡ numbers_of rs ++ numbers_of ss
@@ -17,7 +16,7 @@ unfolding numbers_of
 numbers_of-append [] ss = refl
 numbers_of-append (a ∷ rs) ss = rw (numbers_of-append rs ss)
 
-pub length-numbers_of : (rs : List Arrival) → length (numbers_of rs) ≡ arrival_numbers * length rs
+pub length-numbers_of : (rs : List Arrival) → length (numbers_of rs) ≡ 5 * length rs
 unfolding numbers_of
 length-numbers_of [] = refl
 length-numbers_of (a ∷ rs) = omega (arith, length-numbers_of rs)

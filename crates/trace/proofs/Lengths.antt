@@ -15,21 +15,19 @@ use lib.ListN.{length, length-append}
 use Rattle.cell.specs.Limits.{fits32}
 use Rattle.trace.specs.Ascii.{ascii}
 use Rattle.trace.specs.declared.Key.{Key}
-use Rattle.trace.specs.declared.Key.TheVariants.{Form, Ports, First, Slot, In, Out, Flow, Class, Rank, Tag, End, Refused, Line}
+use Rattle.trace.specs.declared.Key.TheVariants.{Ports, First, Slot, In, Out, Flow, Rank, Tag, End, Refused, Line}
 use Rattle.trace.specs.Line.{key_name, key_text, decimal, line}
 use Rattle.trace.proofs.Line.{is_digit-i, decimal-small, decimal-large}
 use Rattle.trace.proofs.Tests.{fits32-e}
 
 pub length-key_text-le : (k : Key) → length (key_text k) ≤ 8
 unfolding key_text key_name ascii
-length-key_text-le Form = lit≤ tt
 length-key_text-le Ports = lit≤ tt
 length-key_text-le First = lit≤ tt
 length-key_text-le Slot = lit≤ tt
 length-key_text-le In = lit≤ tt
 length-key_text-le Out = lit≤ tt
 length-key_text-le Flow = lit≤ tt
-length-key_text-le Class = lit≤ tt
 length-key_text-le Rank = lit≤ tt
 length-key_text-le Tag = lit≤ tt
 length-key_text-le End = lit≤ tt

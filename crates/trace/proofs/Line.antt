@@ -20,7 +20,7 @@ use Rattle.laws.proofs.Tests.{and_i, and_l, and_r}
 use Rattle.laws.proofs.Lists.{all?-nil, all?-append}
 use Rattle.cell.specs.Limits.{fits32}
 use Rattle.trace.specs.declared.Key.{Key}
-use Rattle.trace.specs.declared.Key.TheVariants.{Form, Ports, Slot, In, End}
+use Rattle.trace.specs.declared.Key.TheVariants.{Slot, In, End}
 use Rattle.trace.specs.Ascii.{ascii}
 use Rattle.trace.specs.Line.{key_name, key_text, digits_within, decimal, line, after, up_to_line_feed}
 use Rattle.trace.specs.Line.{is_digit, value_after, no_leading_zero, read_number, read_line}
@@ -292,11 +292,6 @@ line-append : (k : Key) (n : ℕ) (rest : List ℕ) → line k n ++ rest ≡ key
 unfolding line
 line-append k n rest = simp append_assoc
 
--- a line begins with its key
-pub read_line-none : (k : Key) (t : List ℕ) → after (key_text k) t ≡ none → read_line k t ≡ none
-unfolding read_line bind
-read_line-none k t h = rw h
-
 pub read_line-line : (k : Key) (n : ℕ) (rest : List ℕ) → fits32 n ≡ true → read_line k (line k n ++ rest) ≡ some (n, rest)
 unfolding read_line bind
 read_line-line k n rest h =
@@ -336,11 +331,6 @@ after-in-end n rest = refl
 pub after-end-slot : (n : ℕ) (rest : List ℕ) → after (key_text End) (line Slot n ++ rest) ≡ none
 unfolding after ascii key_text key_name line
 after-end-slot n rest = refl
-
--- a text of the first form does not begin `form=`
-pub after-form-ports : (n : ℕ) (rest : List ℕ) → after (key_text Form) (line Ports n ++ rest) ≡ none
-unfolding after ascii key_text key_name line
-after-form-ports n rest = refl
 
 -- a line has a byte
 pub length-line : (k : Key) (n : ℕ) → 0 < length (line k n)

@@ -9,17 +9,15 @@ use Rattle.laws.specs.Lists.{all?}
 use Rattle.cell.specs.Limits.{fits32}
 use Rattle.trace.specs.Ascii.{ascii}
 use Rattle.trace.specs.declared.Key.{Key}
-use Rattle.trace.specs.declared.Key.TheVariants.{Form, Ports, First, Slot, In, Out, Flow, Class, Rank, Tag, End, Refused, Line}
+use Rattle.trace.specs.declared.Key.TheVariants.{Ports, First, Slot, In, Out, Flow, Rank, Tag, End, Refused, Line}
 
 unfoldable pub key_name : Key → List ℕ
-key_name Form = ascii "form"
 key_name Ports = ascii "ports"
 key_name First = ascii "first"
 key_name Slot = ascii "slot"
 key_name In = ascii "in"
 key_name Out = ascii "out"
 key_name Flow = ascii "flow"
-key_name Class = ascii "class"
 key_name Rank = ascii "rank"
 key_name Tag = ascii "tag"
 key_name End = ascii "end"

@@ -10,7 +10,7 @@ use Rattle.trace.specs.declared.Opening.{Opening}
 use Rattle.trace.specs.declared.Opening.TheVariants.{Open, Refused, Short}
 use Rattle.trace.specs.Reader.{Next, slot_ahead, finished, faulty, next, Header, opened, refused_at, header}
 
--- a block has at most 1,504 bytes, a header at most 41
+-- a block has at most 1,232 bytes, a header at most 34
 abbrev pub enough : ℕ
 enough = 2048
 
@@ -21,17 +21,17 @@ pub data Piece (A : Type 0) : Type 0 where
 unfoldable pub decided : Bool → List ℕ → Bool
 decided last t = last || leb enough (length t)
 
-unfoldable pub next_in : Bool → Bool → ℕ → List ℕ → Piece Next
-next_in last classed clock t =
-    elim (decided last t) [ true ↦ known (next classed clock (record { line = 0; text = t })) | false ↦ more ]
+unfoldable pub next_in : Bool → ℕ → List ℕ → Piece Next
+next_in last clock t =
+    elim (decided last t) [ true ↦ known (next clock (record { line = 0; text = t })) | false ↦ more ]
 
 unfoldable pub header_in : Bool → List ℕ → Piece Header
 header_in last t = elim (decided last t) [ true ↦ known (header t) | false ↦ more ]
 
--- six numbers for each arrival: input, output, flow, class, rank, tag
+-- five numbers for each arrival: input, output, flow, rank, tag
 unfoldable pub numbers_of : List Arrival → List ℕ
 numbers_of [] = []
-numbers_of (a ∷ rs) = a.input ∷ a.output ∷ a.flow ∷ a.class ∷ a.rank ∷ a.tag ∷ numbers_of rs
+numbers_of (a ∷ rs) = a.input ∷ a.output ∷ a.flow ∷ a.rank ∷ a.tag ∷ numbers_of rs
 
 -- What the block reader answers: how many arrivals, how many bytes and how many lines the block has; or that the text has
 -- ended as it must; or the line at fault; or that more text is needed.
@@ -43,6 +43,6 @@ answer_of t more = More
 
 -- What the header reader answers.
 unfoldable pub opening_of : List ℕ → Piece Header → Opening
-opening_of t (known (opened classed ports first c)) = Open classed ports first (length t - length c.text)
+opening_of t (known (opened ports first c)) = Open ports first (length t - length c.text)
 opening_of t (known (refused_at r l)) = Refused r l
 opening_of t more = Short

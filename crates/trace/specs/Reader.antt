@@ -7,9 +7,9 @@ use Rattle.cell.specs.declared.Refusal.{Refusal}
 use Rattle.cell.specs.declared.Refusal.TheVariants.{BadSize, BadLine}
 use Rattle.cell.specs.Limits.{ports_in_range}
 use Rattle.trace.specs.declared.Key.{Key}
-use Rattle.trace.specs.declared.Key.TheVariants.{Form, Ports, First, Slot, In, Out, Flow, Class, Rank, Tag, End}
+use Rattle.trace.specs.declared.Key.TheVariants.{Ports, First, Slot, In, Out, Flow, Rank, Tag, End}
 use Rattle.trace.specs.Line.{key_text, after, read_line}
-use Rattle.trace.specs.Contents.{Contents, block_limit, classed_form}
+use Rattle.trace.specs.Contents.{Contents, block_limit}
 
 pub record Cursor : Type 0 where
   pub line : ℕ
@@ -44,36 +44,27 @@ exactly k n c = elim (number k c) [ got m d ↦ cond (eqb m n) (got m d) (bad_at
 unfoldable pub begins : Key → Cursor → Bool
 begins k c = elim (after (key_text k) c.text) [ none ↦ false | some t ↦ true ]
 
--- a class: a line of its own in the second form, and 0 in the first
-unfoldable pub class_number : Bool → Reader ℕ
-class_number true = number Class
-class_number false = give 0
-
--- for each arrival `in`, `out`, `flow`, in the second form `class`, `rank`, `tag`
-unfoldable pub arrival : Bool → Reader Arrival
-arrival classed = do
+-- for each arrival `in`, `out`, `flow`, `rank`, `tag`
+unfoldable pub arrival : Reader Arrival
+arrival = do
   i ← number In
   o ← number Out
   f ← number Flow
-  k ← class_number classed
   r ← number Rank
   t ← number Tag
-  give (record { input = i; output = o; flow = f; class = k; rank = r; tag = t })
+  give (record { input = i; output = o; flow = f; rank = r; tag = t })
 
 -- the arrivals of a block, at most `most` of them: they end before the first line that does not begin `in=`
-unfoldable pub arrivals : Bool → ℕ → Reader (List Arrival)
-arrivals classed zero c = give [] c
-arrivals classed (suc most) c =
-    elim (begins In c) [
-      | false ↦ give [] c
-      | true ↦ (do a ← arrival classed; rs ← arrivals classed most; give (a ∷ rs)) c
-    ]
+unfoldable pub arrivals : ℕ → Reader (List Arrival)
+arrivals zero c = give [] c
+arrivals (suc most) c =
+    elim (begins In c) [ false ↦ give [] c | true ↦ (do a ← arrival; rs ← arrivals most; give (a ∷ rs)) c ]
 
 -- a block is its `slot` line, with the clock's number, and its arrivals
-unfoldable pub block : Bool → ℕ → Reader (List Arrival)
-block classed clock = do
+unfoldable pub block : ℕ → Reader (List Arrival)
+block clock = do
   _ ← exactly Slot clock
-  arrivals classed block_limit
+  arrivals block_limit
 
 -- What stands after the header or a block.
 pub data Next : Type 0 where
@@ -86,35 +77,27 @@ unfoldable pub after_end : Cursor → Next
 after_end c = elim c.text [ [] ↦ finished | b ∷ t ↦ faulty c.line ]
 
 -- `end` with the clock's number and nothing after it, or else a block
-unfoldable pub next : Bool → ℕ → Cursor → Next
-next classed clock c =
+unfoldable pub next : ℕ → Cursor → Next
+next clock c =
     elim (begins End c) [
       | true ↦ elim (exactly End clock c) [ got n d ↦ after_end d | bad_at l ↦ faulty l ]
-      | false ↦ elim (block classed clock c) [ got rs d ↦ slot_ahead rs d | bad_at l ↦ faulty l ]
+      | false ↦ elim (block clock c) [ got rs d ↦ slot_ahead rs d | bad_at l ↦ faulty l ]
     ]
 
 -- What stands at the start of a text.
 pub data Header : Type 0 where
-  opened : Bool → ℕ → ℕ → Cursor → Header
+  opened : ℕ → ℕ → Cursor → Header
   refused_at : Refusal → ℕ → Header
 
--- `ports`, then `first`; a number of ports out of range is refused before the line of `first` is looked at
-unfoldable pub header_from : Bool → Cursor → Header
-header_from classed c =
-    elim (number Ports c) [
-      | bad_at l ↦ refused_at BadLine l
-      | got n d ↦ elim (ports_in_range n) [
-        | false ↦ refused_at BadSize c.line
-        | true ↦ elim (number First d) [ bad_at l ↦ refused_at BadLine l | got first e ↦ opened classed n first e ]
-      ]
-    ]
-
--- a text whose first line is `form=2` is of the second form, and any other of the first
+-- first `ports`, then `first`; a number of ports out of range is refused before the line of `first` is looked at
 unfoldable pub header : List ℕ → Header
 header t =
-    elim (exactly Form classed_form (from 1 t)) [
-      | got n c ↦ header_from true c
-      | bad_at l ↦ header_from false (from 1 t)
+    elim (number Ports (from 1 t)) [
+      | bad_at l ↦ refused_at BadLine l
+      | got n c ↦ elim (ports_in_range n) [
+        | false ↦ refused_at BadSize 1
+        | true ↦ elim (number First c) [ bad_at l ↦ refused_at BadLine l | got first d ↦ opened n first d ]
+      ]
     ]
 
 -- What reading a whole text by the grammar alone gives.
@@ -128,11 +111,11 @@ with_slot rs (bad_at l) = bad_at l
 
 -- the blocks and `end`; there are at most as many lines as bytes, and a text that stops early is refused at the line
 -- that is missing
-unfoldable pub blocks : Bool → ℕ → ℕ → Cursor → Read (List (List Arrival))
-blocks classed zero clock c = bad_at c.line
-blocks classed (suc most) clock c =
-    elim (next classed clock c) [
-      | slot_ahead rs d ↦ with_slot rs (blocks classed most (clock + 1) d)
+unfoldable pub blocks : ℕ → ℕ → Cursor → Read (List (List Arrival))
+blocks zero clock c = bad_at c.line
+blocks (suc most) clock c =
+    elim (next clock c) [
+      | slot_ahead rs d ↦ with_slot rs (blocks most (clock + 1) d)
       | finished ↦ got [] c
       | faulty l ↦ bad_at l
     ]
@@ -141,8 +124,8 @@ unfoldable pub read : List ℕ → Outcome
 read t =
     elim (header t) [
       | refused_at r l ↦ refused r l
-      | opened classed n first c ↦ elim (blocks classed (length c.text) first c) [
+      | opened n first c ↦ elim (blocks (length c.text) first c) [
         | bad_at l ↦ refused BadLine l
-        | got slots d ↦ accepted (record { classed = classed; ports = n; first = first; slots = slots })
+        | got slots d ↦ accepted (record { ports = n; first = first; slots = slots })
       ]
     ]

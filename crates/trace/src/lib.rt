@@ -1,29 +1,27 @@
 // The trace: one grammar, read by `trace_reader` and written by `trace_writer`. What a line, a block and a whole text
 // mean is in specs/.
+#![tactic(auto)]
 use cell::Refusal;
 
-// So many arrivals a block has at most, each of so many numbers: input, output, flow, class, rank, tag.
+// So many arrivals a block has at most, each of so many numbers: input, output, flow, rank, tag.
 pub const BLOCK_LIMIT: u32 = 16;
 
-pub const FIELDS: usize = 6;
+pub const FIELDS: usize = 5;
 
-// The number of the second form, in which each arrival has a line for its class.
-pub const CLASSED_FORM: u32 = 2;
-
-// So many numbers a block's arrivals have at most.
+// So many numbers a block's arrivals have at most, and with the slot's own line so many lines the block.
 pub const NUMBERS: usize = BLOCK_LIMIT as usize * FIELDS;
+
+pub const BLOCK_LINES: u32 = NUMBERS as u32 + 1;
 
 // The key of a line, in a trace or in what the player writes.
 #[derive(Drop)]
 pub enum Key {
-    Form,
     Ports,
     First,
     Slot,
     In,
     Out,
     Flow,
-    Class,
     Rank,
     Tag,
     End,
@@ -34,8 +32,8 @@ pub enum Key {
 // What stands at the start of a text.
 #[derive(Drop)]
 pub enum Opening {
-    // Whether it is of the second form, the number of ports, the first slot, and how many bytes the lines have.
-    Open(bool, u32, u32, usize),
+    // The number of ports, the first slot, and how many bytes the two lines have.
+    Open(u32, u32, usize),
     // A refusal and its line, counted from 1.
     Refused(Refusal, u32),
     // More text is needed.

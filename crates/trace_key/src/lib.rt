@@ -1,4 +1,5 @@
 // The text of a key, for the reader and the writer of a line.
+#![tactic(auto)]
 ghost use Rattle.std.specs.Prelude.{◌≡◌, ◌-◌, length, take, drop, replicate};
 ghost use Rattle.trace.specs.Line.{key_text};
 
@@ -15,14 +16,12 @@ pub fn key_text(key: Key) -> KeyText
     ensures result_value_3 { drop result.1 result.0 ≡ replicate (8 - result.1) 32 }
 {
     match key {
-        Key::Form => KeyText(*b"form=   ", 5),
         Key::Ports => KeyText(*b"ports=  ", 6),
         Key::First => KeyText(*b"first=  ", 6),
         Key::Slot => KeyText(*b"slot=   ", 5),
         Key::In => KeyText(*b"in=     ", 3),
         Key::Out => KeyText(*b"out=    ", 4),
         Key::Flow => KeyText(*b"flow=   ", 5),
-        Key::Class => KeyText(*b"class=  ", 6),
         Key::Rank => KeyText(*b"rank=   ", 5),
         Key::Tag => KeyText(*b"tag=    ", 4),
         Key::End => KeyText(*b"end=    ", 4),

@@ -1,17 +1,9 @@
 -- The steps of the writer, as the code takes them.
---     line_if           a line, or none
 --     Tried            what a function that puts line after line does
 --     Room, Written    what a function that writes a text without a test asks for and does
-use Rattle.std.specs.Prelude.{ℕ, ◌+◌, ◌≤◌, Bool, true, false, List, [], ◌≡◌, length}
+use Rattle.std.specs.Prelude.{ℕ, ◌+◌, ◌≤◌, List, ◌≡◌, length}
 use Rattle.std.proofs.lemmas.List.Edits.{sets}
-use Rattle.trace.specs.declared.Key.{Key}
-use Rattle.trace.specs.Line.{line}
 use Rattle.trace_line_writer.specs.Writing.{Ends}
-
--- a line where it is wanted
-unfoldable pub line_if : Bool → Key → ℕ → List ℕ
-line_if true key n = line key n
-line_if false key n = []
 
 -- What a function that puts line after line leaves and answers: all of the text where it fits, as many bytes as there
 -- were, and the place after the text. So one text after another is the two as one.

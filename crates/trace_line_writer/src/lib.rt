@@ -3,17 +3,17 @@
 // put all of a text or nothing of it. A text that fits is written from its end to its start with no test of the room:
 // the `write_..` below ask for the room, which every caller has measured, and answer where the text starts. One of them
 // is public, for a text of numbers alone. No other function has a `requires`.
+#![tactic(auto)]
 ghost use Rattle.std.specs.Prelude.{◌≡◌, ◌++◌, length};
 ghost use Rattle.std.proofs.Math.Option.{some};
-ghost use Rattle.trace.specs.declared.Key.TheVariants.{Ports, First, Flow, Rank, Tag};
+ghost use Rattle.trace.specs.declared.Key.TheVariants.{Flow, Rank, Tag};
 ghost use Rattle.trace.specs.Line.{key_text, decimal, line};
-ghost use Rattle.trace.specs.Contents.{form_text, class_text};
 ghost use Rattle.trace.specs.Lines.{departure_text, refusal_text};
 ghost use Rattle.trace_line_writer.specs.Writing.{place_after, Ends, Put};
-ghost use Rattle.trace_line_writer.specs.Code.{line_if, Room, Written};
+ghost use Rattle.trace_line_writer.specs.Code.{Room, Written};
 
 use cell::{Cell, Refusal};
-use trace::{CLASSED_FORM, Key};
+use trace::Key;
 use trace_key::key_text;
 
 const LAST_PLACE: usize = 18446744073709551615;
@@ -25,38 +25,18 @@ pub fn put_line(out: &mut [u8], at: usize, key: Key, n: u32) -> usize
     pour_line(out, at, key, n as usize)
 }
 
-// The lines at the start of a text, in the second form `form`, then `ports`, `first`, if they fit.
-pub fn put_header(out: &mut [u8], at: usize, classed: bool, ports: u32, first: u32) -> usize
-    ensures { Put out.old at
-        (form_text classed ++ (line Ports ports ++ line First first))
-        out.new result }
-{
-    let ports_at = line_end_if(at, classed, Key::Form, CLASSED_FORM as usize);
-    let first_at = line_end(ports_at, Key::Ports, ports as usize);
-    let end = line_end(first_at, Key::First, first as usize);
-    if out.len() < end {
-        return end;
-    }
-    write_line_if(out, ports_at, classed, Key::Form, CLASSED_FORM as usize);
-    write_line(out, first_at, Key::Ports, ports as usize);
-    write_line(out, end, Key::First, first as usize);
-    end
-}
-
-// The lines of a departure, `out`, `in`, `flow`, in the second form `class`, `rank`, `tag`, if they fit.
-pub fn put_departure(out: &mut [u8], at: usize, classed: bool, cell: Cell) -> usize
-    ensures { Put out.old at (departure_text classed (some cell)) out.new result }
+// The lines of a departure, `out`, `in`, `flow`, `rank`, `tag`, if they fit.
+pub fn put_departure(out: &mut [u8], at: usize, cell: Cell) -> usize
+    ensures { Put out.old at (departure_text (some cell)) out.new result }
 {
     pour_cell(
         out,
         at,
-        classed,
         Key::Out,
         cell.output,
         Key::In,
         cell.input,
         cell.flow,
-        cell.class,
         cell.rank,
         cell.tag,
     )
@@ -77,29 +57,25 @@ pub fn line_length(key: Key, n: usize) -> usize
     text.1 + digits(n) + 1
 }
 
-// The lines of a cell: its ports and its fields, among them its class in the second form alone.
+// The lines of a cell: its ports and its fields.
 pub fn pour_cell(
     out: &mut [u8],
     at: usize,
-    classed: bool,
     first: Key,
     m: u32,
     second: Key,
     n: u32,
     flow: u32,
-    class: u32,
     rank: u32,
     tag: u32,
 ) -> usize
     ensures { Put out.old at
-        (line first m ++ (line second n ++ (line Flow flow
-        ++ (class_text classed class ++ (line Rank rank ++ line Tag tag)))))
+        (line first m ++ (line second n ++ (line Flow flow ++ (line Rank rank ++ line Tag tag))))
         out.new result }
 {
     let second_at = line_end(at, first, m as usize);
     let flow_at = line_end(second_at, second, n as usize);
-    let class_at = line_end(flow_at, Key::Flow, flow as usize);
-    let rank_at = line_end_if(class_at, classed, Key::Class, class as usize);
+    let rank_at = line_end(flow_at, Key::Flow, flow as usize);
     let tag_at = line_end(rank_at, Key::Rank, rank as usize);
     let end = line_end(tag_at, Key::Tag, tag as usize);
     if out.len() < end {
@@ -107,15 +83,14 @@ pub fn pour_cell(
     }
     write_line(out, second_at, first, m as usize);
     write_line(out, flow_at, second, n as usize);
-    write_line(out, class_at, Key::Flow, flow as usize);
-    write_line_if(out, rank_at, classed, Key::Class, class as usize);
+    write_line(out, rank_at, Key::Flow, flow as usize);
     write_line(out, tag_at, Key::Rank, rank as usize);
     write_line(out, end, Key::Tag, tag as usize);
     end
 }
 
 // Two lines. The second's number may count the lines of a text, which can be more than 32 bits hold.
-fn pour_pair(out: &mut [u8], at: usize, first: Key, m: u32, second: Key, n: usize) -> usize
+pub fn pour_pair(out: &mut [u8], at: usize, first: Key, m: u32, second: Key, n: usize) -> usize
     ensures { Put out.old at (line first m ++ line second n) out.new result }
 {
     let second_at = line_end(at, first, m as usize);
@@ -137,17 +112,6 @@ pub fn pour_line(out: &mut [u8], at: usize, key: Key, n: usize) -> usize
         return end;
     }
     write_line(out, end, key, n);
-    end
-}
-
-// A line, or nothing where it is not wanted.
-fn write_line_if(out: &mut [u8], end: usize, wanted: bool, key: Key, n: usize) -> usize
-    requires { Room (line_if wanted key n) end (length out.old) }
-    ensures { Written out.old end (line_if wanted key n) out.new result }
-{
-    if wanted {
-        return write_line(out, end, key, n);
-    }
     end
 }
 
@@ -203,16 +167,6 @@ fn write_text(out: &mut [u8], end: usize, text: &[u8]) -> usize
         out[place] = text[left];
     }
     place
-}
-
-// The place after a line, or the place itself where no line is wanted.
-fn line_end_if(at: usize, wanted: bool, key: Key, n: usize) -> usize
-    ensures { Ends at (line_if wanted key n) result }
-{
-    if wanted {
-        return line_end(at, key, n);
-    }
-    at
 }
 
 // The place after a line.

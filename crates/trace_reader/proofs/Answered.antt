@@ -10,22 +10,20 @@ use lib.ListN.{length, drop}
 use Rattle.cell.specs.declared.Arrival.{Arrival}
 use Rattle.cell.specs.declared.Refusal.{Refusal}
 use Rattle.cell.specs.Limits.{ports_in_range}
-use Rattle.trace.specs.declared.Key.TheVariants.{Form, Ports, First, Slot as SlotKey}
+use Rattle.trace.specs.declared.Key.TheVariants.{Ports, First, Slot as SlotKey}
 use Rattle.trace.specs.declared.Answer.TheVariants.{Slot, End, Bad, More}
 use Rattle.trace.specs.declared.Answer.{Answer}
 use Rattle.trace.specs.declared.Opening.{Opening}
 use Rattle.trace.specs.declared.Opening.TheVariants.{Open, Refused, Short}
 use Rattle.trace.specs.Line.{line}
-use Rattle.trace.specs.Contents.{classed_form, form_text, arrivals_text}
-use Rattle.trace.specs.Reader.{from, Cursor, Read, got, bad_at, number, exactly, Next, slot_ahead, finished, faulty, next}
-use Rattle.trace.specs.Reader.{Header, opened, refused_at, header_from, header}
+use Rattle.trace.specs.Contents.{arrivals_text}
+use Rattle.trace.specs.Reader.{from, Cursor, Read, got, bad_at, number, Next, slot_ahead, finished, faulty, next}
+use Rattle.trace.specs.Reader.{Header, opened, refused_at, header}
 use Rattle.trace.specs.Piece.{Piece, known, more, decided, next_in, header_in, answer_of, opening_of}
 use Rattle.trace.proofs.Blocks.{next-exact}
-use Rattle.trace_reader.specs.Reading.{slots_line}
-use Rattle.trace.proofs.RoundTrip.{header-classed, header-plain, header-bad-ports, header-bad-size, header-bad-first}
-use Rattle.trace.proofs.RoundTrip.{header-opened, header-exact}
+use Rattle.trace.proofs.RoundTrip.{header-bad-ports, header-bad-size, header-bad-first, header-opened, header-exact}
 use Rattle.trace_reader.proofs.Answers.{header_in-more, header_in-known, next_in-more, next_in-known}
-use Rattle.trace_reader.proofs.Arrivals.{number-line-next, exactly-line-next}
+use Rattle.trace_reader.proofs.Arrivals.{number-line-next}
 use Rattle.trace_line_reader.proofs.Lines.{drop-rest}
 
 never : {P : Type 0} → ◌≡◌ {A = ℕ} 0 1 → P
@@ -48,84 +46,62 @@ module _ (last : Bool) (t : List ℕ) where
       go true b = cc (header_in-known last t b)
       go false b = b
 
-  next_in-read : (classed : Bool) (clock : ℕ) {x : Next} → next_in last classed clock t ≡ known x
-      → next classed clock (from 0 t) ≡ x
-  next_in-read classed clock {x} h = go (decided last t) refl
+  next_in-read : (clock : ℕ) {x : Next} → next_in last clock t ≡ known x → next clock (from 0 t) ≡ x
+  next_in-read clock {x} h = go (decided last t) refl
     where
-      go : (b : Bool) → decided last t ≡ b → next classed clock (from 0 t) ≡ x
-      go true b = cc (next_in-known last t classed clock b)
-      go false b = cc (next_in-more last t classed clock b)
+      go : (b : Bool) → decided last t ≡ b → next clock (from 0 t) ≡ x
+      go true b = cc (next_in-known last t clock b)
+      go false b = cc (next_in-more last t clock b)
 
-  next_in-unread : (classed : Bool) (clock : ℕ) → next_in last classed clock t ≡ more → decided last t ≡ false
-  next_in-unread classed clock h = go (decided last t) refl
+  next_in-unread : (clock : ℕ) → next_in last clock t ≡ more → decided last t ≡ false
+  next_in-unread clock h = go (decided last t) refl
     where
       go : (b : Bool) → decided last t ≡ b → decided last t ≡ false
-      go true b = cc (next_in-known last t classed clock b)
+      go true b = cc (next_in-known last t clock b)
       go false b = b
 
 -- the header
 
-header_from-line : (k : Bool) (c : Cursor) {classed : Bool} {n first : ℕ} {d : Cursor}
-    → header_from k c ≡ opened classed n first d
-    → (d.line ≡ c.line + 2) × (k ≡ classed)
-header_from-line k c {classed} {n} {first} {d} h = go (number Ports c) refl
+header-line : (t : List ℕ) {n first : ℕ} {d : Cursor} → header t ≡ opened n first d → d.line ≡ 3
+header-line t {n} {first} {d} h = go (number Ports (from 1 t)) refl
   where
-    in_range : (m : ℕ) (e : Cursor) → number Ports c ≡ got m e → (b : Bool) → ports_in_range m ≡ b
-        → (r : Read ℕ) → number First e ≡ r → (d.line ≡ c.line + 2) × (k ≡ classed)
-    in_range m e p false b r q = never (cc (header-bad-size k c p b))
-    in_range m e p true b (bad_at l) q = never (cc (header-bad-first k c p b q))
-    in_range m e p true b (got f x) q =
-        let y : x ≡ d = cc (header-opened k c p b q) in
-        let z : e.line ≡ c.line + 1 = number-line-next Ports c p in
-        (omega (arith, ap (λ z. z.line) y, number-line-next First e q), cc (header-opened k c p b q))
+    in_range : (m : ℕ) (c : Cursor) → number Ports (from 1 t) ≡ got m c → (b : Bool) → ports_in_range m ≡ b
+        → (r : Read ℕ) → number First c ≡ r → d.line ≡ 3
+    in_range m c p false b r q = cc (header-bad-size t p b)
+    in_range m c p true b (bad_at l) q = cc (header-bad-first t p b q)
+    in_range m c p true b (got f x) q =
+        let e : x ≡ d = cc (header-opened t p b q) in
+        let y : c.line ≡ 1 + 1 = number-line-next Ports (from 1 t) p in
+        omega (arith, ap (λ z. z.line) e, number-line-next First c q)
 
-    go : (r : Read ℕ) → number Ports c ≡ r → (d.line ≡ c.line + 2) × (k ≡ classed)
-    go (bad_at l) p = never (cc (header-bad-ports k c p))
-    go (got m e) p = in_range m e p (ports_in_range m) refl (number First e) refl
-
-header-line : (t : List ℕ) {classed : Bool} {n first : ℕ} {d : Cursor} → header t ≡ opened classed n first d
-    → d.line ≡ slots_line classed
-unfolding slots_line
-header-line t {classed} {d = d} h = go (exactly Form classed_form (from 1 t)) refl
-  where
-    go : (r : Read ℕ) → exactly Form classed_form (from 1 t) ≡ r → d.line ≡ slots_line classed
-    go (got m c) p =
-        let (x, y) = header_from-line true c (sym (header-classed t p) ∙ h) in
-        let z : c.line ≡ 1 + 1 = exactly-line-next Form classed_form (from 1 t) p in
-        rw (← y) (omega arith)
-    go (bad_at l) p =
-        let (x, y) = header_from-line false (from 1 t) (sym (header-plain t p) ∙ h) in
-        rw (← y) x
+    go : (r : Read ℕ) → number Ports (from 1 t) ≡ r → d.line ≡ 3
+    go (bad_at l) p = cc (header-bad-ports t p)
+    go (got m c) p = in_range m c p (ports_in_range m) refl (number First c) refl
 
 module _ (last : Bool) (t : List ℕ) {o : Opening} (e : o ≡ opening_of t (header_in last t)) where
   opened : (x : Piece Header) → header_in last t ≡ x → o ≡ opening_of t x
   opened x h = e ∙ ap (opening_of t) h
 
-  pub opening-open-e : {classed : Bool} {n first i : ℕ} → o ≡ Open classed n first i
-      → (header t ≡ opened classed n first (from (slots_line classed) (drop i t))) × (i ≤ length t)
+  pub opening-open-e : {n first i : ℕ} → o ≡ Open n first i
+      → (header t ≡ opened n first (from 3 (drop i t))) × (i ≤ length t)
   unfolding opening_of
-  opening-open-e {classed} {n} {first} {i} h = go (header_in last t) refl
+  opening-open-e {n} {first} {i} h = go (header_in last t) refl
     where
       go : (x : Piece Header) → header_in last t ≡ x
-          → (header t ≡ opened classed n first (from (slots_line classed) (drop i t))) × (i ≤ length t)
+          → (header t ≡ opened n first (from 3 (drop i t))) × (i ≤ length t)
       go more p = never (cc (opened more p))
       go (known (refused_at r l)) p = never (cc (opened (known (refused_at r l)) p))
-      go (known (opened k m f d)) p =
-          let g : Open k m f (length t - length d.text) ≡ Open classed n first i =
-          sym (opened (known (opened k m f d)) p) ∙ h in
+      go (known (opened m f d)) p =
+          let g : Open m f (length t - length d.text) ≡ Open n first i = sym (opened (known (opened m f d)) p) ∙ h in
           let x : length t - length d.text ≡ i = cc in
-          let v : k ≡ classed = cc in
           let y : m ≡ n = cc in
           let z : f ≡ first = cc in
-          let j : header t ≡ opened classed n first d = header_in-read last t p
-          ∙ ap (λ a. opened a m f d) v
-          ∙ ap (λ a. opened classed a f d) y
-          ∙ ap (λ a. opened classed n a d) z in
-          let (a, q) = rw j at (header-exact t) in
-          let s : List ℕ = form_text classed ++ (line Ports n ++ line First first) in
-          let (u, w) = drop-rest s d.text t (q ∙ sym (simp append_assoc)) in
-          let c : d ≡ from (slots_line classed) (drop i t) = λ b. record { line = header-line t j b; text = (u ∙ ap (λ b. drop b t) x) b } in
-          (j ∙ ap (opened classed n first) c, omega arith)
+          let k : header t ≡ opened m f d = header_in-read last t p in
+          let (a, q) = rw k at (header-exact t) in
+          let s : List ℕ = line Ports m ++ line First f in
+          let (u, w) = drop-rest s d.text t (q ∙ sym (append_assoc (line Ports m) (line First f) d.text)) in
+          let c : d ≡ from 3 (drop i t) = λ j. record { line = header-line t k j; text = (u ∙ ap (λ j. drop j t) x) j } in
+          (k ∙ ap (λ j. opened j f d) y ∙ ap (λ j. opened n j d) z ∙ ap (opened n first) c, omega arith)
 
   pub opening-refused-e : {r : Refusal} {l : ℕ} → o ≡ Refused r l → header t ≡ refused_at r l
   unfolding opening_of
@@ -133,7 +109,7 @@ module _ (last : Bool) (t : List ℕ) {o : Opening} (e : o ≡ opening_of t (hea
     where
       go : (x : Piece Header) → header_in last t ≡ x → header t ≡ refused_at r l
       go more p = cc (opened more p)
-      go (known (opened b m f d)) p = cc (opened (known (opened b m f d)) p)
+      go (known (opened m f d)) p = cc (opened (known (opened m f d)) p)
       go (known (refused_at s k)) p =
           let x : s ≡ r = cc (opened (known (refused_at s k)) p) in
           let y : k ≡ l = cc (opened (known (refused_at s k)) p) in
@@ -145,27 +121,27 @@ module _ (last : Bool) (t : List ℕ) {o : Opening} (e : o ≡ opening_of t (hea
     where
       go : (x : Piece Header) → header_in last t ≡ x → decided last t ≡ false
       go more p = header_in-unread last t p
-      go (known (opened b m f d)) p = cc (opened (known (opened b m f d)) p)
+      go (known (opened m f d)) p = cc (opened (known (opened m f d)) p)
       go (known (refused_at r l)) p = cc (opened (known (refused_at r l)) p)
 
 -- a block
 
 -- a block with n arrivals, i bytes and l lines stands at the start of t
-pub record Ahead (classed : Bool) (clock : ℕ) (t : List ℕ) (n i l : ℕ) : Type 0 where
+pub record Ahead (clock : ℕ) (t : List ℕ) (n i l : ℕ) : Type 0 where
   pub rs : List Arrival
   pub count : length rs ≡ n
   pub within : i ≤ length t
-  pub there : next classed clock (from 0 t) ≡ slot_ahead rs (from l (drop i t))
+  pub there : next clock (from 0 t) ≡ slot_ahead rs (from l (drop i t))
 
-module _ (last classed : Bool) (clock : ℕ) (t : List ℕ) {b : Answer} (e : b ≡ answer_of t (next_in last classed clock t)) where
-  answer-of : (x : Piece Next) → next_in last classed clock t ≡ x → b ≡ answer_of t x
+module _ (last : Bool) (clock : ℕ) (t : List ℕ) {b : Answer} (e : b ≡ answer_of t (next_in last clock t)) where
+  answer-of : (x : Piece Next) → next_in last clock t ≡ x → b ≡ answer_of t x
   answer-of x h = e ∙ ap (answer_of t) h
 
-  pub answer-slot-e : {n i l : ℕ} → b ≡ Slot n i l → Ahead classed clock t n i l
+  pub answer-slot-e : {n i l : ℕ} → b ≡ Slot n i l → Ahead clock t n i l
   unfolding answer_of
-  answer-slot-e {n} {i} {l} h = go (next_in last classed clock t) refl
+  answer-slot-e {n} {i} {l} h = go (next_in last clock t) refl
     where
-      go : (x : Piece Next) → next_in last classed clock t ≡ x → Ahead classed clock t n i l
+      go : (x : Piece Next) → next_in last clock t ≡ x → Ahead clock t n i l
       go more p = never (cc (answer-of more p))
       go (known finished) p = never (cc (answer-of (known finished) p))
       go (known (faulty k)) p = never (cc (answer-of (known (faulty k)) p))
@@ -175,10 +151,10 @@ module _ (last classed : Bool) (clock : ℕ) (t : List ℕ) {b : Answer} (e : b 
           let v : length rs ≡ n = cc in
           let x : length t - length d.text ≡ i = cc in
           let y : d.line ≡ l = cc in
-          let k : next classed clock (from 0 t) ≡ slot_ahead rs d = next_in-read last t classed clock p in
-          let (q, a) = rw k at (next-exact classed clock (from 0 t)) in
-          let s : List ℕ = line SlotKey clock ++ arrivals_text classed rs in
-          let (u, w) = drop-rest s d.text t (q ∙ sym (append_assoc (line SlotKey clock) (arrivals_text classed rs) d.text)) in
+          let k : next clock (from 0 t) ≡ slot_ahead rs d = next_in-read last t clock p in
+          let (q, a) = rw k at (next-exact clock (from 0 t)) in
+          let s : List ℕ = line SlotKey clock ++ arrivals_text rs in
+          let (u, w) = drop-rest s d.text t (q ∙ sym (append_assoc (line SlotKey clock) (arrivals_text rs) d.text)) in
           let z : d ≡ from l (drop i t) = λ j. record { line = y j; text = (u ∙ ap (λ m. drop m t) x) j } in
           record {
             rs = rs;
@@ -187,34 +163,34 @@ module _ (last classed : Bool) (clock : ℕ) (t : List ℕ) {b : Answer} (e : b 
             there = k ∙ ap (slot_ahead rs) z;
           }
 
-  pub answer-end-e : b ≡ End → next classed clock (from 0 t) ≡ finished
+  pub answer-end-e : b ≡ End → next clock (from 0 t) ≡ finished
   unfolding answer_of
-  answer-end-e h = go (next_in last classed clock t) refl
+  answer-end-e h = go (next_in last clock t) refl
     where
-      go : (x : Piece Next) → next_in last classed clock t ≡ x → next classed clock (from 0 t) ≡ finished
+      go : (x : Piece Next) → next_in last clock t ≡ x → next clock (from 0 t) ≡ finished
       go more p = cc (answer-of more p)
       go (known (slot_ahead rs d)) p = cc (answer-of (known (slot_ahead rs d)) p)
-      go (known finished) p = next_in-read last t classed clock p
+      go (known finished) p = next_in-read last t clock p
       go (known (faulty k)) p = cc (answer-of (known (faulty k)) p)
 
-  pub answer-bad-e : {k : ℕ} → b ≡ Bad k → next classed clock (from 0 t) ≡ faulty k
+  pub answer-bad-e : {k : ℕ} → b ≡ Bad k → next clock (from 0 t) ≡ faulty k
   unfolding answer_of
-  answer-bad-e {k} h = go (next_in last classed clock t) refl
+  answer-bad-e {k} h = go (next_in last clock t) refl
     where
-      go : (x : Piece Next) → next_in last classed clock t ≡ x → next classed clock (from 0 t) ≡ faulty k
+      go : (x : Piece Next) → next_in last clock t ≡ x → next clock (from 0 t) ≡ faulty k
       go more p = cc (answer-of more p)
       go (known (slot_ahead rs d)) p = cc (answer-of (known (slot_ahead rs d)) p)
       go (known finished) p = cc (answer-of (known finished) p)
       go (known (faulty j)) p =
           let f : j ≡ k = cc (answer-of (known (faulty j)) p) in
-          next_in-read last t classed clock p ∙ ap faulty f
+          next_in-read last t clock p ∙ ap faulty f
 
   pub answer-more-e : b ≡ More → decided last t ≡ false
   unfolding answer_of
-  answer-more-e h = go (next_in last classed clock t) refl
+  answer-more-e h = go (next_in last clock t) refl
     where
-      go : (x : Piece Next) → next_in last classed clock t ≡ x → decided last t ≡ false
-      go more p = next_in-unread last t classed clock p
+      go : (x : Piece Next) → next_in last clock t ≡ x → decided last t ≡ false
+      go more p = next_in-unread last t clock p
       go (known (slot_ahead rs d)) p = cc (answer-of (known (slot_ahead rs d)) p)
       go (known finished) p = cc (answer-of (known finished) p)
       go (known (faulty k)) p = cc (answer-of (known (faulty k)) p)

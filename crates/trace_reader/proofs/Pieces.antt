@@ -9,7 +9,6 @@
 --     cut-anywhere, cut-header the answer for a piece is the answer for the whole text
 use Prim.Native.Nat.{ℕ, zero, suc, ◌+◌, ◌*◌, ◌-◌, ◌≤◌, ◌<◌}
 use native.Mathlib.Omega.{arith}
-use native.Mathlib.Nat.{mul-zero, mul-suc}
 use mathlib.Core.Bool.{Bool, true, false}
 use mathlib.Core.List.{List, [], ◌∷◌, ◌++◌, append-nil}
 use mathlib.Core.Logic.{◌⊎◌, inl, inr, ⊎_elim, ◌≢◌}
@@ -21,24 +20,24 @@ use lib.ListN.{length, length-append}
 use Rattle.cell.specs.declared.Arrival.{Arrival}
 use Rattle.laws.proofs.Tests.{either, or_r}
 use Rattle.cell.specs.declared.Refusal.{Refusal}
-use Rattle.cell.specs.declared.Refusal.TheVariants.{BadSize, BadLine}
+use Rattle.cell.specs.declared.Refusal.TheVariants.{BadLine}
 use Rattle.cell.specs.Limits.{fits32, clock_end, ports_in_range}
 use Rattle.trace.specs.declared.Key.{Key}
-use Rattle.trace.specs.declared.Key.TheVariants.{Form, Ports, First, Slot, In, Out, Flow, Class, Rank, Tag, End}
+use Rattle.trace.specs.declared.Key.TheVariants.{Ports, First, Slot, In, Out, Flow, Rank, Tag, End}
 use Rattle.trace.specs.Ascii.{ascii}
 use Rattle.trace.specs.Line.{key_name, key_text, line, after, is_digit, read_line}
 use Rattle.trace.specs.Reader.{from, Cursor, Read, got, bad_at, Reader, give, ◌>>=◌, number, exactly, begins}
-use Rattle.trace.specs.Reader.{class_number, arrival, arrivals, block, Next, slot_ahead, finished, faulty, after_end, next}
-use Rattle.trace.specs.Reader.{Header, opened, refused_at, header_from, header}
-use Rattle.trace.specs.Contents.{block_limit, classed_form, record_lines}
+use Rattle.trace.specs.Reader.{arrival, arrivals, block, Next, slot_ahead, finished, faulty, after_end, next}
+use Rattle.trace.specs.Reader.{Header, opened, refused_at, header}
+use Rattle.trace.specs.Contents.{block_limit}
 use Rattle.trace.specs.Piece.{known, enough, decided, next_in, header_in}
 use Rattle.trace.proofs.Lengths.{length-line-le}
-use Rattle.trace.proofs.Line.{read_line-none, after-exact}
+use Rattle.trace.proofs.Line.{after-exact}
 use Rattle.trace.proofs.Blocks.{bind-got, bind-bad, bind-exact, number-some, number-none, number-exact}
 use Rattle.trace.proofs.Blocks.{exactly-same, exactly-other, exactly-bad, exactly-exact}
 use Rattle.trace.proofs.Blocks.{begins-some, begins-none, arrivals-stop, arrivals-exact, after_end-nil, after_end-cons}
 use Rattle.trace.proofs.Blocks.{next-block, next-no-block, next_last, next-no-last}
-use Rattle.trace.proofs.RoundTrip.{header-classed, header-plain, header-bad-ports, header-bad-size, header-bad-first, header-opened}
+use Rattle.trace.proofs.RoundTrip.{header-bad-ports, header-bad-size, header-bad-first, header-opened}
 use Rattle.trace_reader.proofs.Answers.{header_in-more, header_in-known, next_in-more, next_in-known}
 use Rattle.trace_reader.proofs.Arrivals.{exactly-line-next, arrival-line}
 use Rattle.trace_line_reader.proofs.Numbers.{continued, continued-line-feed, continued-stray, continued-zero}
@@ -126,6 +125,10 @@ read_body-more (b ∷ t) u h = go (is_digit b) refl
     go true d =
         read_body-first b (t ++ u) d ∙ continued-more-ten (b - 48) t u (omega arith) ∙ sym (rw (read_body-first b t d))
     go false d = read_body-stray b (t ++ u) d ∙ sym (rw (read_body-stray b t d))
+
+read_line-none : (k : Key) (t : List ℕ) → after (key_text k) t ≡ none → read_line k t ≡ none
+unfolding read_line bind
+read_line-none k t h = rw h
 
 read_line-some : (k : Key) (t : List ℕ) {body : List ℕ} → after (key_text k) t ≡ some body → read_line k t ≡ read_body body
 unfolding read_line read_body bind
@@ -285,24 +288,12 @@ steady-exactly k n = record {
 
 -- an arrival
 
--- a class takes no more than a line, in either form
-steady-class : (classed : Bool) → Steady (length (key_text Class) + 11) 0 (class_number classed)
-unfolding class_number give onward_read
-steady-class true = steady-number Class
-steady-class false = record {
-  onwards = λ n u c e. refl;
-  takes = λ c {d} h.
-      let e : c ≡ d = cc in
-      omega (arith, ap (λ x. length x.text) e);
-}
-
-steady-arrival : (classed : Bool) → Steady 93 0 (arrival classed)
+steady-arrival : Steady 76 0 arrival
 unfolding arrival key_text key_name ascii ◌>>=◌
-steady-arrival classed =
+steady-arrival =
     steady-bind (steady-number In) λ i.
     steady-bind (steady-number Out) λ o.
     steady-bind (steady-number Flow) λ f.
-    steady-bind (steady-class classed) λ k.
     steady-bind (steady-number Rank) λ r.
     steady-bind (steady-number Tag) λ t. steady-give _ 0
 
@@ -325,56 +316,55 @@ begins-onwards k n u c (inr h) = begins-text k (n + c.line) c.line (rw h (append
 
 -- the arrivals of a block
 
-module _ (classed : Bool) where
-  one_more : ℕ → Reader (List Arrival)
-  one_more most = ◌>>=◌ (arrival classed) (λ a. ◌>>=◌ (arrivals classed most) (λ rs. give (a ∷ rs)))
+one_more : ℕ → Reader (List Arrival)
+one_more most = ◌>>=◌ arrival (λ a. ◌>>=◌ (arrivals most) (λ rs. give (a ∷ rs)))
 
-  arrivals-one : (most : ℕ) (c : Cursor) → begins In c ≡ true → arrivals classed (suc most) c ≡ one_more most c
-  unfolding arrivals one_more
-  arrivals-one most c h = rw (h, arrivals)
+arrivals-one : (most : ℕ) (c : Cursor) → begins In c ≡ true → arrivals (suc most) c ≡ one_more most c
+unfolding arrivals one_more
+arrivals-one most c h = rw (h, arrivals)
 
-  steady-more : (most : ℕ) → Steady (93 * most) 3 (arrivals classed most) → Steady (93 + 93 * most) 3 (one_more most)
-  unfolding one_more
-  steady-more most s = steady-bind (steady-arrival classed) λ a. steady-map (λ rs. a ∷ rs) s
+steady-more : (most : ℕ) → Steady (76 * most) 3 (arrivals most) → Steady (76 + 76 * most) 3 (one_more most)
+unfolding one_more
+steady-more most s = steady-bind steady-arrival λ a. steady-map (λ rs. a ∷ rs) s
 
-  -- no more of them, or one and then more
-  steady-next : (most : ℕ) → Steady (93 + 93 * most) 3 (one_more most) → Steady (93 * suc most) 3 (arrivals classed (suc most))
-  unfolding onward_read key_text key_name ascii
-  steady-next most s = record {
-    onwards = λ n u c e.
-        let f : Enough 3 c.text u = ⊎_elim (λ l. inl (omega arith)) inr e in
-        let g : Enough (93 + 93 * most + 3) c.text u = ⊎_elim (λ l. inl (omega arith)) inr e in
-        go n u c g (begins In c) refl (begins-onwards In n u c f);
-    takes = λ c h. taken c h (begins In c) refl;
-  }
-    where
-      go : (n : ℕ) (u : List ℕ) (c : Cursor) → Enough (93 + 93 * most + 3) c.text u → (b : Bool) → begins In c ≡ b
-          → begins In (onward n u c) ≡ begins In c
-          → arrivals classed (suc most) (onward n u c) ≡ onward_read n u (arrivals classed (suc most) c)
-      go n u c e true b q =
-          arrivals-one most (onward n u c) (q ∙ b)
-          ∙ s.onwards n u c e
-          ∙ ap (onward_read n u) (sym (arrivals-one most c b))
-      go n u c e false b q =
-          arrivals-stop classed (suc most) (onward n u c) (q ∙ b) ∙ ap (onward_read n u) (sym (arrivals-stop classed (suc most) c b))
+-- no more of them, or one and then more
+steady-next : (most : ℕ) → Steady (76 + 76 * most) 3 (one_more most) → Steady (76 * suc most) 3 (arrivals (suc most))
+unfolding onward_read key_text key_name ascii
+steady-next most s = record {
+  onwards = λ n u c e.
+      let f : Enough 3 c.text u = ⊎_elim (λ l. inl (omega arith)) inr e in
+      let g : Enough (76 + 76 * most + 3) c.text u = ⊎_elim (λ l. inl (omega arith)) inr e in
+      go n u c g (begins In c) refl (begins-onwards In n u c f);
+  takes = λ c h. taken c h (begins In c) refl;
+}
+  where
+    go : (n : ℕ) (u : List ℕ) (c : Cursor) → Enough (76 + 76 * most + 3) c.text u → (b : Bool) → begins In c ≡ b
+        → begins In (onward n u c) ≡ begins In c
+        → arrivals (suc most) (onward n u c) ≡ onward_read n u (arrivals (suc most) c)
+    go n u c e true b q =
+        arrivals-one most (onward n u c) (q ∙ b)
+        ∙ s.onwards n u c e
+        ∙ ap (onward_read n u) (sym (arrivals-one most c b))
+    go n u c e false b q =
+        arrivals-stop (suc most) (onward n u c) (q ∙ b) ∙ ap (onward_read n u) (sym (arrivals-stop (suc most) c b))
 
-      taken : (c : Cursor) {rs : List Arrival} {d : Cursor} → arrivals classed (suc most) c ≡ got rs d
-          → (b : Bool) → begins In c ≡ b → length c.text ≤ length d.text + 93 * suc most
-      taken c h true b = omega (arith, s.takes c (sym (arrivals-one most c b) ∙ h))
-      taken c {rs} {d} h false b =
-          let g : got [] c ≡ got rs d = sym (arrivals-stop classed (suc most) c b) ∙ h in
-          let e : c ≡ d = cc in
-          omega (arith, ap (λ y. length y.text) e)
+    taken : (c : Cursor) {rs : List Arrival} {d : Cursor} → arrivals (suc most) c ≡ got rs d
+        → (b : Bool) → begins In c ≡ b → length c.text ≤ length d.text + 76 * suc most
+    taken c h true b = omega (arith, s.takes c (sym (arrivals-one most c b) ∙ h))
+    taken c {rs} {d} h false b =
+        let g : got [] c ≡ got rs d = sym (arrivals-stop (suc most) c b) ∙ h in
+        let e : c ≡ d = cc in
+        omega (arith, ap (λ y. length y.text) e)
 
-  steady-arrivals : (most : ℕ) → Steady (93 * most) 3 (arrivals classed most)
-  unfolding arrivals
-  steady-arrivals zero = steady-give [] 3
-  steady-arrivals (suc most) = steady-next most (steady-more most (steady-arrivals most))
+steady-arrivals : (most : ℕ) → Steady (76 * most) 3 (arrivals most)
+unfolding arrivals
+steady-arrivals zero = steady-give [] 3
+steady-arrivals (suc most) = steady-next most (steady-more most (steady-arrivals most))
 
-  -- a block has at most 1,504 bytes
-  steady-block : (clock : ℕ) → Steady 1504 3 (block classed clock)
-  unfolding block key_text key_name ascii
-  steady-block clock = steady-bind (steady-exactly Slot clock) λ n. steady-arrivals block_limit
+-- a block has at most 1,232 bytes
+steady-block : (clock : ℕ) → Steady 1232 3 (block clock)
+unfolding block key_text key_name ascii
+steady-block clock = steady-bind (steady-exactly Slot clock) λ n. steady-arrivals block_limit
 
 -- what stands after the header or a block
 
@@ -408,31 +398,31 @@ module _ (n : ℕ) (u : List ℕ) where
       go [] h (inr f) =
           after_end-nil (onward n u d) (ap (λ x. x ++ u) h ∙ f) ∙ sym (onward_next-finished (after_end-nil d h))
 
-  module _ (classed : Bool) (clock : ℕ) (c : Cursor) (e : Enough enough c.text u) where
+  module _ (clock : ℕ) (c : Cursor) (e : Enough enough c.text u) where
     end-onwards : begins End c ≡ true → begins End (onward n u c) ≡ true
         → (r : Read ℕ) → exactly End clock c ≡ r → exactly End clock (onward n u c) ≡ onward_read n u (exactly End clock c)
-        → next classed clock (onward n u c) ≡ onward_next n u (next classed clock c)
+        → next clock (onward n u c) ≡ onward_next n u (next clock c)
     unfolding onward_read key_text key_name ascii
     end-onwards b f (got m d) p q =
         let l : length c.text ≤ length d.text + 15 = (steady-exactly End clock).takes c p in
         let g : Enough 1 d.text u = ⊎_elim (λ h. inl (omega arith)) inr e in
         let r : exactly End clock (onward n u c) ≡ got m (onward n u d) = q ∙ rw p in
-        next_last classed clock (onward n u c) f r
+        next_last clock (onward n u c) f r
         ∙ after_end-onwards d g
-        ∙ ap (onward_next n u) (sym (next_last classed clock c b p))
+        ∙ ap (onward_next n u) (sym (next_last clock c b p))
     end-onwards b f (bad_at l) p q =
-        next-no-last classed clock (onward n u c) f (q ∙ rw p) ∙ sym (onward_next-faulty (next-no-last classed clock c b p))
+        next-no-last clock (onward n u c) f (q ∙ rw p) ∙ sym (onward_next-faulty (next-no-last clock c b p))
 
     block-onwards : begins End c ≡ false → begins End (onward n u c) ≡ false
-        → (r : Read (List Arrival)) → block classed clock c ≡ r → block classed clock (onward n u c) ≡ onward_read n u (block classed clock c)
-        → next classed clock (onward n u c) ≡ onward_next n u (next classed clock c)
+        → (r : Read (List Arrival)) → block clock c ≡ r → block clock (onward n u c) ≡ onward_read n u (block clock c)
+        → next clock (onward n u c) ≡ onward_next n u (next clock c)
     unfolding onward_read
     block-onwards b f (got rs d) p q =
-        next-block classed clock (onward n u c) f (q ∙ rw p) ∙ sym (onward_next-slot (next-block classed clock c b p))
+        next-block clock (onward n u c) f (q ∙ rw p) ∙ sym (onward_next-slot (next-block clock c b p))
     block-onwards b f (bad_at l) p q =
-        next-no-block classed clock (onward n u c) f (q ∙ rw p) ∙ sym (onward_next-faulty (next-no-block classed clock c b p))
+        next-no-block clock (onward n u c) f (q ∙ rw p) ∙ sym (onward_next-faulty (next-no-block clock c b p))
 
-    pub next-onwards : next classed clock (onward n u c) ≡ onward_next n u (next classed clock c)
+    pub next-onwards : next clock (onward n u c) ≡ onward_next n u (next clock c)
     unfolding key_text key_name ascii
     next-onwards = go (begins End c) refl
       where
@@ -442,90 +432,82 @@ module _ (n : ℕ) (u : List ℕ) where
         same : begins End (onward n u c) ≡ begins End c
         same = begins-onwards End n u c (fewer (omega arith))
 
-        go : (b : Bool) → begins End c ≡ b → next classed clock (onward n u c) ≡ onward_next n u (next classed clock c)
+        go : (b : Bool) → begins End c ≡ b → next clock (onward n u c) ≡ onward_next n u (next clock c)
         go true b =
             end-onwards b (same ∙ b) (exactly End clock c) refl
             ((steady-exactly End clock).onwards n u c (fewer (omega arith)))
         go false b =
-            block-onwards b (same ∙ b) (block classed clock c) refl ((steady-block classed clock).onwards n u c (fewer (omega arith)))
+            block-onwards b (same ∙ b) (block clock c) refl ((steady-block clock).onwards n u c (fewer (omega arith)))
 
 -- at a later line
 
 later : (n : ℕ) (c : Cursor) → onward n [] c ≡ from (n + c.line) c.text
 later n c = ap (from (n + c.line)) (append-nil c.text)
 
-module _ (classed : Bool) (clock l : ℕ) (t : List ℕ) where
-  next-from : next classed clock (from l t) ≡ onward_next l [] (next classed clock (from 0 t))
+module _ (clock l : ℕ) (t : List ℕ) where
+  next-from : next clock (from l t) ≡ onward_next l [] (next clock (from 0 t))
   next-from =
       let z : l + 0 ≡ l = omega arith in
-      ap (next classed clock) (sym (later l (from 0 t) ∙ ap (λ k. from k t) z)) ∙ next-onwards l [] classed clock (from 0 t) (inr refl)
+      ap (next clock) (sym (later l (from 0 t) ∙ ap (λ k. from k t) z)) ∙ next-onwards l [] clock (from 0 t) (inr refl)
 
-  pub next-slot-later : {rs : List Arrival} {d : Cursor} → next classed clock (from 0 t) ≡ slot_ahead rs d
-      → next classed clock (from l t) ≡ slot_ahead rs (from (l + d.line) d.text)
+  pub next-slot-later : {rs : List Arrival} {d : Cursor} → next clock (from 0 t) ≡ slot_ahead rs d
+      → next clock (from l t) ≡ slot_ahead rs (from (l + d.line) d.text)
   next-slot-later {rs} {d} h = next-from ∙ onward_next-slot l [] h ∙ ap (slot_ahead rs) (later l d)
 
-  pub next-finished-later : next classed clock (from 0 t) ≡ finished → next classed clock (from l t) ≡ finished
+  pub next-finished-later : next clock (from 0 t) ≡ finished → next clock (from l t) ≡ finished
   next-finished-later h = next-from ∙ onward_next-finished l [] h
 
-  pub next-faulty-later : {k : ℕ} → next classed clock (from 0 t) ≡ faulty k → next classed clock (from l t) ≡ faulty (l + k)
+  pub next-faulty-later : {k : ℕ} → next clock (from 0 t) ≡ faulty k → next clock (from l t) ≡ faulty (l + k)
   next-faulty-later h = next-from ∙ onward_next-faulty l [] h
 
 -- the bytes and the lines of a block
 
-next-block-exact : (classed : Bool) (clock : ℕ) (c : Cursor) {rs : List Arrival} {d : Cursor} → next classed clock c ≡ slot_ahead rs d
-    → block classed clock c ≡ got rs d
-next-block-exact classed clock c {rs} {d} h = go (begins End c) refl (exactly End clock c) refl (block classed clock c) refl
+next-block-exact : (clock : ℕ) (c : Cursor) {rs : List Arrival} {d : Cursor} → next clock c ≡ slot_ahead rs d
+    → block clock c ≡ got rs d
+next-block-exact clock c {rs} {d} h = go (begins End c) refl (exactly End clock c) refl (block clock c) refl
   where
-    last : (e : Cursor) → next classed clock c ≡ after_end e → (t : List ℕ) → e.text ≡ t → block classed clock c ≡ got rs d
+    last : (e : Cursor) → next clock c ≡ after_end e → (t : List ℕ) → e.text ≡ t → block clock c ≡ got rs d
     last e p [] q = cc (after_end-nil e q)
     last e p (b ∷ t) q = cc (after_end-cons e q)
 
     go : (b : Bool) → begins End c ≡ b → (x : Read ℕ) → exactly End clock c ≡ x
-        → (y : Read (List Arrival)) → block classed clock c ≡ y → block classed clock c ≡ got rs d
-    go true b (got n e) x y _ = last e (next_last classed clock c b x) e.text refl
-    go true b (bad_at l) x y _ = cc (next-no-last classed clock c b x)
-    go false b x _ (got ss e) y = cc (next-block classed clock c b y)
-    go false b x _ (bad_at l) y = cc (next-no-block classed clock c b y)
+        → (y : Read (List Arrival)) → block clock c ≡ y → block clock c ≡ got rs d
+    go true b (got n e) x y _ = last e (next_last clock c b x) e.text refl
+    go true b (bad_at l) x y _ = cc (next-no-last clock c b x)
+    go false b x _ (got ss e) y = cc (next-block clock c b y)
+    go false b x _ (bad_at l) y = cc (next-no-block clock c b y)
 
--- the lines of no arrivals, and of one more
-no_lines : (classed : Bool) {rs : List Arrival} → [] ≡ rs → record_lines classed * length rs ≡ 0
-no_lines classed h = rw (← h) (mul-zero (record_lines classed))
-
-more-lines : (classed : Bool) {a : Arrival} {rs ss : List Arrival} → a ∷ ss ≡ rs
-    → record_lines classed * length rs ≡ record_lines classed * length ss + record_lines classed
-more-lines classed {ss = ss} h = rw (← h) (mul-suc (record_lines classed) (length ss))
-
-arrivals-line : (classed : Bool) (most : ℕ) (c : Cursor) {rs : List Arrival} {d : Cursor} → arrivals classed most c ≡ got rs d
-    → d.line ≡ c.line + record_lines classed * length rs
+arrivals-line : (most : ℕ) (c : Cursor) {rs : List Arrival} {d : Cursor} → arrivals most c ≡ got rs d
+    → d.line ≡ c.line + 5 * length rs
 unfolding arrivals give one_more
-arrivals-line classed zero c {rs} {d} h =
+arrivals-line zero c {rs} {d} h =
     let e : [] ≡ rs = cc in
     let f : c ≡ d = cc in
-    omega (arith, no_lines classed e, ap (λ x. x.line) f)
-arrivals-line classed (suc most) c {rs} {d} h = go (begins In c) refl (λ c rs d. arrivals-line classed most c {rs = rs} {d = d})
+    omega (arith, ap length e, ap (λ x. x.line) f)
+arrivals-line (suc most) c {rs} {d} h = go (begins In c) refl (λ c rs d. arrivals-line most c {rs = rs} {d = d})
   where
     go : (b : Bool) → begins In c ≡ b
-        → ((c : Cursor) (rs : List Arrival) (d : Cursor) → arrivals classed most c ≡ got rs d → d.line ≡ c.line + record_lines classed * length rs)
-        → d.line ≡ c.line + record_lines classed * length rs
+        → ((c : Cursor) (rs : List Arrival) (d : Cursor) → arrivals most c ≡ got rs d → d.line ≡ c.line + 5 * length rs)
+        → d.line ≡ c.line + 5 * length rs
     go false b fewer =
-        let g : got [] c ≡ got rs d = sym (arrivals-stop classed (suc most) c b) ∙ h in
+        let g : got [] c ≡ got rs d = sym (arrivals-stop (suc most) c b) ∙ h in
         let e : [] ≡ rs = cc in
         let f : c ≡ d = cc in
-        omega (arith, no_lines classed e, ap (λ x. x.line) f)
+        omega (arith, ap length e, ap (λ x. x.line) f)
     go true b fewer =
-        bind-exact (arrival classed) (λ a. ◌>>=◌ (arrivals classed most) (λ rs. give (a ∷ rs))) c (sym (arrivals-one classed most c b) ∙ h) λ a e p q.
-        bind-exact (arrivals classed most) (λ rs. give (a ∷ rs)) e q λ ss f r g.
+        bind-exact arrival (λ a. ◌>>=◌ (arrivals most) (λ rs. give (a ∷ rs))) c (sym (arrivals-one most c b) ∙ h) λ a e p q.
+        bind-exact (arrivals most) (λ rs. give (a ∷ rs)) e q λ ss f r g.
         let x : a ∷ ss ≡ rs = cc in
         let y : f ≡ d = cc in
-        omega (arith, arrival-line classed c p, fewer e ss f r, more-lines classed x, ap (λ x. x.line) y)
+        omega (arith, arrival-line c p, fewer e ss f r, ap length x, ap (λ x. x.line) y)
 
-pub next-line : (classed : Bool) (clock : ℕ) (c : Cursor) {rs : List Arrival} {d : Cursor} → next classed clock c ≡ slot_ahead rs d
-    → (d.line ≡ c.line + (1 + record_lines classed * length rs)) × (length rs ≤ block_limit)
+pub next-line : (clock : ℕ) (c : Cursor) {rs : List Arrival} {d : Cursor} → next clock c ≡ slot_ahead rs d
+    → (d.line ≡ c.line + (1 + 5 * length rs)) × (length rs ≤ block_limit)
 unfolding block
-next-line classed clock c {rs} {d} h =
-    bind-exact (exactly Slot clock) (λ _. arrivals classed block_limit) c (next-block-exact classed clock c h) λ n e p q.
-    let (x, l, y) = arrivals-exact classed block_limit e rs d q in
-    (omega (arith, exactly-line-next Slot clock c p, arrivals-line classed block_limit e q), l)
+next-line clock c {rs} {d} h =
+    bind-exact (exactly Slot clock) (λ _. arrivals block_limit) c (next-block-exact clock c h) λ n e p q.
+    let (x, l, y) = arrivals-exact block_limit e rs d q in
+    (omega (arith, exactly-line-next Slot clock c p, arrivals-line block_limit e q), l)
 
 -- with more text behind it
 
@@ -544,90 +526,64 @@ onward_next-behind u (faulty l) =
     let z : 0 + l ≡ l = omega arith in
     ap faulty z
 
-module _ (classed : Bool) (clock l : ℕ) (t : List ℕ) (h : enough ≤ length t) where
-  pub next-append : (u : List ℕ) → next classed clock (from l (t ++ u)) ≡ behind u (next classed clock (from l t))
+module _ (clock l : ℕ) (t : List ℕ) (h : enough ≤ length t) where
+  pub next-append : (u : List ℕ) → next clock (from l (t ++ u)) ≡ behind u (next clock (from l t))
   next-append u =
       let z : l ≡ 0 + l = omega arith in
-      ap (λ k. next classed clock (from k (t ++ u))) z
-      ∙ next-onwards 0 u classed clock (from l t) (inl h)
-      ∙ onward_next-behind u (next classed clock (from l t))
+      ap (λ k. next clock (from k (t ++ u))) z
+      ∙ next-onwards 0 u clock (from l t) (inl h)
+      ∙ onward_next-behind u (next clock (from l t))
 
 -- the header
 
 unfoldable pub behind_header : List ℕ → Header → Header
-behind_header u (opened classed n first d) = opened classed n first (from d.line (d.text ++ u))
+behind_header u (opened n first d) = opened n first (from d.line (d.text ++ u))
 behind_header u (refused_at r l) = refused_at r l
 
-module _ (u : List ℕ) where
-  refused-append : {x y : Header} {r : Refusal} {l : ℕ} → y ≡ refused_at r l → x ≡ refused_at r l → y ≡ behind_header u x
+module _ (t u : List ℕ) (h : enough ≤ length t) where
+  refused-append : {r : Refusal} {l : ℕ} → header (t ++ u) ≡ refused_at r l → header t ≡ refused_at r l
+      → header (t ++ u) ≡ behind_header u (header t)
   unfolding behind_header
   refused-append p q = p ∙ sym (rw q)
 
-  opened-append : {x y : Header} {classed : Bool} {n first : ℕ} {d : Cursor}
-      → y ≡ opened classed n first (onward 0 u d) → x ≡ opened classed n first d → y ≡ behind_header u x
+  opened-append : {n first : ℕ} {d : Cursor} → header (t ++ u) ≡ opened n first (onward 0 u d) → header t ≡ opened n first d
+      → header (t ++ u) ≡ behind_header u (header t)
   unfolding behind_header
-  opened-append {classed = classed} {n = n} {first = first} {d = d} p q =
+  opened-append {n} {first} {d} p q =
       let z : 0 + d.line ≡ d.line = omega arith in
-      p ∙ ap (λ l. opened classed n first (from l (d.text ++ u))) z ∙ sym (rw q)
+      p ∙ ap (λ l. opened n first (from l (d.text ++ u))) z ∙ sym (rw q)
 
-  -- `ports` and `first`, of at most 34 bytes
-  module _ (classed : Bool) (c : Cursor) (h : 34 ≤ length c.text) where
-    ports-append : header_from classed (onward 0 u c) ≡ behind_header u (header_from classed c)
-    unfolding onward_read key_text key_name ascii
-    ports-append =
-        go (number Ports c) refl ((steady-number Ports).onwards 0 u c (inl (omega arith)))
-      where
-        first : (n : ℕ) (e : Cursor) → number Ports c ≡ got n e → number Ports (onward 0 u c) ≡ got n (onward 0 u e)
-            → (b : Bool) → ports_in_range n ≡ b
-            → (r : Read ℕ) → number First e ≡ r → number First (onward 0 u e) ≡ onward_read 0 u (number First e)
-            → header_from classed (onward 0 u c) ≡ behind_header u (header_from classed c)
-        first n e p q false b r i j =
-            let z : 0 + c.line ≡ c.line = omega arith in
-            refused-append
-            (header-bad-size classed (onward 0 u c) q b ∙ ap (refused_at BadSize) z)
-            (header-bad-size classed c p b)
-        first n e p q true b (bad_at l) i j =
-            let z : 0 + l ≡ l = omega arith in
-            refused-append
-            (header-bad-first classed (onward 0 u c) q b (j ∙ rw i) ∙ ap (refused_at BadLine) z)
-            (header-bad-first classed c p b i)
-        first n e p q true b (got m f) i j =
-            let k : number First (onward 0 u e) ≡ got m (onward 0 u f) = j ∙ rw i in
-            opened-append (header-opened classed (onward 0 u c) q b k) (header-opened classed c p b i)
-
-        go : (r : Read ℕ) → number Ports c ≡ r → number Ports (onward 0 u c) ≡ onward_read 0 u (number Ports c)
-            → header_from classed (onward 0 u c) ≡ behind_header u (header_from classed c)
-        go (bad_at l) p q =
-            let z : 0 + l ≡ l = omega arith in
-            refused-append
-            (header-bad-ports classed (onward 0 u c) (q ∙ rw p) ∙ ap (refused_at BadLine) z)
-            (header-bad-ports classed c p)
-        go (got n e) p q =
-            let l : length c.text ≤ length e.text + 17 = (steady-number Ports).takes c p in
-            first n e p (q ∙ rw p) (ports_in_range n) refl (number First e) refl
-            ((steady-number First).onwards 0 u e (inl (omega arith)))
-
-module _ (t u : List ℕ) (h : enough ≤ length t) where
   pub header-append : header (t ++ u) ≡ behind_header u (header t)
   unfolding onward_read key_text key_name ascii
   header-append =
-      go (exactly Form classed_form (from 1 t)) refl
-      ((steady-exactly Form classed_form).onwards 0 u (from 1 t) (inl (omega arith)))
+      go (number Ports (from 1 t)) refl ((steady-number Ports).onwards 0 u (from 1 t) (inl (omega arith)))
     where
-      go : (r : Read ℕ) → exactly Form classed_form (from 1 t) ≡ r
-          → exactly Form classed_form (from 1 (t ++ u)) ≡ onward_read 0 u (exactly Form classed_form (from 1 t))
+      first : (n : ℕ) (c : Cursor) → number Ports (from 1 t) ≡ got n c
+          → number Ports (from 1 (t ++ u)) ≡ got n (onward 0 u c) → (b : Bool) → ports_in_range n ≡ b
+          → (r : Read ℕ) → number First c ≡ r → number First (onward 0 u c) ≡ onward_read 0 u (number First c)
           → header (t ++ u) ≡ behind_header u (header t)
-      go (got n c) p q =
-          let l : length t ≤ length c.text + 16 = (steady-exactly Form classed_form).takes (from 1 t) p in
-          let k : exactly Form classed_form (from 1 (t ++ u)) ≡ got n (onward 0 u c) = q ∙ rw p in
-          header-classed (t ++ u) k
-          ∙ ports-append u true c (omega arith)
-          ∙ ap (behind_header u) (sym (header-classed t p))
+      first n c p q false b r i j = refused-append (header-bad-size (t ++ u) q b) (header-bad-size t p b)
+      first n c p q true b (bad_at l) i j =
+          let z : 0 + l ≡ l = omega arith in
+          refused-append
+          (header-bad-first (t ++ u) q b (j ∙ rw i) ∙ ap (refused_at BadLine) z)
+          (header-bad-first t p b i)
+      first n c p q true b (got m d) i j =
+          let k : number First (onward 0 u c) ≡ got m (onward 0 u d) = j ∙ rw i in
+          opened-append (header-opened (t ++ u) q b k) (header-opened t p b i)
+
+      go : (r : Read ℕ) → number Ports (from 1 t) ≡ r
+          → number Ports (from 1 (t ++ u)) ≡ onward_read 0 u (number Ports (from 1 t))
+          → header (t ++ u) ≡ behind_header u (header t)
       go (bad_at l) p q =
-          let k : exactly Form classed_form (from 1 (t ++ u)) ≡ bad_at (0 + l) = q ∙ rw p in
-          header-plain (t ++ u) k
-          ∙ ports-append u false (from 1 t) (omega arith)
-          ∙ ap (behind_header u) (sym (header-plain t p))
+          let z : 0 + l ≡ l = omega arith in
+          refused-append
+          (header-bad-ports (t ++ u) (q ∙ rw p) ∙ ap (refused_at BadLine) z)
+          (header-bad-ports t p)
+      go (got n c) p q =
+          let l : length t ≤ length c.text + 17 = (steady-number Ports).takes (from 1 t) p in
+          first n c p (q ∙ rw p) (ports_in_range n) refl (number First c) refl
+          ((steady-number First).onwards 0 u c (inl (omega arith)))
 
 -- the answer for a piece is that for the whole text
 
@@ -641,17 +597,17 @@ decided-append last t u h =
     let l : enough ≤ length (t ++ u) = omega (arith, length-append t u) in
     or_r last (leb enough (length (t ++ u))) (le-leb enough (length (t ++ u)) l)
 
-pub cut-anywhere : (last classed : Bool) (clock : ℕ) (t u : List ℕ) {n : Next} → next_in false classed clock t ≡ known n
-    → next_in last classed clock (t ++ u) ≡ known (behind u n)
-cut-anywhere last classed clock t u {n} h = go (decided false t) refl
+pub cut-anywhere : (last : Bool) (clock : ℕ) (t u : List ℕ) {n : Next} → next_in false clock t ≡ known n
+    → next_in last clock (t ++ u) ≡ known (behind u n)
+cut-anywhere last clock t u {n} h = go (decided false t) refl
   where
-    go : (b : Bool) → decided false t ≡ b → next_in last classed clock (t ++ u) ≡ known (behind u n)
+    go : (b : Bool) → decided false t ≡ b → next_in last clock (t ++ u) ≡ known (behind u n)
     go true b =
         let l : enough ≤ length t = decided-enough t b in
-        let e : next classed clock (from 0 t) ≡ n = cc (next_in-known false t classed clock b) in
-        next_in-known last (t ++ u) classed clock (decided-append last t u l)
-        ∙ ap known (next-append classed clock 0 t l u ∙ ap (behind u) e)
-    go false b = cc (next_in-more false t classed clock b)
+        let e : next clock (from 0 t) ≡ n = cc (next_in-known false t clock b) in
+        next_in-known last (t ++ u) clock (decided-append last t u l)
+        ∙ ap known (next-append clock 0 t l u ∙ ap (behind u) e)
+    go false b = cc (next_in-more false t clock b)
 
 pub cut-header : (last : Bool) (t u : List ℕ) {x : Header} → header_in false t ≡ known x
     → header_in last (t ++ u) ≡ known (behind_header u x)

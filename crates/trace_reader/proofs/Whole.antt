@@ -25,20 +25,18 @@ use Rattle.trace.specs.declared.Answer.{Answer}
 use Rattle.trace.specs.declared.Answer.TheVariants.{Slot, End, Bad}
 use Rattle.trace_reader.specs.declared.Verdict.TheVariants.{Accepted, Refused}
 use Rattle.trace.specs.Line.{line, read_line}
-use Rattle.trace.specs.Contents.{block_limit, block_lines, arrivals_text}
+use Rattle.trace.specs.Contents.{block_limit, arrivals_text}
 use Rattle.trace.specs.Reader.{from, Cursor, Read, got, bad_at, number, exactly, begins, arrivals, block}
 use Rattle.trace.specs.Reader.{Next, slot_ahead, finished, faulty, next, with_slot, blocks}
 use Rattle.trace.specs.Reader.{opened, refused_at, header, read}
 use Rattle.trace.specs.Piece.{decided, next_in, answer_of}
-use Rattle.trace_reader.specs.Reading.{slots_line, verdict_of}
+use Rattle.trace_reader.specs.Reading.{verdict_of}
 use Rattle.trace.proofs.Tests.{fits32-e}
 use Rattle.trace.proofs.Line.{length-line}
 use Rattle.trace.proofs.Blocks.{bind-bad, number-some, number-none, number-exact, exactly-other, exactly-bad}
 use Rattle.trace.proofs.Blocks.{next-no-block, next-no-last, next-exact}
 use Rattle.trace.proofs.RoundTrip.{blocks_end, blocks-slot, blocks-fault, read-refused, read-bad, read-accepted}
-use Rattle.trace_reader.proofs.Arrivals.{record_lines-mul}
 use Rattle.trace_reader.proofs.Pieces.{next-slot-later, next-finished-later, next-faulty-later, next-line}
-use Rattle.trace_reader.proofs.Answers.{slots_line-range}
 use Rattle.trace_reader.proofs.Answered.{Ahead, answer-slot-e, answer-end-e, answer-bad-e}
 use Rattle.trace_line_reader.proofs.Lines.{rest, rest-drop, length_rest}
 use Rattle.trace_reader.specs.Code.{ended, ended_of}
@@ -74,27 +72,27 @@ exactly-nil k clock c h = go (number k c) refl
         absurd (omega (arith, length-line k n, ap length h))
     go (bad_at l) p = exactly-bad k clock c p ∙ ap bad_at (number-fault k c p)
 
-next-fault : (classed : Bool) (clock : ℕ) (c : Cursor) → ((k : Key) → exactly k clock c ≡ bad_at c.line) → next classed clock c ≡ faulty c.line
+next-fault : (clock : ℕ) (c : Cursor) → ((k : Key) → exactly k clock c ≡ bad_at c.line) → next clock c ≡ faulty c.line
 unfolding block
-next-fault classed clock c h = go (begins EndKey c) refl
+next-fault clock c h = go (begins EndKey c) refl
   where
-    go : (b : Bool) → begins EndKey c ≡ b → next classed clock c ≡ faulty c.line
-    go true b = next-no-last classed clock c b (h EndKey)
+    go : (b : Bool) → begins EndKey c ≡ b → next clock c ≡ faulty c.line
+    go true b = next-no-last clock c b (h EndKey)
     go false b =
-        next-no-block classed clock c b (bind-bad (exactly SlotKey clock) (λ _. arrivals classed block_limit) c (h SlotKey))
+        next-no-block clock c b (bind-bad (exactly SlotKey clock) (λ _. arrivals block_limit) c (h SlotKey))
 
-next_past : (classed : Bool) (clock : ℕ) (c : Cursor) → clock_end < clock → next classed clock c ≡ faulty c.line
-next_past classed clock c h = next-fault classed clock c λ k. exactly-past k clock c h
+next_past : (clock : ℕ) (c : Cursor) → clock_end < clock → next clock c ≡ faulty c.line
+next_past clock c h = next-fault clock c λ k. exactly-past k clock c h
 
-pub next-nil : (classed : Bool) (clock : ℕ) (c : Cursor) → c.text ≡ [] → next classed clock c ≡ faulty c.line
-next-nil classed clock c h = next-fault classed clock c λ k. exactly-nil k clock c h
+pub next-nil : (clock : ℕ) (c : Cursor) → c.text ≡ [] → next clock c ≡ faulty c.line
+next-nil clock c h = next-fault clock c λ k. exactly-nil k clock c h
 
 -- a block takes some bytes
-pub next-shorter : (classed : Bool) (clock : ℕ) (c : Cursor) {rs : List Arrival} {d : Cursor} → next classed clock c ≡ slot_ahead rs d
+pub next-shorter : (clock : ℕ) (c : Cursor) {rs : List Arrival} {d : Cursor} → next clock c ≡ slot_ahead rs d
     → length d.text < length c.text
-next-shorter classed clock c {rs} {d} h =
-    let (e, f) = rw h at (next-exact classed clock c) in
-    let l : length c.text ≡ length (line SlotKey clock) + (length (arrivals_text classed rs) + length d.text) =
+next-shorter clock c {rs} {d} h =
+    let (e, f) = rw h at (next-exact clock c) in
+    let l : length c.text ≡ length (line SlotKey clock) + (length (arrivals_text rs) + length d.text) =
     ap length e ∙ simp length-append in
     omega (arith, length-line SlotKey clock)
 
@@ -104,65 +102,65 @@ pub nil-text : (t : List ℕ) → length t ≤ 0 → t ≡ []
 nil-text [] h = refl
 nil-text (b ∷ t) h = absurd (omega arith)
 
-blocks-any-fault : (classed : Bool) (most clock : ℕ) (c : Cursor) {l : ℕ} → length c.text ≤ most → next classed clock c ≡ faulty l
-    → blocks classed most clock c ≡ bad_at l
+blocks-any-fault : (most clock : ℕ) (c : Cursor) {l : ℕ} → length c.text ≤ most → next clock c ≡ faulty l
+    → blocks most clock c ≡ bad_at l
 unfolding blocks
-blocks-any-fault classed zero clock c {l} h e =
-    let f : c.line ≡ l = cc (next-nil classed clock c (nil-text c.text h)) in
+blocks-any-fault zero clock c {l} h e =
+    let f : c.line ≡ l = cc (next-nil clock c (nil-text c.text h)) in
     ap bad_at f
-blocks-any-fault classed (suc most) clock c h e = blocks-fault classed most clock c e
+blocks-any-fault (suc most) clock c h e = blocks-fault most clock c e
 
-blocks-nil : (classed : Bool) (most few clock : ℕ) (c : Cursor) → length c.text ≤ 0 → blocks classed most clock c ≡ blocks classed few clock c
-blocks-nil classed most few clock c h =
-    let e : next classed clock c ≡ faulty c.line = next-nil classed clock c (nil-text c.text h) in
+blocks-nil : (most few clock : ℕ) (c : Cursor) → length c.text ≤ 0 → blocks most clock c ≡ blocks few clock c
+blocks-nil most few clock c h =
+    let e : next clock c ≡ faulty c.line = next-nil clock c (nil-text c.text h) in
     let m : length c.text ≤ most = omega arith in
     let f : length c.text ≤ few = omega arith in
-    blocks-any-fault classed most clock c m e ∙ sym (blocks-any-fault classed few clock c f e)
+    blocks-any-fault most clock c m e ∙ sym (blocks-any-fault few clock c f e)
 
-blocks-fuel : (classed : Bool) (most few clock : ℕ) (c : Cursor) → length c.text ≤ most → length c.text ≤ few
-    → blocks classed most clock c ≡ blocks classed few clock c
-blocks-fuel classed zero few clock c h k = blocks-nil classed zero few clock c h
-blocks-fuel classed (suc most) zero clock c h k = blocks-nil classed (suc most) zero clock c k
-blocks-fuel classed (suc most) (suc few) clock c h k = go (next classed clock c) refl (blocks-fuel classed most few (clock + 1))
+blocks-fuel : (most few clock : ℕ) (c : Cursor) → length c.text ≤ most → length c.text ≤ few
+    → blocks most clock c ≡ blocks few clock c
+blocks-fuel zero few clock c h k = blocks-nil zero few clock c h
+blocks-fuel (suc most) zero clock c h k = blocks-nil (suc most) zero clock c k
+blocks-fuel (suc most) (suc few) clock c h k = go (next clock c) refl (blocks-fuel most few (clock + 1))
   where
-    go : (n : Next) → next classed clock c ≡ n
+    go : (n : Next) → next clock c ≡ n
         → ((d : Cursor) → length d.text ≤ most → length d.text ≤ few
-        → blocks classed most (clock + 1) d ≡ blocks classed few (clock + 1) d)
-        → blocks classed (suc most) clock c ≡ blocks classed (suc few) clock c
+        → blocks most (clock + 1) d ≡ blocks few (clock + 1) d)
+        → blocks (suc most) clock c ≡ blocks (suc few) clock c
     go (slot_ahead rs d) e same =
-        let l : length d.text < length c.text = next-shorter classed clock c e in
-        blocks-slot classed most clock c e
+        let l : length d.text < length c.text = next-shorter clock c e in
+        blocks-slot most clock c e
         ∙ ap (with_slot rs) (same d (omega arith) (omega arith))
-        ∙ sym (blocks-slot classed few clock c e)
-    go finished e same = blocks_end classed most clock c e ∙ sym (blocks_end classed few clock c e)
-    go (faulty l) e same = blocks-fault classed most clock c e ∙ sym (blocks-fault classed few clock c e)
+        ∙ sym (blocks-slot few clock c e)
+    go finished e same = blocks_end most clock c e ∙ sym (blocks_end few clock c e)
+    go (faulty l) e same = blocks-fault most clock c e ∙ sym (blocks-fault few clock c e)
 
 -- the blocks of a text that is left, by the first of them
 
-pub blocks_of : Bool → ℕ → Cursor → Read (List (List Arrival))
-blocks_of classed clock c = blocks classed (length c.text) clock c
+pub blocks_of : ℕ → Cursor → Read (List (List Arrival))
+blocks_of clock c = blocks (length c.text) clock c
 
-module _ (classed : Bool) (clock : ℕ) (c : Cursor) where
-  blocks_of-slot : {rs : List Arrival} {d : Cursor} → next classed clock c ≡ slot_ahead rs d
-      → blocks_of classed clock c ≡ with_slot rs (blocks_of classed (clock + 1) d)
+module _ (clock : ℕ) (c : Cursor) where
+  blocks_of-slot : {rs : List Arrival} {d : Cursor} → next clock c ≡ slot_ahead rs d
+      → blocks_of clock c ≡ with_slot rs (blocks_of (clock + 1) d)
   unfolding blocks_of
   blocks_of-slot {rs} {d} e =
-      let l : length d.text < length c.text = next-shorter classed clock c e in
+      let l : length d.text < length c.text = next-shorter clock c e in
       let m : length c.text ≡ suc (length c.text - 1) = omega arith in
-      ap (λ k. blocks classed k clock c) m
-      ∙ blocks-slot classed (length c.text - 1) clock c e
-      ∙ ap (with_slot rs) (blocks-fuel classed (length c.text - 1) (length d.text) (clock + 1) d (omega arith) (omega arith))
+      ap (λ k. blocks k clock c) m
+      ∙ blocks-slot (length c.text - 1) clock c e
+      ∙ ap (with_slot rs) (blocks-fuel (length c.text - 1) (length d.text) (clock + 1) d (omega arith) (omega arith))
 
-  blocks_of-end : next classed clock c ≡ finished → blocks_of classed clock c ≡ got [] c
+  blocks_of-end : next clock c ≡ finished → blocks_of clock c ≡ got [] c
   unfolding blocks_of
   blocks_of-end e =
-      let (f, g) = rw e at (next-exact classed clock c) in
+      let (f, g) = rw e at (next-exact clock c) in
       let m : length c.text ≡ suc (length c.text - 1) = omega (arith, ap length f, length-line EndKey clock) in
-      ap (λ k. blocks classed k clock c) m ∙ blocks_end classed (length c.text - 1) clock c e
+      ap (λ k. blocks k clock c) m ∙ blocks_end (length c.text - 1) clock c e
 
-  blocks_of-fault : {l : ℕ} → next classed clock c ≡ faulty l → blocks_of classed clock c ≡ bad_at l
+  blocks_of-fault : {l : ℕ} → next clock c ≡ faulty l → blocks_of clock c ≡ bad_at l
   unfolding blocks_of
-  blocks_of-fault e = blocks-any-fault classed (length c.text) clock c (omega arith) e
+  blocks_of-fault e = blocks-any-fault (length c.text) clock c (omega arith) e
 
 ended-slot : (n : ℕ) (rs : List Arrival) (r : Read (List (List Arrival))) → ended n (with_slot rs r) ≡ ended (n + 1) r
 unfolding ended with_slot
@@ -174,63 +172,61 @@ ended-slot n rs (bad_at l) = refl
 -- the walk
 
 -- the blocks before this clock and this line are read, and `left` is left of the text
-pub record Verified (classed : Bool) (t : List ℕ) (first : ℕ) (left : List ℕ) (clock line : ℕ) : Type 0 where
+pub record Verified (t : List ℕ) (first : ℕ) (left : List ℕ) (clock line : ℕ) : Type 0 where
   pub begun : first ≤ clock
   pub fits : clock ≤ clock_end
-  pub lines : line ≤ 4 + block_lines * (clock - first)
-  pub same : ended_of classed first t ≡ ended (clock - first) (blocks_of classed clock (from line left))
+  pub lines : line ≤ 3 + 81 * (clock - first)
+  pub same : ended_of first t ≡ ended (clock - first) (blocks_of clock (from line left))
 
-pub verified-start : (classed : Bool) (t : List ℕ) (first : ℕ) → first ≤ clock_end
-    → {line : ℕ} → line ≡ slots_line classed → Verified classed t first t first line
+pub verified-start : (t : List ℕ) (first : ℕ) → first ≤ clock_end → Verified t first t first 3
 unfolding ended_of blocks_of
-verified-start classed t first h {line} l = record {
+verified-start t first h = record {
   begun = omega arith;
   fits = h;
-  lines = omega (arith, slots_line-range classed);
+  lines = omega arith;
   same =
       let z : 0 ≡ first - first = omega arith in
-      ap (λ n. ended n (blocks classed (length t) first (from (slots_line classed) t))) z
-      ∙ ap (λ k. ended (first - first) (blocks classed (length t) first (from k t))) (sym l);
+      ap (λ n. ended n (blocks (length t) first (from 3 t))) z;
 }
 
-module _ {classed : Bool} {t : List ℕ} {first : ℕ} {left : List ℕ} {clock line : ℕ} (v : Verified classed t first left clock line) where
-  verified-fault : {l : ℕ} → next classed clock (from line left) ≡ faulty l → Refused BadLine l ≡ ended_of classed first t
+module _ {t : List ℕ} {first : ℕ} {left : List ℕ} {clock line : ℕ} (v : Verified t first left clock line) where
+  verified-fault : {l : ℕ} → next clock (from line left) ≡ faulty l → Refused BadLine l ≡ ended_of first t
   unfolding ended
-  verified-fault p = sym (v.same ∙ ap (ended (clock - first)) (blocks_of-fault classed clock (from line left) p))
+  verified-fault p = sym (v.same ∙ ap (ended (clock - first)) (blocks_of-fault clock (from line left) p))
 
   -- no line is left
-  pub verified-missing : length left ≤ 0 → Refused BadLine line ≡ ended_of classed first t
-  verified-missing h = verified-fault (next-nil classed clock (from line left) (nil-text left h))
+  pub verified-missing : length left ≤ 0 → Refused BadLine line ≡ ended_of first t
+  verified-missing h = verified-fault (next-nil clock (from line left) (nil-text left h))
 
-module _ {classed : Bool} {t : List ℕ} {first : ℕ} {left : List ℕ} {clock line : ℕ} (v : Verified classed t first left clock line)
-    {b : Answer} (e : b ≡ answer_of left (next_in true classed clock left)) where
+module _ {t : List ℕ} {first : ℕ} {left : List ℕ} {clock line : ℕ} (v : Verified t first left clock line)
+    {b : Answer} (e : b ≡ answer_of left (next_in true clock left)) where
   module _ {n i l : ℕ} (h : b ≡ Slot n i l) where
-    here : Ahead classed clock left n i l
-    here = answer-slot-e true classed clock left e h
+    here : Ahead clock left n i l
+    here = answer-slot-e true clock left e h
 
-    there : next classed clock (from line left) ≡ slot_ahead here.rs (from (line + l) (drop i left))
-    there = next-slot-later classed clock line left here.there
+    there : next clock (from line left) ≡ slot_ahead here.rs (from (line + l) (drop i left))
+    there = next-slot-later clock line left here.there
 
     pub verified-within : i ≤ length left
     verified-within = here.within
 
-    pub verified-lines : l ≤ block_lines
+    pub verified-lines : l ≤ 81
     verified-lines =
-        let (x, y) = next-line classed clock (from 0 left) here.there in
-        omega (arith, record_lines-mul classed (length here.rs))
+        let (x, y) = next-line clock (from 0 left) here.there in
+        omega arith
 
     pub verified-less : length (rest left i) < length left
     verified-less =
-        omega (arith, length_rest left i, length-drop i left, next-shorter classed clock (from 0 left) here.there)
+        omega (arith, length_rest left i, length-drop i left, next-shorter clock (from 0 left) here.there)
 
-    slot_same : ended_of classed first t ≡ ended (clock - first + 1) (blocks_of classed (clock + 1) (from (line + l) (drop i left)))
+    slot_same : ended_of first t ≡ ended (clock - first + 1) (blocks_of (clock + 1) (from (line + l) (drop i left)))
     slot_same =
         v.same
-        ∙ ap (ended (clock - first)) (blocks_of-slot classed clock (from line left) there)
-        ∙ ended-slot (clock - first) here.rs (blocks_of classed (clock + 1) (from (line + l) (drop i left)))
+        ∙ ap (ended (clock - first)) (blocks_of-slot clock (from line left) there)
+        ∙ ended-slot (clock - first) here.rs (blocks_of (clock + 1) (from (line + l) (drop i left)))
 
     -- one block further
-    pub verified-more : clock ≢ clock_end → Verified classed t first (rest left i) (clock + 1) (line + l)
+    pub verified-more : clock ≢ clock_end → Verified t first (rest left i) (clock + 1) (line + l)
     verified-more c =
         let z : clock - first + 1 ≡ clock + 1 - first = omega (arith, v.begun) in
         record {
@@ -238,45 +234,44 @@ module _ {classed : Bool} {t : List ℕ} {first : ℕ} {left : List ℕ} {clock 
           fits = omega (arith, v.fits);
           lines = omega (arith, v.begun, v.lines, verified-lines);
           same = slot_same
-              ∙ ap (λ k. ended k (blocks_of classed (clock + 1) (from (line + l) (drop i left)))) z
-              ∙ ap (λ u. ended (clock + 1 - first) (blocks_of classed (clock + 1) (from (line + l) u))) (sym (rest-drop left i));
+              ∙ ap (λ k. ended k (blocks_of (clock + 1) (from (line + l) (drop i left)))) z
+              ∙ ap (λ u. ended (clock + 1 - first) (blocks_of (clock + 1) (from (line + l) u))) (sym (rest-drop left i));
         }
 
     -- no block can follow slot 4,294,967,295
-    pub verified-clock-end : clock ≡ clock_end → Refused BadLine (line + l) ≡ ended_of classed first t
+    pub verified-clock-end : clock ≡ clock_end → Refused BadLine (line + l) ≡ ended_of first t
     unfolding ended
     verified-clock-end c =
         let d : Cursor = from (line + l) (drop i left) in
-        let f : blocks_of classed (clock + 1) d ≡ bad_at (line + l) = blocks_of-fault classed (clock + 1) d (next_past classed (clock + 1) d (omega arith)) in
+        let f : blocks_of (clock + 1) d ≡ bad_at (line + l) = blocks_of-fault (clock + 1) d (next_past (clock + 1) d (omega arith)) in
         sym (slot_same ∙ ap (ended (clock - first + 1)) f)
 
-  pub verified-end : b ≡ End → Accepted (clock - first) ≡ ended_of classed first t
+  pub verified-end : b ≡ End → Accepted (clock - first) ≡ ended_of first t
   unfolding ended
   verified-end h =
-      let p : next classed clock (from line left) ≡ finished = next-finished-later classed clock line left (answer-end-e true classed clock left e h) in
+      let p : next clock (from line left) ≡ finished = next-finished-later clock line left (answer-end-e true clock left e h) in
       let z : clock - first + 0 ≡ clock - first = omega arith in
-      sym (v.same ∙ ap (ended (clock - first)) (blocks_of-end classed clock (from line left) p) ∙ ap Accepted z)
+      sym (v.same ∙ ap (ended (clock - first)) (blocks_of-end clock (from line left) p) ∙ ap Accepted z)
 
-  pub verified-bad : {k : ℕ} → b ≡ Bad k → Refused BadLine (line + k) ≡ ended_of classed first t
-  verified-bad h = verified-fault v (next-faulty-later classed clock line left (answer-bad-e true classed clock left e h))
+  pub verified-bad : {k : ℕ} → b ≡ Bad k → Refused BadLine (line + k) ≡ ended_of first t
+  verified-bad h = verified-fault v (next-faulty-later clock line left (answer-bad-e true clock left e h))
 
 -- the whole text, by its header
 
-verdict-opened : (t : List ℕ) {classed : Bool} {n first : ℕ} {c : Cursor} → header t ≡ opened classed n first c
-    → (r : Read (List (List Arrival))) → blocks classed (length c.text) first c ≡ r → ended 0 r ≡ verdict_of (read t)
+verdict-opened : (t : List ℕ) {n first : ℕ} {c : Cursor} → header t ≡ opened n first c
+    → (r : Read (List (List Arrival))) → blocks (length c.text) first c ≡ r → ended 0 r ≡ verdict_of (read t)
 unfolding ended verdict_of
 verdict-opened t h (got slots d) q =
     let z : 0 + length slots ≡ length slots = omega arith in
     ap Accepted z ∙ sym (ap verdict_of (read-accepted t h q))
 verdict-opened t h (bad_at l) q = sym (ap verdict_of (read-bad t h q))
 
-pub verdict-blocks : (t : List ℕ) {classed : Bool} {n first : ℕ} (i : ℕ)
-    → header t ≡ opened classed n first (from (slots_line classed) (drop i t))
-    → ended_of classed first (rest t i) ≡ verdict_of (read t)
+pub verdict-blocks : (t : List ℕ) {n first : ℕ} (i : ℕ) → header t ≡ opened n first (from 3 (drop i t))
+    → ended_of first (rest t i) ≡ verdict_of (read t)
 unfolding ended_of
-verdict-blocks t {classed} {n} {first} i h =
-    ap (λ x. ended 0 (blocks classed (length x) first (from (slots_line classed) x))) (rest-drop t i)
-    ∙ verdict-opened t h (blocks classed (length (drop i t)) first (from (slots_line classed) (drop i t))) refl
+verdict-blocks t {n} {first} i h =
+    ap (λ x. ended 0 (blocks (length x) first (from 3 x))) (rest-drop t i)
+    ∙ verdict-opened t h (blocks (length (drop i t)) first (from 3 (drop i t))) refl
 
 pub verdict-refused : (t : List ℕ) {r : Refusal} {l : ℕ} → header t ≡ refused_at r l → Refused r l ≡ verdict_of (read t)
 unfolding verdict_of

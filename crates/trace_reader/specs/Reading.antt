@@ -1,8 +1,7 @@
 -- What the functions of the reader answer, by what the definitions read:
 --     verdict_of o     a whole text
---     slots_line       the line after the header
 --     numbers_after    the numbers lent to the block reader
-use Rattle.std.specs.Prelude.{ℕ, zero, suc, Bool, true, false, List, [], ◌∷◌, length}
+use Rattle.std.specs.Prelude.{ℕ, zero, suc, true, false, List, [], ◌∷◌, length}
 use Rattle.std.proofs.lemmas.List.Edits.{sets}
 use Rattle.cell.specs.declared.Arrival.{Arrival}
 use Rattle.trace.specs.declared.Key.TheVariants.{Slot, In, End}
@@ -17,30 +16,25 @@ unfoldable pub verdict_of : Outcome → Verdict
 verdict_of (accepted c) = Accepted (length c.slots)
 verdict_of (refused r l) = Refused r l
 
--- the header has two lines, in the second form three
-unfoldable pub slots_line : Bool → ℕ
-slots_line true = 4
-slots_line false = 3
-
 -- the numbers of some arrivals in place of the first of others
 abbrev pub stored : List Arrival → List ℕ → List ℕ
 stored rs ns = sets ns 0 (numbers_of rs)
 
 -- the arrivals that are whole before the first bad line, at most `most` of them
-unfoldable pub whole_arrivals : Bool → ℕ → Cursor → List Arrival
-whole_arrivals classed zero c = []
-whole_arrivals classed (suc most) c =
+unfoldable pub whole_arrivals : ℕ → Cursor → List Arrival
+whole_arrivals zero c = []
+whole_arrivals (suc most) c =
     elim (begins In c) [
       | false ↦ []
-      | true ↦ elim (arrival classed c) [ got a d ↦ a ∷ whole_arrivals classed most d | bad_at l ↦ [] ]
+      | true ↦ elim (arrival c) [ got a d ↦ a ∷ whole_arrivals most d | bad_at l ↦ [] ]
     ]
 
 -- those of a block with the clock's number; the line of `end` has none
-unfoldable pub whole_of : Bool → ℕ → Cursor → List Arrival
-whole_of classed clock c =
+unfoldable pub whole_of : ℕ → Cursor → List Arrival
+whole_of clock c =
     elim (begins End c) [
       | true ↦ []
-      | false ↦ elim (exactly Slot clock c) [ got n d ↦ whole_arrivals classed block_limit d | bad_at l ↦ [] ]
+      | false ↦ elim (exactly Slot clock c) [ got n d ↦ whole_arrivals block_limit d | bad_at l ↦ [] ]
     ]
 
 -- the numbers that the block reader was lent: those of the block's arrivals come first, or those of the arrivals that

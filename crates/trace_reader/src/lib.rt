@@ -1,17 +1,18 @@
 // Scope 7: the reader, a function for each rule of the grammar above a line, which stands over it. A text is lent and
 // only read; what was read is handed on with its length, and the next reader gets the slice from there.
 // No public function has a `requires`.
-ghost use Rattle.std.specs.Prelude.{Bool, true, false, [], ◌∷◌, ◌≡◌, ◌+◌, ◌*◌, ◌≤◌, ◌<◌, length, drop};
+#![tactic(auto)]
+ghost use Rattle.std.specs.Prelude.{true, false, [], ◌∷◌, ◌≡◌, ◌*◌, ◌≤◌, ◌<◌, length, drop};
 ghost use Rattle.std.proofs.lemmas.List.Edits.{sets};
 ghost use Rattle.trace.specs.declared.Key.TheVariants.{End};
-ghost use Rattle.trace.specs.Contents.{block_limit, block_lines, arrival_numbers, record_lines};
-ghost use Rattle.trace.specs.Reader.{from, arrival, arrivals, begins, next, header_from, read};
+ghost use Rattle.trace.specs.Contents.{block_limit, block_lines};
+ghost use Rattle.trace.specs.Reader.{from, arrival, arrivals, begins, next, read};
 ghost use Rattle.trace.specs.Piece.{known, decided, next_in, header_in, numbers_of, answer_of, opening_of};
-ghost use Rattle.trace_reader.specs.Reading.{whole_arrivals, whole_of, numbers_after, slots_line, verdict_of};
-ghost use Rattle.trace_reader.specs.Code.{ports_line, came_of, ahead, ended_of};
+ghost use Rattle.trace_reader.specs.Reading.{whole_arrivals, whole_of, numbers_after, verdict_of};
+ghost use Rattle.trace_reader.specs.Code.{came_of, ahead, ended_of};
 
 use cell::{Arrival, Refusal, Switch};
-use trace::{Answer, BLOCK_LIMIT, CLASSED_FORM, FIELDS, Key, NUMBERS, Opening};
+use trace::{Answer, BLOCK_LIMIT, BLOCK_LINES, FIELDS, Key, NUMBERS, Opening};
 use trace_line_reader::{Line, begins, read_line};
 
 // The arrivals of a block, as an index.
@@ -41,51 +42,38 @@ pub fn verify(text: &[u8]) -> Verdict
 {
     let opening = read_header(text, true);
     match opening {
-        Opening::Open(classed, _, first, used) => verify_blocks(&text[used..], classed, first),
+        Opening::Open(_, first, used) => verify_blocks(&text[used..], first),
         Opening::Refused(refusal, line) => Verdict::Refused(refusal, line as usize),
         // never: all of the text is there
         Opening::Short => Verdict::Refused(Refusal::BadLine, 1),
     }
 }
 
-// header = [ form-line ] ports-line first-line
+// header = ports-line first-line
 pub fn read_header(text: &[u8], last: bool) -> Opening
     ensures { result ≡ opening_of text.now (header_in last text.now) }
 {
     if !decided(text, last) {
         return Opening::Short;
     }
-    let Line::Number(form, used) = read_line(text, Key::Form) else {
-        return read_ports(text, false, 0);
+    let Line::Number(ports, used) = read_line(text, Key::Ports) else {
+        return Opening::Refused(Refusal::BadLine, 1);
     };
-    if form != CLASSED_FORM {
-        return read_ports(text, false, 0);
+    if !Switch::ports_in_range(ports) {
+        return Opening::Refused(Refusal::BadSize, 1);
     }
-    read_ports(text, true, used)
-}
-
-// The number of the line after the header, counted from 1.
-pub fn slots_line(classed: bool) -> u32
-    ensures { result ≡ slots_line classed }
-{
-    if classed {
-        return 4;
-    }
-    3
+    let Line::Number(first, more) = read_line(&text[used..], Key::First) else {
+        return Opening::Refused(Refusal::BadLine, 2);
+    };
+    Opening::Open(ports, first, used + more)
 }
 
 // next = block | end. The numbers of the block's arrivals, of a bad block those that are whole before the fault, come
 // first among the lent ones; the others are kept.
-pub fn read_block(
-    text: &[u8],
-    classed: bool,
-    clock: u32,
-    last: bool,
-    numbers: &mut [u32; NUMBERS],
-) -> Answer
-    ensures value { result ≡ answer_of text.now (next_in last classed clock text.now) }
-    ensures numbers_after { numbers.new ≡ numbers_after (whole_of classed clock (from 0 text.now))
-        (next_in last classed clock text.now) numbers.old }
+pub fn read_block(text: &[u8], clock: u32, last: bool, numbers: &mut [u32; NUMBERS]) -> Answer
+    ensures value { result ≡ answer_of text.now (next_in last clock text.now) }
+    ensures numbers_after { numbers.new ≡ numbers_after (whole_of clock (from 0 text.now))
+        (next_in last clock text.now) numbers.old }
 {
     if !decided(text, last) {
         return Answer::More;
@@ -93,20 +81,20 @@ pub fn read_block(
     if begins(text, Key::End) {
         return read_end(text, clock);
     }
-    read_slot(text, classed, clock, numbers)
+    read_slot(text, clock, numbers)
 }
 
-// { block } end; no line has the number after 4,294,967,295
-fn verify_blocks(text: &[u8], classed: bool, first: u32) -> Verdict
-    ensures { result ≡ ended_of classed first text.now }
+// { block } end, from line 3 on; no line has the number after 4,294,967,295
+fn verify_blocks(text: &[u8], first: u32) -> Verdict
+    ensures { result ≡ ended_of first text.now }
 {
     let mut numbers = [0u32; NUMBERS];
     let mut rest = text;
     let mut clock = first;
-    let mut line = slots_line(classed) as usize;
+    let mut line: usize = 3;
     // with this test the compiler sees one call of read_block, and puts it in line
     while 0 < rest.len() {
-        match read_block(rest, classed, clock, true, &mut numbers) {
+        match read_block(rest, clock, true, &mut numbers) {
             Answer::Slot(_, used, lines) => {
                 line += lines as usize;
                 if clock == Switch::CLOCK_END {
@@ -141,31 +129,10 @@ fn decided(text: &[u8], last: bool) -> bool
     2048 <= text.len()
 }
 
-// ports-line first-line, from a place of the text on
-fn read_ports(text: &[u8], classed: bool, start: usize) -> Opening
-    requires { start ≤ length text.now }
-    ensures { result ≡ opening_of text.now
-        (known (header_from classed (from (ports_line classed) (drop start text.now)))) }
-{
-    let line = slots_line(classed) - 2;
-    let rest = &text[start..];
-    let Line::Number(ports, a) = read_line(rest, Key::Ports) else {
-        return Opening::Refused(Refusal::BadLine, line);
-    };
-    if !Switch::ports_in_range(ports) {
-        return Opening::Refused(Refusal::BadSize, line);
-    }
-    let Line::Number(first, b) = read_line(&rest[a..], Key::First) else {
-        return Opening::Refused(Refusal::BadLine, line + 1);
-    };
-    Opening::Open(classed, ports, first, start + a + b)
-}
-
 // end = end-line, with the clock's number and nothing after it
 fn read_end(text: &[u8], clock: u32) -> Answer
     requires { begins End (from 0 text.now) ≡ true }
-    ensures { (classed : Bool)
-        → result ≡ answer_of text.now (known (next classed clock (from 0 text.now))) }
+    ensures { result ≡ answer_of text.now (known (next clock (from 0 text.now))) }
 {
     let Line::Number(number, used) = read_line(text, Key::End) else {
         return Answer::Bad(0);
@@ -180,11 +147,11 @@ fn read_end(text: &[u8], clock: u32) -> Answer
 }
 
 // block = slot-line, with the clock's number, and at most 16 arrivals
-fn read_slot(text: &[u8], classed: bool, clock: u32, numbers: &mut [u32; NUMBERS]) -> Answer
+fn read_slot(text: &[u8], clock: u32, numbers: &mut [u32; NUMBERS]) -> Answer
     requires { begins End (from 0 text.now) ≡ false }
-    ensures value { result ≡ answer_of text.now (known (next classed clock (from 0 text.now))) }
-    ensures numbers_after { numbers.new ≡ numbers_after (whole_of classed clock (from 0 text.now))
-        (known (next classed clock (from 0 text.now))) numbers.old }
+    ensures value { result ≡ answer_of text.now (known (next clock (from 0 text.now))) }
+    ensures numbers_after { numbers.new ≡ numbers_after (whole_of clock (from 0 text.now))
+        (known (next clock (from 0 text.now))) numbers.old }
 {
     let Line::Number(number, used) = read_line(text, Key::Slot) else {
         return Answer::Bad(0);
@@ -192,47 +159,44 @@ fn read_slot(text: &[u8], classed: bool, clock: u32, numbers: &mut [u32; NUMBERS
     if number != clock {
         return Answer::Bad(0);
     }
-    read_arrivals(text, classed, used, numbers)
+    read_arrivals(text, used, numbers)
 }
 
 // { arrival }, up to the first line that does not begin `in=`
-fn read_arrivals(text: &[u8], classed: bool, start: usize, numbers: &mut [u32; NUMBERS]) -> Answer
+fn read_arrivals(text: &[u8], start: usize, numbers: &mut [u32; NUMBERS]) -> Answer
     requires { start ≤ length text.now }
     ensures value { result ≡ answer_of text.now
-        (known (ahead (arrivals classed block_limit (from 1 (drop start text.now))))) }
+        (known (ahead (arrivals block_limit (from 1 (drop start text.now))))) }
     ensures numbers_after { numbers.new
-        ≡ numbers_after (whole_arrivals classed block_limit (from 1 (drop start text.now)))
-        (known (ahead (arrivals classed block_limit (from 1 (drop start text.now)))))
-        numbers.old }
+        ≡ numbers_after (whole_arrivals block_limit (from 1 (drop start text.now)))
+        (known (ahead (arrivals block_limit (from 1 (drop start text.now))))) numbers.old }
 {
     let mut at = start;
-    let mut line: u32 = 1;
     let mut k: usize = 0;
     while k < ARRIVALS {
         let rest = &text[at..];
+        let line = (FIELDS * k + 1) as u32;
         if !begins(rest, Key::In) {
             return Answer::Slot(k as u32, at, line);
         }
-        match read_arrival(rest, classed, line) {
+        match read_arrival(rest, line) {
             Came::Bad(fault) => {
                 return Answer::Bad(fault);
             }
             Came::Whole(a, used) => {
                 store(numbers, k, a);
                 at += used;
-                line += record_lines(classed);
                 k += 1;
             }
         }
     }
-    Answer::Slot(BLOCK_LIMIT, at, line)
+    Answer::Slot(BLOCK_LIMIT, at, BLOCK_LINES)
 }
 
-// arrival = in-line out-line flow-line [ class-line ] rank-line tag-line; the class line is that of the second form. What is
-// left is kept as a slice, not as a length: so each number is read from where it stands, with no sum of the lines before.
-fn read_arrival(text: &[u8], classed: bool, line: u32) -> Came
+// arrival = in-line out-line flow-line rank-line tag-line
+fn read_arrival(text: &[u8], line: u32) -> Came
     requires { line < block_lines }
-    ensures { result ≡ came_of (length text.now) (arrival classed (from line text.now)) }
+    ensures { result ≡ came_of text.now (arrival (from line text.now)) }
 {
     let Line::Number(input, a) = read_line(text, Key::In) else {
         return Came::Bad(line);
@@ -245,54 +209,33 @@ fn read_arrival(text: &[u8], classed: bool, line: u32) -> Came
     let Line::Number(flow, c) = read_line(after_out, Key::Flow) else {
         return Came::Bad(line + 2);
     };
-    let mut rest = &after_out[c..];
-    let mut class = 0;
-    if classed {
-        let Line::Number(number, d) = read_line(rest, Key::Class) else {
-            return Came::Bad(line + 3);
-        };
-        class = number;
-        rest = &rest[d..];
-    }
-    let Line::Number(rank, e) = read_line(rest, Key::Rank) else {
-        return Came::Bad(line + record_lines(classed) - 2);
+    let after_flow = &after_out[c..];
+    let Line::Number(rank, d) = read_line(after_flow, Key::Rank) else {
+        return Came::Bad(line + 3);
     };
-    let after_rank = &rest[e..];
-    let Line::Number(tag, f) = read_line(after_rank, Key::Tag) else {
-        return Came::Bad(line + record_lines(classed) - 1);
+    let after_rank = &after_flow[d..];
+    let Line::Number(tag, e) = read_line(after_rank, Key::Tag) else {
+        return Came::Bad(line + 4);
     };
-    let after_tag = &after_rank[f..];
     let arrival = Arrival {
         input,
         output,
         flow,
-        class,
         rank,
         tag,
     };
-    Came::Whole(arrival, text.len() - after_tag.len())
-}
-
-// The lines of an arrival.
-fn record_lines(classed: bool) -> u32
-    ensures { result ≡ record_lines classed }
-{
-    if classed {
-        return 6;
-    }
-    5
+    Came::Whole(arrival, a + b + c + d + e)
 }
 
 // The numbers of an arrival, at its place among those of its block.
 fn store(numbers: &mut [u32; NUMBERS], k: usize, a: Arrival)
     requires { k < block_limit }
-    ensures { numbers.new ≡ sets numbers.old (arrival_numbers * k) (numbers_of (a ∷ [])) }
+    ensures { numbers.new ≡ sets numbers.old (5 * k) (numbers_of (a ∷ [])) }
 {
     let at = FIELDS * k;
     numbers[at] = a.input;
     numbers[at + 1] = a.output;
     numbers[at + 2] = a.flow;
-    numbers[at + 3] = a.class;
-    numbers[at + 4] = a.rank;
-    numbers[at + 5] = a.tag;
+    numbers[at + 3] = a.rank;
+    numbers[at + 4] = a.tag;
 }

@@ -20,8 +20,8 @@ use Rattle.trace.specs.Line.{line}
 use Rattle.cell.specs.declared.Refusal.{Refusal}
 use Rattle.cell.specs.declared.Refusal.TheVariants.{BadSize, BadLine, ShortBuffer}
 use Rattle.cell.specs.Limits.{ports_in_range}
-use Rattle.trace.specs.Contents.{Contents, form_text, arrival_text, arrivals_text, slots_text, text, has_text}
-use Rattle.trace.specs.Contents.{arrival_numbers, Written, write, wrote, turned_back}
+use Rattle.trace.specs.Contents.{Contents, arrival_text, arrivals_text, slots_text, text, has_text}
+use Rattle.trace.specs.Contents.{Written, write, wrote, turned_back}
 use Rattle.trace.specs.Flat.{arrival_at, arrivals_from, slots_from, fit_together, contents_of}
 use Rattle.trace.specs.Flat.{write_flat, output_of, buffer_after}
 use Rattle.trace_line_writer.specs.Writing.{last_place, place_after, Put}
@@ -53,53 +53,51 @@ drop-place from size ns h = go (leb (from + size) last_place) refl
         let n : length ns ≤ from + size = omega arith in
         drop_of_length-le ns m ∙ sym (drop_of_length-le ns n)
 
-pub rest-slots : {b : List ℕ} {at : ℕ} (classed : Bool) (clock : ℕ) (counts ns : List ℕ) → at ≤ last_place
-    → Rest b at (slots_text classed clock (slots_from counts ns)) b at
-    (slots_text classed (clock + 0) (slots_from counts ns))
-rest-slots classed clock counts ns h = rw (add-zero clock) (rest-start h)
+pub rest-slots : {b : List ℕ} {at : ℕ} (clock : ℕ) (counts ns : List ℕ) → at ≤ last_place
+    → Rest b at (slots_text clock (slots_from counts ns)) b at (slots_text (clock + 0) (slots_from counts ns))
+rest-slots clock counts ns h = rw (add-zero clock) (rest-start h)
 
 module _ {b₀ : List ℕ} {at₀ : ℕ} {whole b : List ℕ} {at : ℕ} (room : length b₀ < last_place) where
   -- an arrival, whose numbers stand at `from`
-  pub rest-arrival : (classed : Bool) (left from : ℕ) (ns : List ℕ) {a : Arrival} {l c : List ℕ} {next : ℕ} → 0 < left
-      → Rest b₀ at₀ whole b at (arrivals_text classed (arrivals_from left (drop from ns)))
+  pub rest-arrival : (left from : ℕ) (ns : List ℕ) {a : Arrival} {l c : List ℕ} {next : ℕ} → 0 < left
+      → Rest b₀ at₀ whole b at (arrivals_text (arrivals_from left (drop from ns)))
       → l ≡ drop from ns
       → a ≡ arrival_at l
-      → Put b at (arrival_text classed a) c next
-      → Rest b₀ at₀ whole c next (arrivals_text classed (arrivals_from (left - 1) (drop (from + arrival_numbers) ns)))
-  rest-arrival classed left from ns h r d e p =
-      rest-step room (rw (arrivals_text-more classed left from ns h) at r) (tried-put (rw (e, d) at p))
+      → Put b at (arrival_text a) c next
+      → Rest b₀ at₀ whole c next (arrivals_text (arrivals_from (left - 1) (drop (from + 5) ns)))
+  rest-arrival left from ns h r d e p =
+      rest-step room (rw (arrivals_text-more left from ns h) at r) (tried-put (rw (e, d) at p))
 
   -- slot i, whose numbers stand at `from`
-  pub rest-slot : (classed : Bool) (clock : ℕ) (counts : List ℕ) (i from : ℕ) (ns : List ℕ)
-      {l c : List ℕ} {next after : ℕ}
+  pub rest-slot : (clock : ℕ) (counts : List ℕ) (i from : ℕ) (ns : List ℕ) {l c : List ℕ} {next after : ℕ}
       → i < length counts
       → length ns ≤ last_place
-      → Rest b₀ at₀ whole b at (slots_text classed (clock + i) (slots_from (drop i counts) (drop from ns)))
+      → Rest b₀ at₀ whole b at (slots_text (clock + i) (slots_from (drop i counts) (drop from ns)))
       → l ≡ drop from ns
-      → Tried b at (line Slot (clock + i) ++ arrivals_text classed (arrivals_from (get_or counts i 0) l)) c next
-      → after ≡ place_after from (arrival_numbers * get_or counts i 0)
-      → Rest b₀ at₀ whole c next (slots_text classed (clock + (i + 1)) (slots_from (drop (i + 1) counts) (drop after ns)))
-  rest-slot classed clock counts i from ns h k r d p e =
-      rw (e, drop-place from (arrival_numbers * get_or counts i 0) ns k)
-      (rest-step room (rw (slots_text-more classed clock counts i from ns h) at r) (rw d at p))
+      → Tried b at (line Slot (clock + i) ++ arrivals_text (arrivals_from (get_or counts i 0) l)) c next
+      → after ≡ place_after from (5 * get_or counts i 0)
+      → Rest b₀ at₀ whole c next (slots_text (clock + (i + 1)) (slots_from (drop (i + 1) counts) (drop after ns)))
+  rest-slot clock counts i from ns h k r d p e =
+      rw (e, drop-place from (5 * get_or counts i 0) ns k)
+      (rest-step room (rw (slots_text-more clock counts i from ns h) at r) (rw d at p))
 
   -- no slot is left, and `end` follows
-  pub rest-slots-end : (classed : Bool) (clock : ℕ) (counts : List ℕ) (i from : ℕ) (ns : List ℕ) {c : List ℕ} {next : ℕ}
+  pub rest-slots-end : (clock : ℕ) (counts : List ℕ) (i from : ℕ) (ns : List ℕ) {c : List ℕ} {next : ℕ}
       → length counts ≤ i
-      → Rest b₀ at₀ whole b at (slots_text classed (clock + i) (slots_from (drop i counts) (drop from ns)))
+      → Rest b₀ at₀ whole b at (slots_text (clock + i) (slots_from (drop i counts) (drop from ns)))
       → Put b at (line End (clock + i)) c next
       → Tried b₀ at₀ whole c next
-  rest-slots-end classed clock counts i from ns h r p =
-      rest_end room (rw (slots_text-end classed clock counts i from ns h) at r) (tried-put p)
+  rest-slots-end clock counts i from ns h r p = rest_end room (rw (slots_text-end clock counts i from ns h) at r) (tried-put p)
 
 -- the header and the slots
-pub tried-contents : {b c d : List ℕ} {i j : ℕ} (classed : Bool) (ports first : ℕ) (counts ns : List ℕ)
-    → length b < last_place
-    → Put b 0 (form_text classed ++ (line Ports ports ++ line First first)) c i
-    → Tried c i (slots_text classed first (slots_from counts ns)) d j
-    → Tried b 0 (text (contents_of classed ports first counts ns)) d j
+pub tried-contents : {b c d : List ℕ} {i j : ℕ} (ports first : ℕ) (counts ns : List ℕ) → length b < last_place
+    → Put b 0 (line Ports ports ++ line First first) c i
+    → Tried c i (slots_text first (slots_from counts ns)) d j
+    → Tried b 0 (text (contents_of ports first counts ns)) d j
 unfolding text contents_of
-tried-contents classed ports first counts ns h p q = simp append_assoc at (tried_then h (tried-put p) q)
+tried-contents ports first counts ns h p q =
+    let slots : List ℕ = slots_text first (slots_from counts ns) in
+    rw (append_assoc (line Ports ports) (line First first) slots) at (tried_then h (tried-put p) q)
 
 -- what the writer answers, and what it leaves of the buffer
 
@@ -116,53 +114,53 @@ answers-wrote : {w : Written} {t c : List ℕ} (b : List ℕ) {r : ℕ} → w �
 unfolding output_of buffer_after
 answers-wrote b e l d = rw e (ap Text l, d)
 
-module _ (classed : Bool) (ports first : ℕ) (counts ns : List ℕ) (room : ℕ) where
-  write_flat-size : ports_in_range ports ≡ false → write_flat classed ports first counts ns room ≡ turned_back BadSize
+module _ (ports first : ℕ) (counts ns : List ℕ) (room : ℕ) where
+  write_flat-size : ports_in_range ports ≡ false → write_flat ports first counts ns room ≡ turned_back BadSize
   unfolding write_flat
   write_flat-size r = rw (r, write_flat)
 
   module _ (r : ports_in_range ports ≡ true) where
-    write_flat-apart : fit_together counts ns ≡ false → write_flat classed ports first counts ns room ≡ turned_back BadLine
+    write_flat-apart : fit_together counts ns ≡ false → write_flat ports first counts ns room ≡ turned_back BadLine
     unfolding write_flat
     write_flat-apart f = rw (r, f, write_flat)
 
     write_flat-together : fit_together counts ns ≡ true
-        → write_flat classed ports first counts ns room ≡ write (contents_of classed ports first counts ns) room
+        → write_flat ports first counts ns room ≡ write (contents_of ports first counts ns) room
     unfolding write_flat
     write_flat-together f = rw (r, f, write_flat)
 
-module _ (classed : Bool) (ports first : ℕ) (counts ns b : List ℕ) where
+module _ (ports first : ℕ) (counts ns b : List ℕ) where
   -- the contents, and what the writer answers for them
   abbrev contents : Contents
-  contents = contents_of classed ports first counts ns
+  contents = contents_of ports first counts ns
 
   abbrev written : Written
-  written = write_flat classed ports first counts ns (length b)
+  written = write_flat ports first counts ns (length b)
 
   pub write-size : ports_in_range ports ≡ false → Answers written b (TurnedBack BadSize) b
-  write-size r = answers-refused (write_flat-size classed ports first counts ns (length b) r) refl
+  write-size r = answers-refused (write_flat-size ports first counts ns (length b) r) refl
 
   module _ (r : ports_in_range ports ≡ true) (n : Fit32 ns) where
-    pub write-no-text : flat_has_text classed first counts ns ≡ false → Answers written b (TurnedBack BadLine) b
+    pub write-no-text : flat_has_text first counts ns ≡ false → Answers written b (TurnedBack BadLine) b
     unfolding contents_of
     write-no-text h = answers-refused (go (fit_together counts ns) refl) refl
       where
         go : (x : Bool) → fit_together counts ns ≡ x → written ≡ turned_back BadLine
-        go false f = write_flat-apart classed ports first counts ns (length b) r f
+        go false f = write_flat-apart ports first counts ns (length b) r f
         go true f =
-            write_flat-together classed ports first counts ns (length b) r f
-            ∙ write-bad-line contents (length b) r (has_text-flat classed first counts ns f ports n ∙ h)
+            write_flat-together ports first counts ns (length b) r f
+            ∙ write-bad-line contents (length b) r (has_text-flat first counts ns ports n f ∙ h)
 
-    module _ (h : flat_has_text classed first counts ns ≡ true) where
+    module _ (h : flat_has_text first counts ns ≡ true) where
       together : fit_together counts ns ≡ true
       unfolding flat_has_text
       together = and_l (fit_together counts ns) _ h
 
       has-text : has_text contents ≡ true
-      has-text = has_text-flat classed first counts ns together ports n ∙ h
+      has-text = has_text-flat first counts ns ports n together ∙ h
 
       written-together : written ≡ write contents (length b)
-      written-together = write_flat-together classed ports first counts ns (length b) r together
+      written-together = write_flat-together ports first counts ns (length b) r together
 
       -- the text was measured, and does not fit, or fits and was written
       module _ {c : List ℕ} {size : ℕ} (p : Tried [] 0 (text contents) c size) where
@@ -188,16 +186,15 @@ module _ (classed : Bool) (ports first : ℕ) (counts ns b : List ℕ) where
             (poured-whole s (poured-tried s (rw (tried-none p) at q)))
 
 -- what was written is read back as the contents that were lent
-pub write_flat-read : (classed : Bool) (ports first : ℕ) (counts ns : List ℕ) (room : ℕ) (t : List ℕ)
-    → write_flat classed ports first counts ns room ≡ wrote t
-    → read t ≡ accepted (contents_of classed ports first counts ns)
-write_flat-read classed ports first counts ns room t w =
+pub write_flat-read : (ports first : ℕ) (counts ns : List ℕ) (room : ℕ) (t : List ℕ)
+    → write_flat ports first counts ns room ≡ wrote t → read t ≡ accepted (contents_of ports first counts ns)
+write_flat-read ports first counts ns room t w =
     go (ports_in_range ports) refl (fit_together counts ns) refl
   where
     c : Contents
-    c = contents_of classed ports first counts ns
+    c = contents_of ports first counts ns
 
     go : (x : Bool) → ports_in_range ports ≡ x → (y : Bool) → fit_together counts ns ≡ y → read t ≡ accepted c
-    go false r y f = cc (write_flat-size classed ports first counts ns room r)
-    go true r false f = cc (write_flat-apart classed ports first counts ns room r f)
-    go true r true f = write_read c room t (sym (write_flat-together classed ports first counts ns room r f) ∙ w)
+    go false r y f = cc (write_flat-size ports first counts ns room r)
+    go true r false f = cc (write_flat-apart ports first counts ns room r f)
+    go true r true f = write_read c room t (sym (write_flat-together ports first counts ns room r f) ∙ w)

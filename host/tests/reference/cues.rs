@@ -142,9 +142,9 @@ impl<S: Switch> Cues<S> {
 impl Cues<Crossbar> {
     /// The store's bytes, by docs/LAYOUT.md.
     pub fn store(&self) -> Vec<u8> {
-        let mut store = vec![0; 197840];
-        store[0] = 3;
-        for (place, cue) in store[16..].chunks_mut(49456).zip(&self.places) {
+        let mut store = vec![0; 98768];
+        store[0] = 2;
+        for (place, cue) in store[16..].chunks_mut(24688).zip(&self.places) {
             if let Some((name, switch)) = cue {
                 place[..name.len()].copy_from_slice(name);
                 place[8..].copy_from_slice(&switch.table());

@@ -18,18 +18,6 @@ pub enum Fault {
     PhaseTwoLeftOut,
     /// 6.2: 7 and 8 go by the cells in the lists, not by all that wait.
     Checks7And8OnTheListAlone,
-    /// 2.2: the crossbar tells a flow by input, output and flow number, whatever the class.
-    FlowWithoutClass,
-    /// 2.3: the crossbar compares ranks before classes.
-    RankBeforeClass,
-    /// 2.3: in the crossbar the larger class goes first.
-    LargerClassFirst,
-    /// 2.3: the crossbar takes classes 0 and 1 for one, and 2 and 3.
-    TwoClassesAsOne,
-    /// 2.3: the PIFO switch compares ranks before classes.
-    PifoByRankBeforeClass,
-    /// 16.2: 7 goes by the cells of the same flow number in every class.
-    FallingRankAcrossClasses,
     /// 2.3: the PIFO switch compares slots before ranks.
     PifoBySlotBeforeRank,
     /// 2.3: in the crossbar alone the smaller input wins a tie.
@@ -86,13 +74,9 @@ pub enum Fault {
     GivenRankForgotten,
     /// 15.2: a rank is made from the last one given to the flow alone.
     LeftRankForgotten,
-    /// 15.2: a rank is made from the last one that left, whatever its class.
-    ClassesShareTheRankThatLeft,
-    /// 15.2: a rank is made from the last one given to the flow number, whatever its class.
-    ClassesShareTheRankGiven,
     /// 15.2: the stride is rounded up.
     StrideRoundedUp,
-    /// 15.3: a pair of ports has in each class one rank given for all its flows.
+    /// 15.3: a pair of ports has one rank given for all its flows.
     OneMemoryPerPairOfPorts,
     /// 15.3: the records before the one at fault are remembered.
     RefusedSlotRemembers,

@@ -1,7 +1,7 @@
 //! A crossbar and a PIFO switch written from docs/SCOPE.md alone, clear rather than clever. They share the cell, its order,
-//! the checks of a record and how a rank is made, as the scope says, and nothing with the proved code. `player` plays a
-//! trace on either, and either keeps cues. `oq` is the PIFO switch on the sections of a table. Each can be given one wrong
-//! rule, so that a test can show that it is noticed.
+//! the checks of a record and how a rank is made, as the scope says, and nothing with the proved code. `player` plays a trace on either, and
+//! either keeps cues. `oq` is the PIFO switch on the sections of a table. Each can be given one wrong rule, so that a test
+//! can show that it is noticed.
 #![allow(dead_code)] // each test uses a part of it
 
 pub mod cues;
@@ -18,32 +18,25 @@ pub struct Cell {
     pub input: u32,
     pub output: u32,
     pub flow: u32,
-    pub class: u32,
     pub rank: u32,
     pub tag: u32,
     pub slot: u32,
 }
 
-/// Output priority, the smallest first: class, rank, slot, turn.
-type Priority = (u32, u32, u32, u32);
-
-/// A flow: input, output, class, flow number (scope 2.2).
-pub type Flow = (u32, u32, u32, u32);
-
 impl Cell {
-    /// Output priority in a switch of so many ports (scope 2.3). The turn is that of the input in the round of the cell's slot,
-    /// which begins with input `slot mod ports`.
-    fn priority(&self, ports: u32) -> Priority {
-        (self.class, self.rank, self.slot, (self.input + ports - self.slot % ports) % ports)
+    /// Output priority in a switch of so many ports, the smallest first (scope 2.3): rank, slot, and the input's turn in the
+    /// round of that slot, which begins with input `slot mod ports`.
+    fn priority(&self, ports: u32) -> (u32, u32, u32) {
+        (self.rank, self.slot, (self.input + ports - self.slot % ports) % ports)
     }
 
-    fn flow_of(&self) -> Flow {
-        (self.input, self.output, self.class, self.flow)
+    fn flow_of(&self) -> (u32, u32, u32) {
+        (self.input, self.output, self.flow)
     }
 }
 
-/// input, output, flow, class, rank, tag
-pub type Record = [u32; 6];
+/// input, output, flow, rank, tag
+pub type Record = [u32; 5];
 
 #[derive(Clone, Copy, Debug, PartialEq, Eq)]
 pub enum Place {
@@ -60,30 +53,25 @@ pub struct Entry {
 
 pub const CLOCK_END: u32 = u32::MAX;
 
-/// The records with the ranks of their cells, or the first refusal and the record's place: 4, 5, 16, 6, then 14 and 15, then
-/// 7 and 8, with the cells that wait before the slot and the ranks remembered then.
+/// The records with the ranks of their cells, or the first refusal and the record's place: 4, 5, 6, then 14 and 15, then 7
+/// and 8, with the cells that wait before the slot and the ranks remembered then.
 fn made(ports: u32, waiting: &[Cell], memory: &Memory, records: &[Record]) -> Result<Vec<Record>, (u32, u32)> {
     let mut before: Option<u32> = None;
     let mut out = Vec::new();
     for (k, record) in records.iter().enumerate() {
-        let (place, &[input, output, flow, class, weight, _]) = (k as u32 + 1, record);
+        let (place, &[input, output, flow, weight, _]) = (k as u32 + 1, record);
         if input >= ports || output >= ports {
             return Err((4, place));
         }
         if flow > 7 {
             return Err((5, place));
         }
-        if class > 3 {
-            return Err((16, place));
-        }
         if before.is_some_and(|b| input <= b) {
             return Err((6, place));
         }
         let cell = memory.made(record).map_err(|n| (n, place))?;
-        let rank = if memory.fault == Some(Fault::FallingRankByWeight) { weight } else { cell[4] };
-        let across = memory.fault == Some(Fault::FallingRankAcrossClasses);
-        let same = |c: &Cell| c.flow_of() == (input, output, if across { c.class } else { class }, flow);
-        if waiting.iter().any(|c| same(c) && c.rank > rank) {
+        let rank = if memory.fault == Some(Fault::FallingRankByWeight) { weight } else { cell[3] };
+        if waiting.iter().any(|c| c.flow_of() == (input, output, flow) && c.rank > rank) {
             return Err((7, place));
         }
         if waiting.iter().filter(|c| c.input == input).count() >= 64 {
@@ -96,8 +84,8 @@ fn made(ports: u32, waiting: &[Cell], memory: &Memory, records: &[Record]) -> Re
 }
 
 fn accepted(record: &Record, slot: u32) -> Cell {
-    let [input, output, flow, class, rank, tag] = *record;
-    Cell { input, output, flow, class, rank, tag, slot }
+    let [input, output, flow, rank, tag] = *record;
+    Cell { input, output, flow, rank, tag, slot }
 }
 
 /// What arrivals are drawn by: the size of a switch, its clock, the cells that wait in it, and which outputs are fair.
@@ -113,19 +101,19 @@ pub type Sent = Result<Vec<Option<Cell>>, (u32, u32)>;
 
 /// The bytes of departures, by docs/LAYOUT.md.
 pub fn departure_bytes(departures: &[Option<Cell>]) -> Vec<u8> {
-    let mut out = vec![0; 512];
+    let mut out = vec![0; 448];
     for (o, d) in departures.iter().enumerate() {
         if let Some(c) = d {
-            for (k, n) in [1, c.input, c.output, c.flow, c.class, c.rank, c.tag, c.slot].iter().enumerate() {
-                out[32 * o + 4 * k..][..4].copy_from_slice(&n.to_le_bytes());
+            for (k, n) in [1, c.input, c.output, c.flow, c.rank, c.tag, c.slot].iter().enumerate() {
+                out[28 * o + 4 * k..][..4].copy_from_slice(&n.to_le_bytes());
             }
         }
     }
     out
 }
 
-/// The bytes of the cells of a table, by docs/LAYOUT.md. With cells of class 0 alone they are a table of layout 1.
-fn cells_bytes(ports: u32, clock: u32, sections: &[Vec<Entry>]) -> Vec<u8> {
+/// The bytes of a table of the older layout, by docs/LAYOUT.md.
+fn older_table_bytes(ports: u32, clock: u32, sections: &[Vec<Entry>]) -> Vec<u8> {
     let mut t = vec![0; 16416];
     t[0] = 1;
     t[4..8].copy_from_slice(&ports.to_le_bytes());
@@ -137,7 +125,6 @@ fn cells_bytes(ports: u32, clock: u32, sections: &[Vec<Entry>]) -> Vec<u8> {
             r[0] = e.cell.output as u8;
             r[1] = e.cell.flow as u8;
             r[2] = e.place as u8;
-            r[3] = e.cell.class as u8;
             r[4..8].copy_from_slice(&e.cell.rank.to_le_bytes());
             r[8..12].copy_from_slice(&e.cell.tag.to_le_bytes());
             r[12..16].copy_from_slice(&e.cell.slot.to_le_bytes());
@@ -146,16 +133,16 @@ fn cells_bytes(ports: u32, clock: u32, sections: &[Vec<Entry>]) -> Vec<u8> {
     t
 }
 
-/// The bytes of a table, by docs/LAYOUT.md: the number of its layout, the cells, the memory.
-fn table_bytes(number: u32, cells: Vec<u8>, memory: Vec<u8>) -> Vec<u8> {
-    [number.to_le_bytes().to_vec(), cells, memory].concat()
+/// The bytes of a table, by docs/LAYOUT.md: the number of its layout, the cells as the older layout has them, the memory.
+fn table_bytes(number: u32, older: Vec<u8>, memory: &Memory) -> Vec<u8> {
+    [number.to_le_bytes().to_vec(), older, memory.bytes()].concat()
 }
 
-/// The bytes of the cells of an output-queued switch's table: every cell is in a buffer.
-fn oq_cells_bytes(ports: u32, clock: u32, sections: &[Vec<Cell>]) -> Vec<u8> {
+/// The bytes of an output-queued switch's table: a number of its own, and every cell in a buffer.
+fn oq_table_bytes(ports: u32, clock: u32, sections: &[Vec<Cell>], memory: &Memory) -> Vec<u8> {
     let buffered = |cells: &Vec<Cell>| cells.iter().map(|&cell| Entry { cell, place: Place::Buffer }).collect();
     let entries: Vec<Vec<Entry>> = sections.iter().map(buffered).collect();
-    cells_bytes(ports, clock, &entries)
+    table_bytes(102, older_table_bytes(ports, clock, &entries), memory)
 }
 
 /// Proposals and occupancies are those of the first phase and of the second.
@@ -170,10 +157,10 @@ impl Answer {
     /// The answer's bytes, by docs/LAYOUT.md.
     pub fn bytes(&self) -> Vec<u8> {
         let mut out = departure_bytes(&self.departures);
-        out.resize(648, 0);
-        out[512..516].copy_from_slice(&self.proposals[0].to_le_bytes());
-        out[516..520].copy_from_slice(&self.proposals[1].to_le_bytes());
-        for (first, occupancies) in [520, 584].into_iter().zip(&self.occupancies) {
+        out.resize(584, 0);
+        out[448..452].copy_from_slice(&self.proposals[0].to_le_bytes());
+        out[452..456].copy_from_slice(&self.proposals[1].to_le_bytes());
+        for (first, occupancies) in [456, 520].into_iter().zip(&self.occupancies) {
             for (o, n) in occupancies.iter().enumerate() {
                 out[first + 4 * o..][..4].copy_from_slice(&n.to_le_bytes());
             }
@@ -232,27 +219,16 @@ impl Crossbar {
     }
 
     /// A cell's output priority in this switch.
-    fn priority(&self, cell: &Cell) -> Priority {
-        let (class, rank, slot, turn) = cell.priority(self.ports);
+    fn priority(&self, cell: &Cell) -> (u32, u32, u32) {
+        let (rank, slot, turn) = cell.priority(self.ports);
         let turn = match self.fault {
             Some(Fault::CrossbarTieToSmallerInput) => cell.input,
             Some(Fault::RoundBackwards) => (self.ports - turn) % self.ports,
             Some(Fault::RoundFromSlotWithoutMod) => cell.input + if cell.input < slot { self.ports } else { 0 },
-            Some(Fault::RoundOfTheClock) => Cell { slot: self.clock, ..*cell }.priority(self.ports).3,
+            Some(Fault::RoundOfTheClock) => Cell { slot: self.clock, ..*cell }.priority(self.ports).2,
             _ => turn,
         };
-        match self.fault {
-            Some(Fault::RankBeforeClass) => (rank, class, slot, turn),
-            Some(Fault::LargerClassFirst) => (3 - class, rank, slot, turn),
-            Some(Fault::TwoClassesAsOne) => (class / 2, rank, slot, turn),
-            _ => (class, rank, slot, turn),
-        }
-    }
-
-    /// A cell's flow in this switch.
-    fn flow_of(&self, cell: &Cell) -> Flow {
-        let (input, output, class, flow) = cell.flow_of();
-        (input, output, if self.has(Fault::FlowWithoutClass) { 0 } else { class }, flow)
+        (rank, slot, turn)
     }
 
     pub fn cells(&self) -> Vec<Cell> {
@@ -293,11 +269,10 @@ impl Crossbar {
 
     /// A new cell goes right after the last cell of its flow in the list, or to the front.
     fn arrive(&mut self, cell: Cell) {
-        let section = &self.sections[cell.input as usize];
-        let same = |e: &Entry| e.place == Place::List && self.flow_of(&e.cell) == self.flow_of(&cell);
-        let behind = section.iter().rposition(same).map_or(0, |at| at + 1);
-        let at = if self.has(Fault::ArrivalsAtTheEnd) { section.len() } else { behind };
-        self.sections[cell.input as usize].insert(at, Entry { cell, place: Place::List });
+        let section = &mut self.sections[cell.input as usize];
+        let last = section.iter().rposition(|e| e.place == Place::List && e.cell.flow_of() == cell.flow_of());
+        let at = if self.fault == Some(Fault::ArrivalsAtTheEnd) { section.len() } else { last.map_or(0, |at| at + 1) };
+        section.insert(at, Entry { cell, place: Place::List });
     }
 
     /// The crosspoint cells of an output.
@@ -337,7 +312,7 @@ impl Crossbar {
         let mut seen = Vec::new();
         let mut heads = Vec::new();
         for at in (0..section.len()).filter(|&at| section[at].place == Place::List) {
-            let flow = self.flow_of(&section[at].cell);
+            let flow = section[at].cell.flow_of();
             if !seen.contains(&flow) {
                 seen.push(flow);
                 heads.push(at);
@@ -476,19 +451,14 @@ impl Crossbar {
         Some(best)
     }
 
-    /// The bytes of its cells alone. Where all are of class 0, they are a table of layout 1.
-    pub fn cells_table(&self) -> Vec<u8> {
-        cells_bytes(self.ports, self.clock, &self.sections)
-    }
-
-    /// The bytes of a table of layout 2, where it has nothing but class 0.
-    pub fn table_2(&self) -> Vec<u8> {
-        table_bytes(2, self.cells_table(), self.memory.bytes_2())
+    /// The bytes of its cells alone, as the older layout has them.
+    pub fn older_table(&self) -> Vec<u8> {
+        older_table_bytes(self.ports, self.clock, &self.sections)
     }
 
     /// The table's bytes, by docs/LAYOUT.md.
     pub fn table(&self) -> Vec<u8> {
-        table_bytes(3, self.cells_table(), self.memory.bytes())
+        table_bytes(2, self.older_table(), &self.memory)
     }
 }
 
@@ -531,13 +501,12 @@ impl Pifo {
     }
 
     /// A cell's output priority in this switch.
-    fn priority(&self, cell: &Cell) -> Priority {
-        let (class, rank, slot, turn) = cell.priority(self.ports);
+    fn priority(&self, cell: &Cell) -> (u32, u32, u32) {
+        let (rank, slot, turn) = cell.priority(self.ports);
         match self.fault {
-            Some(Fault::PifoByRankBeforeClass) => (rank, class, slot, turn),
-            Some(Fault::PifoBySlotBeforeRank) => (class, slot, rank, turn),
-            Some(Fault::PifoTieToSmallerInput) => (class, rank, slot, cell.input),
-            _ => (class, rank, slot, turn),
+            Some(Fault::PifoBySlotBeforeRank) => (slot, rank, turn),
+            Some(Fault::PifoTieToSmallerInput) => (rank, slot, cell.input),
+            _ => (rank, slot, turn),
         }
     }
 
@@ -584,7 +553,7 @@ impl Pifo {
             sections[cell.input as usize].push(cell);
         }
         sections.iter_mut().for_each(|cells| cells.sort_by_key(|c| c.slot));
-        table_bytes(103, oq_cells_bytes(self.ports, self.clock, &sections), self.memory.bytes())
+        oq_table_bytes(self.ports, self.clock, &sections, &self.memory)
     }
 }
 

@@ -1,7 +1,7 @@
 //! The PIFO switch on the sections of a table, by docs/SCOPE.md 4 and docs/LAYOUT.md: the cells of each input stand in the
 //! order in which the table has them, so that it can begin with any sound table of the output-queued switch.
 
-use super::{accepted, made, oq_cells_bytes, table_bytes, Cell, Fault, Memory, Record, Sent, Waiting, CLOCK_END};
+use super::{accepted, made, oq_table_bytes, Cell, Fault, Memory, Record, Sent, Waiting, CLOCK_END};
 
 #[derive(Clone, Debug)]
 pub struct OutputQueued {
@@ -58,18 +58,8 @@ impl OutputQueued {
         Some(if last_fills_the_gap { section.swap_remove(at) } else { section.remove(at) })
     }
 
-    /// The bytes of its cells alone. Where all are of class 0, they follow the number of a table of layout 101.
-    pub fn cells_table(&self) -> Vec<u8> {
-        oq_cells_bytes(self.ports, self.clock, &self.sections)
-    }
-
-    /// The bytes of a table of layout 102, where it has nothing but class 0.
-    pub fn table_102(&self) -> Vec<u8> {
-        table_bytes(102, self.cells_table(), self.memory.bytes_2())
-    }
-
     pub fn table(&self) -> Vec<u8> {
-        table_bytes(103, self.cells_table(), self.memory.bytes())
+        oq_table_bytes(self.ports, self.clock, &self.sections, &self.memory)
     }
 }
 

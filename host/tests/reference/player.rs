@@ -1,4 +1,4 @@
-//! A player of traces written from docs/SCOPE.md, 7, 8 and 16: the whole text in, the whole text out, in either form.
+//! A player of traces written from docs/SCOPE.md, 7 and 8: the whole text in, the whole text out.
 
 use super::{Cell, Crossbar, Pifo, Record};
 use std::fmt::Display;
@@ -34,7 +34,7 @@ impl Switch for Pifo {
 /// What the player writes for a text.
 pub fn play<S: Switch>(text: &[u8]) -> Vec<u8> {
     let mut out = Vec::new();
-    if let Err(refused) = play_lines::<S>(Reader::of(text), &mut out) {
+    if let Err(refused) = play_lines::<S>(Reader { rest: text, line: 1 }, &mut out) {
         put(&mut out, "refused", refused.number);
         put(&mut out, "line", refused.line);
     }
@@ -47,24 +47,18 @@ struct Refused {
     line: u64,
 }
 
-/// The part of the text that is not read yet, the number of its first line, and whether it is of the second form, in which
-/// records have classes.
+/// The part of the text that is not read yet, and the number of its first line.
 struct Reader<'a> {
     rest: &'a [u8],
     line: u64,
-    classed: bool,
 }
 
 fn play_lines<S: Switch>(mut text: Reader, out: &mut Vec<u8>) -> Result<(), Refused> {
-    let ports_line = text.line;
     let ports = text.number("ports")?;
     if ports < 1 || ports > 16 {
-        return Err(Refused { number: 1, line: ports_line });
+        return Err(Refused { number: 1, line: 1 });
     }
     let first = text.number("first")?;
-    if text.classed {
-        put(out, "form", 2);
-    }
     put(out, "ports", ports);
     put(out, "first", first);
     let mut switch = S::fresh(ports, first);
@@ -72,8 +66,8 @@ fn play_lines<S: Switch>(mut text: Reader, out: &mut Vec<u8>) -> Result<(), Refu
     while !text.rest.starts_with(b"end=") {
         let slot_line = text.line;
         let records = text.block(clock)?;
-        let departures = switch.departures(&records).map_err(|fault| text.refused_slot(fault, slot_line))?;
-        put_slot(out, clock, &departures, text.classed);
+        let departures = switch.departures(&records).map_err(|fault| refused_slot(fault, slot_line))?;
+        put_slot(out, clock, &departures);
         clock += 1;
     }
     text.expected("end", clock)?;
@@ -84,30 +78,24 @@ fn play_lines<S: Switch>(mut text: Reader, out: &mut Vec<u8>) -> Result<(), Refu
     Ok(())
 }
 
+/// A refusal of a record names its `in` line, five lines a record; one that names none names the `slot` line.
+fn refused_slot((number, place): (u32, u32), slot_line: u64) -> Refused {
+    let line = if place == 0 { slot_line } else { slot_line + 1 + 5 * (place as u64 - 1) };
+    Refused { number, line }
+}
+
 impl Reader<'_> {
-    /// A text whose first line is `form=2` is of the second form; any other is of the first, and begins with `ports`.
-    fn of(text: &[u8]) -> Reader<'_> {
-        match text.strip_prefix(b"form=2\n") {
-            Some(rest) => Reader { rest, line: 2, classed: true },
-            None => Reader { rest: text, line: 1, classed: false },
-        }
-    }
-
-    /// A refusal of a record names its `in` line, six or five lines a record; one that names none names the `slot` line.
-    fn refused_slot(&self, (number, place): (u32, u32), slot_line: u64) -> Refused {
-        let lines = if self.classed { 6 } else { 5 };
-        let line = if place == 0 { slot_line } else { slot_line + 1 + lines * (place as u64 - 1) };
-        Refused { number, line }
-    }
-
     /// The arrivals of the block of this slot.
     fn block(&mut self, slot: u32) -> Result<Vec<Record>, Refused> {
         self.expected("slot", slot)?;
         let mut records = Vec::new();
         while records.len() < 16 && self.rest.starts_with(b"in=") {
-            let (input, output, flow) = (self.number("in")?, self.number("out")?, self.number("flow")?);
-            let class = if self.classed { self.number("class")? } else { 0 };
-            records.push([input, output, flow, class, self.number("rank")?, self.number("tag")?]);
+            let keys = ["in", "out", "flow", "rank", "tag"];
+            let mut record = [0; 5];
+            for (field, key) in record.iter_mut().zip(keys) {
+                *field = self.number(key)?;
+            }
+            records.push(record);
         }
         Ok(records)
     }
@@ -144,15 +132,12 @@ fn put(out: &mut Vec<u8>, key: &str, number: impl Display) {
     out.extend(format!("{key}={number}\n").bytes());
 }
 
-fn put_slot(out: &mut Vec<u8>, slot: u32, departures: &[Option<Cell>], classed: bool) {
+fn put_slot(out: &mut Vec<u8>, slot: u32, departures: &[Option<Cell>]) {
     put(out, "slot", slot);
     for cell in departures.iter().flatten() {
         put(out, "out", cell.output);
         put(out, "in", cell.input);
         put(out, "flow", cell.flow);
-        if classed {
-            put(out, "class", cell.class);
-        }
         put(out, "rank", cell.rank);
         put(out, "tag", cell.tag);
     }

@@ -52,7 +52,7 @@ pub fn is_store(store: &[u8]) -> bool {
         let free = place.iter().all(|&b| b == 0);
         free || is_name(&name[..size]) && name[size..].iter().all(|&b| b == 0) && check_bytes(table) == 0
     };
-    if store.len() != STORE_BYTES || store[..16] != [3, 0, 0, 0, 0, 0, 0, 0, 0, 0, 0, 0, 0, 0, 0, 0] {
+    if store.len() != STORE_BYTES || store[..16] != [2, 0, 0, 0, 0, 0, 0, 0, 0, 0, 0, 0, 0, 0, 0, 0] {
         return false;
     }
     let places: Vec<&[u8]> = store[16..].chunks(PLACE_BYTES).collect();

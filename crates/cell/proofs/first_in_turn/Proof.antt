@@ -10,7 +10,7 @@ returns c =
     let slot = c.before.args.slot in
     sym (ap (λ n. slot % n) c.if1.true ∙ mod-zero slot)
 
-rem-result : tie.Need-nonzero-rem-result
+rem-result : tie.Need-nonzero_rem-result
 rem-result c = search rules
 
 returns-2 : tie.Need-returns-2

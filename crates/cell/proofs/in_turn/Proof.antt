@@ -14,10 +14,10 @@ placed start i p s l e = go (compare i start)
     go (equal h) = up (omega arith) (omega arith)
     go (above h) = up (omega arith) (omega arith)
 
-wrapping-sub-u32-requires : tie.Need-wrapping-sub-u32-requires
+wrapping-sub-u32-requires : tie.Need-wrapping_sub_u32-requires
 wrapping-sub-u32-requires c κs = search rules
 
-wrapping-sub-u32-requires-2 : tie.Need-wrapping-sub-u32-requires-2
+wrapping-sub-u32-requires-2 : tie.Need-wrapping_sub_u32-requires-2
 wrapping-sub-u32-requires-2 c κs = search rules
 
 returns : tie.Need-returns
@@ -26,8 +26,8 @@ returns c =
     let start = one.before in
     let fits = start.ranges in
     sym (in_turn-places fits.i.fits fits.j.fits
-    (placed _ _ _ fits.start.fits one.wrapping-sub-u32.type-inv one.wrapping-sub-u32.ensures)
-    (placed _ _ _ fits.start.fits c.wrapping-sub-u322.type-inv c.wrapping-sub-u322.ensures))
+    (placed _ _ _ fits.start.fits one.wrapping_sub_u32.type_inv one.wrapping_sub_u32.ensures)
+    (placed _ _ _ fits.start.fits c.wrapping_sub_u32-2.type-inv c.wrapping_sub_u32-2.ensures))
 
 pub in_turn_spec : {M : Type 1} → statement M
 in_turn_spec = tie.close (tie.spec wrapping-sub-u32-requires wrapping-sub-u32-requires-2 returns)

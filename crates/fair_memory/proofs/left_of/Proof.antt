@@ -1,4 +1,4 @@
--- The word of the class at the output.
+-- The word of the output.
 use mathlib.Core.Path.{◌∙◌}
 use borrow.Author.Rules.{rules}
 use Rattle.fair_memory.proofs.Words.{left_word}
@@ -17,7 +17,7 @@ read-u32-requires c κs = search rules
 returns : tie.Need-returns
 returns c =
     let start = c.before.before in
-    c.read_u32.ensures ∙ left_word start.args.memory.now start.args.index start.requires.1
+    c.read_u32.ensures ∙ left_word start.args.memory.now start.args.output start.requires.1
 
 pub left_of_spec : {M : Type 1} → statement M
 left_of_spec = tie.close (tie.spec mul-read-u32 add-read-u32 read-u32-requires returns)

@@ -1,4 +1,4 @@
--- The word of the class at the output is put.
+-- The word of the output is put.
 use mathlib.Core.Path.{ap, ◌∙◌}
 use native.Mathlib.Omega.{arith}
 use borrow.Author.Rules.{rules}
@@ -28,7 +28,7 @@ returns c =
     let start = call.before.before.before in
     let a = start.args in
     ap memory_of call.write-u32.ensures
-    ∙ memory_of-left a.memory.now start.requires.0 a.index a.rank (below-fits32 a.rank (omega arith))
+    ∙ memory_of-left a.memory.now start.requires.0 a.output a.rank (below-fits32 a.rank (omega arith))
     start.requires.1
 
 pub write_left_spec : {M : Type 1} → statement M

@@ -1,4 +1,4 @@
--- The flows of the classes before, those of the inputs before, those of the outputs before, and its own number.
+-- The flows of the inputs before, those of the outputs before, and its own number.
 use borrow.Author.Rules.{rules}
 use mathlib.Core.Path.{refl}
 use Rattle.model.specs.Fair.{flow_index}
@@ -20,20 +20,11 @@ mul-result-2 c = search rules
 cast-result-3 : tie.Need-overflow_cast-result-3
 cast-result-3 c = search rules
 
-mul-result-3 : tie.Need-overflow_mul-result-3
-mul-result-3 c = search rules
-
-cast-result-4 : tie.Need-overflow_cast-result-4
-cast-result-4 c = search rules
-
 add-result : tie.Need-overflow_add-result
 add-result c = search rules
 
 add-result-2 : tie.Need-overflow_add-result-2
 add-result-2 c = search rules
-
-add-result-3 : tie.Need-overflow_add-result-3
-add-result-3 c = search rules
 
 returns : tie.Need-returns
 unfolding flow_index
@@ -48,9 +39,6 @@ flow_index_spec =
     cast-result-2
     mul-result-2
     cast-result-3
-    mul-result-3
-    cast-result-4
     add-result
     add-result-2
-    add-result-3
     returns)

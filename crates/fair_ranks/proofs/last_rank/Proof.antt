@@ -8,6 +8,9 @@ use Rattle.fair_ranks.proofs.last_rank.Tie as tie
 last-given-requires : tie.Need-last-given-requires
 last-given-requires c κs = search rules
 
+cast-last-left : tie.Need-overflow_cast-last-left
+cast-last-left c = search rules
+
 last-left-requires : tie.Need-last-left-requires
 last-left-requires c κs = search rules
 
@@ -15,14 +18,14 @@ returns : tie.Need-returns
 unfolding last_rank
 returns c =
     let left = c.before in
-    omega (arith, left.last-left.ensures, left.before.last-given.ensures)
+    omega (arith, left.last-left.ensures, left.before.before.last-given.ensures)
 
 returns-2 : tie.Need-returns-2
 unfolding last_rank
 returns-2 c =
     let left = c.before in
-    omega (arith, left.last-left.ensures, left.before.last-given.ensures)
+    omega (arith, left.last-left.ensures, left.before.before.last-given.ensures)
 
 pub last_rank_spec : {M : Type 1} → statement M
 last_rank_spec =
-    tie.close (tie.spec last-given-requires last-left-requires returns returns-2)
+    tie.close (tie.spec last-given-requires cast-last-left last-left-requires returns returns-2)

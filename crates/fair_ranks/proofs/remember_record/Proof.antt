@@ -4,7 +4,6 @@ use borrow.Author.Tests.{ltb-false}
 use native.Mathlib.Omega.{arith}
 use mathlib.Core.Logic.{⊎_elim}
 use mathlib.Core.Path.{sym, ◌∙◌}
-use Rattle.model.specs.Fair.{flow_count}
 use Rattle.fair_ranks.proofs.Remembering.{length-given, record-put, record-kept, record-beyond}
 use Rattle.fair_ranks.proofs.remember_record.Statement.{statement}
 use Rattle.fair_ranks.proofs.remember_record.Tie as tie
@@ -43,7 +42,7 @@ returns-2 c =
     let size = length-given index.before.before.args.memory.now in
     let flow = index.flow-index in
     ⊎_elim
-    (λ w. record-beyond _ a (omega (arith, size, flow.ensures, ltb-false flow.result flow_count w.1.left)))
+    (λ w. record-beyond _ a (omega (arith, size, flow.ensures, ltb-false flow.result 2048 w.1.left)))
     (λ w. record-kept _ a (sym marked.is-marked.ensures ∙ w.left))
     c.if1.branch
 

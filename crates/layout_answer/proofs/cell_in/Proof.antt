@@ -21,15 +21,11 @@ read-u32-requires-5 c κs = search rules
 read-u32-requires-6 : tie.Need-read-u32-requires-6
 read-u32-requires-6 c κs = search rules
 
-read-u32-requires-7 : tie.Need-read-u32-requires-7
-read-u32-requires-7 c κs = search rules
-
 returns : tie.Need-returns
 returns c =
     let tag = c.before in
     let rank = tag.before in
-    let class = rank.before in
-    let flow = class.before in
+    let flow = rank.before in
     let output = flow.before in
     let input = output.before in
     λ k.
@@ -37,10 +33,9 @@ returns c =
       input = input.read_u32.ensures k;
       output = output.read-u322.ensures k;
       flow = flow.read-u323.ensures k;
-      class = class.read-u324.ensures k;
-      rank = rank.read-u325.ensures k;
-      tag = tag.read-u326.ensures k;
-      slot = c.read-u327.ensures k;
+      rank = rank.read-u324.ensures k;
+      tag = tag.read-u325.ensures k;
+      slot = c.read-u326.ensures k;
     }
 
 pub cell_in_spec : {M : Type 1} → statement M
@@ -53,5 +48,4 @@ cell_in_spec =
     read-u32-requires-4
     read-u32-requires-5
     read-u32-requires-6
-    read-u32-requires-7
     returns)

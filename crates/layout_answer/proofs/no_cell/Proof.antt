@@ -1,4 +1,4 @@
--- Seven zeros.
+-- Six zeros.
 use mathlib.Core.Path.{refl}
 use Rattle.layout_answer.specs.Code.{no_cell}
 use Rattle.layout_answer.proofs.no_cell.Statement.{statement}

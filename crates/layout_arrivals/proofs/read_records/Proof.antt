@@ -49,7 +49,7 @@ loop-again c =
 returns : tie.Need-returns invariant-loop decreases-loop
 returns c =
     let at = c.before in
-    let end : at.loop.n ≡ min (length at.before.before.before.args.arrivals.now / 24) 17 =
+    let end : at.loop.n ≡ min (length at.before.before.before.args.arrivals.now / 20) 17 =
     omega (arith, at.before.few.ensures) in
     subst (λ k. take k at.loop.records ≡ arrivals_of k at.before.before.before.args.arrivals.now) end at.loop.invariant.2
 

@@ -34,23 +34,15 @@ add-read-u32-4 c = search rules
 read-u32-requires-5 : tie.Need-read-u32-requires-5
 read-u32-requires-5 c κs = search rules
 
-add-read-u32-5 : tie.Need-overflow_add-read-u32-5
-add-read-u32-5 c = search rules
-
-read-u32-requires-6 : tie.Need-read-u32-requires-6
-read-u32-requires-6 c κs = search rules
-
 returns : tie.Need-returns
 returns c =
-    let start = c.before.before.before.before.before.before.before in
+    let start = c.before.before.before.before.before.before in
     arrival_at-fields start.args.arrivals.now start.args.k _
-    c.before.before.before.before.before.read_u32.ensures
-    c.before.before.before.before.read-u322.ensures c.before.before.before.read-u323.ensures
-    c.before.before.read-u324.ensures c.before.read-u325.ensures c.read-u326.ensures
+    c.before.before.before.before.read_u32.ensures c.before.before.before.read-u322.ensures
+    c.before.before.read-u323.ensures c.before.read-u324.ensures c.read-u325.ensures
 
 pub record_at_spec : {M : Type 1} → statement M
 record_at_spec =
     tie.close
     (tie.spec mul_at read-u32-requires add-read-u32 read-u32-requires-2 add-read-u32-2 read-u32-requires-3
-    add-read-u32-3 read-u32-requires-4 add-read-u32-4 read-u32-requires-5
-    add-read-u32-5 read-u32-requires-6 returns)
+    add-read-u32-3 read-u32-requires-4 add-read-u32-4 read-u32-requires-5 returns)

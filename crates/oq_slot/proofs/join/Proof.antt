@@ -58,7 +58,7 @@ write-entry-requires c κs =
     let may = start.pre in
     rw (cell-is c) (
       (table-length _ may.sound, omega (arith, port start, may.room, counted.count_of.ensures)),
-      (may.output, may.flow, may.class, omega arith, omega arith),
+      (may.output, may.flow, omega arith, omega arith),
     )
 
 add-write-count : tie.Need-overflow_add-write-count

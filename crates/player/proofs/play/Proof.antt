@@ -34,7 +34,7 @@ loop-holds c = (
   omega arith,
   sym c.before.large-buffer.ensures,
   sym c.large-buffer2.ensures,
-  record { size = refl; number = refl; good = λ k e. absurd (opening-not k e); few = λ k e. absurd (opening-not k e) },
+  record { size = refl; number = refl; good = λ e. absurd (opening-not e); few = λ e. absurd (opening-not e) },
 )
 
 sub-rounds : tie.Need-overflow_sub-rounds invariant-loop decreases-loop

@@ -20,7 +20,7 @@ returns c = sym (ap status_of c.enum_told.given.1)
 not-ended : (s : Stage) → (s ≡ Ended → ⊥) → 1 ≡ status_of s
 unfolding status_of
 not-ended Opening n = refl
-not-ended (Playing classed) n = refl
+not-ended Playing n = refl
 not-ended Ended n = absurd (n refl)
 not-ended TurnedBack n = refl
 

@@ -14,11 +14,11 @@ use Rattle.player_lines.proofs.put_departures.Statement.{statement}
 use Rattle.player_lines.proofs.put_departures.Tie as tie
 
 abbrev invariant-loop : tie.invariant-loop
-invariant-loop out₀ at classed answer place₀ output₀ out place output =
-    (output ≤ 16) × (length out ≡ length out₀) × Put out₀ at (departures_text classed (departures_in output answer)) out place
+invariant-loop out₀ at answer place₀ output₀ out place output =
+    (output ≤ 16) × (length out ≡ length out₀) × Put out₀ at (departures_text (departures_in output answer)) out place
 
 abbrev decreases-loop : tie.decreases-loop
-decreases-loop out₀ at classed answer place₀ output₀ out place output = 16 - output
+decreases-loop out₀ at answer place₀ output₀ out place output = 16 - output
 
 loop-holds : tie.Need-loop-init invariant-loop decreases-loop
 unfolding departures_text departures_in
@@ -58,7 +58,7 @@ loop-again c =
     let bytes = bytes?-i start.args.answer.now (λ i. (loop.before.shared-slice-known.given i).fits) in (
       omega arith,
       put.put-sent.auto.0 ∙ loop.loop.invariant.1,
-      put-more start.args.classed start.args.out.now start.args.answer.now start.args.at bytes start.requires.1 start.requires.0
+      put-more start.args.out.now start.args.answer.now start.args.at bytes start.requires.1 start.requires.0
           (omega arith) loop.loop.output (omega arith) loop.loop.invariant.2 put.put-sent.ensures,
     )
 

@@ -34,7 +34,7 @@ returns c =
     let start = put.before.before.before.before in
     let bytes = bytes?-i start.args.answer.now (λ i. (put.before.before.shared-slice-known.given i).fits) in
     let size = length-line-le Slot start.args.clock (fits32-i _ (omega arith)) in
-    let few = departures-le start.args.classed 16 start.args.answer.now bytes start.requires.1 in
+    let few = departures-le 16 start.args.answer.now bytes start.requires.1 in
     wrote-two (omega (arith, size, few, start.requires.0)) (omega arith) put.put-line.ensures
     departures.put-departures.ensures
 

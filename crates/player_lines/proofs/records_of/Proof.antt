@@ -59,7 +59,7 @@ loop-again c =
       length-set at.loop.records at.loop.n _ ∙ at.loop.invariant.1,
       records-next at.loop.records start.args.numbers.now at.loop.n _
           (omega (arith, at.loop.invariant.1, start.requires.1)) at.loop.invariant.2
-          (c.arrival-at.ensures ∙ ap arrival_at (part-behind start.args.numbers.now (6 * at.loop.n))),
+          (c.arrival-at.ensures ∙ ap arrival_at (part-behind start.args.numbers.now (5 * at.loop.n))),
     )
 
 returns : tie.Need-returns invariant-loop decreases-loop

@@ -14,8 +14,8 @@ use Rattle.player_turns.proofs.header_turn.Tie as tie
 read-header-requires : tie.Need-read-header-requires
 read-header-requires c κs = search rules
 
-enum-known-classed : tie.Need-enum-known-classed
-enum-known-classed c = search rules
+enum-known-ports : tie.Need-enum-known-ports
+enum-known-ports c = search rules
 
 fresh-requires : tie.Need-fresh-requires
 fresh-requires c κs = search rules
@@ -25,12 +25,6 @@ write-fresh-requires c κs = search rules
 
 put-header-requires : tie.Need-put-header-requires
 put-header-requires c κs = search rules
-
-slots-line-requires : tie.Need-slots-line-requires
-slots-line-requires c κs = search rules
-
-cast-t23 : tie.Need-overflow_cast-t23
-cast-t23 c = search rules
 
 enum-known-refusal : tie.Need-enum-known-refusal
 enum-known-refusal c = search rules
@@ -55,18 +49,18 @@ same-length-2 c = search rules
 
 returns : tie.Need-returns
 returns c engine =
-    let put = c.before.before.before in
+    let put = c.before.before in
     let wrote = put.before.before.before.before in
     let made = wrote.before.before in
     let told = made.before.before in
     let read = told.before.before in
     let start = read.before.before.before.before in
     header-open engine start.args.last start.args.text.now start.args.table.now start.args.out.now
-    start.requires.0 read.read-header.ensures told.classed.given.1 wrote.write-fresh.new.1.0 put.put-header.new.0
+    start.requires.0 read.read-header.ensures told.ports.given.1 wrote.write-fresh.new.1.0 put.put-header.new.0
     put.put-header.result
     (wrote.write-fresh.ensures
     ∙ ap₂ (λ n f. filled (encode (State.fresh n f)) start.args.table.now) made.fresh.ensures.0 made.fresh.ensures.1)
-    put.put-header.ensures c.slots-line.ensures
+    put.put-header.ensures
 
 same-length-3 : tie.Need-same-length-3
 same-length-3 c = search rules
@@ -97,12 +91,10 @@ header_turn_spec =
     tie.close
     (tie.spec
     read-header-requires
-    enum-known-classed
+    enum-known-ports
     fresh-requires
     write-fresh-requires
     put-header-requires
-    slots-line-requires
-    cast-t23
     enum-known-refusal
     cast-put-refusal
     put-refusal-requires

@@ -16,7 +16,7 @@ use Rattle.player_turns.proofs.next_turn.Statement.{statement}
 use Rattle.player_turns.proofs.next_turn.Tie as tie
 
 -- the number of the line is small enough for what is added to it
-line-room : (c : tie.After-clock-of) → c.before.before.before.before.before.args.line ≤ 4 + 97 * 4294967295
+line-room : (c : tie.After-clock-of) → c.before.before.before.before.before.args.line ≤ 3 + 81 * 4294967295
 line-room c = omega (arith, c.before.before.before.before.before.requires.1.0, c.clock-of.ensures, c.clock-of.type-inv)
 
 -- the slot that was played, from where both its buffers are back
@@ -24,16 +24,16 @@ abbrev playing : tie.After-slice-known4 → tie.After-play-slot
 playing c = c.before.before.before.before
 
 -- the sizes of a block
-sizes : (c : tie.After-count) → (c.count.given.0.0 ≤ 16) × (c.count.given.0.1.1.0 ≤ 97)
-    × (length c.before.before.read-block.new.1.1.1.1.0 ≡ 96)
+sizes : (c : tie.After-count) → (c.count.given.0.0 ≤ 16) × (c.count.given.0.1.1.0 ≤ 81)
+    × (length c.before.before.read-block.new.1.1.1.0 ≡ 80)
 sizes c =
     let block = c.before.before in
     let read = block.before.before in
     let start = read.before.before.before.before.before in
     let a = start.args in
-    let size = block_size a.engine a.last a.classed a.line a.text.now a.table.now a.out.now
+    let size = block_size a.engine a.last a.line a.text.now a.table.now a.out.now
     start.requires.0 start.requires.1.0 read.clock-of.result read.clock-of.ensures block.read-block.ensures.0 c.count.given.1 in
-    let length = numbers-size a.engine a.last a.classed a.line a.text.now a.table.now a.out.now
+    let length = numbers-size a.engine a.last a.line a.text.now a.table.now a.out.now
     start.requires.0 start.requires.1.0 read.clock-of.result read.clock-of.ensures block.read-block.ensures.0 c.count.given.1
     _ _ block.read-block.ensures.1 refl in
     (size.0, size.1, length)
@@ -55,17 +55,17 @@ play-slot-requires c κs =
     let answer = c.before.before.before.before in
     let read = answer.before.before.before.before in
     let start = read.before.before.before.before.before in
-    let few : start.args.line ≤ 4 + 97 * read.clock-of.result = omega (arith, start.requires.1.0, read.clock-of.ensures) in
+    let few : start.args.line ≤ 3 + 81 * read.clock-of.result = omega (arith, start.requires.1.0, read.clock-of.ensures) in
     (start.requires.0, ((read.clock-of.ensures, few), (((sizes answer).2, (sizes answer).0), start.requires.1.1)))
 
 enum-known-written : tie.Need-enum-known-written
 enum-known-written c = search rules
 
-cast-t31 : tie.Need-overflow_cast-t31
-cast-t31 c = search rules
+cast-t30 : tie.Need-overflow_cast-t30
+cast-t30 c = search rules
 
-add-t32 : tie.Need-overflow_add-t32
-add-t32 c =
+add-t31 : tie.Need-overflow_add-t31
+add-t31 c =
     let answer = (playing c.before.before.before).before.before.before.before.before in
     omega (arith, line-room answer.before.before.before.before, (sizes answer).1)
 
@@ -115,7 +115,7 @@ returns c =
     let block = answer.before.before in
     let read = block.before.before in
     let start = read.before.before.before.before.before in
-    next-ran _ _ _ _ _ _ _ start.pre.0 start.pre.1.0 _ read.clock-of.ensures block.read-block.ensures.0 answer.count.given.1 _ _
+    next-ran _ _ _ _ _ _ start.pre.0 start.pre.1.0 _ read.clock-of.ensures block.read-block.ensures.0 answer.count.given.1 _ _
     block.read-block.ensures.1 refl played.play-slot.ensures c.before.written.given.1
 
 same-length-3 : tie.Need-same-length-3
@@ -131,7 +131,7 @@ returns-2 c =
     let block = answer.before.before in
     let read = block.before.before in
     let start = read.before.before.before.before.before in
-    next-stopped _ _ _ _ _ _ _ start.pre.0 start.pre.1.0 _ read.clock-of.ensures block.read-block.ensures.0 answer.count.given.1 _ _
+    next-stopped _ _ _ _ _ _ start.pre.0 start.pre.1.0 _ read.clock-of.ensures block.read-block.ensures.0 answer.count.given.1 _ _
     block.read-block.ensures.1 refl played.play-slot.ensures c.before.before.written2.given.1 _ _ _ _ c.over.ensures
 
 same-length-5 : tie.Need-same-length-5
@@ -147,7 +147,7 @@ returns-3 c =
     let read = block.before.before in
     let start = read.before.before.before.before.before in
     let size = line-le End read.clock-of.result (fits32-i _ (omega (arith, read.clock-of.type-inv))) in
-    next-end _ _ _ _ _ _ _ start.requires.0 start.requires.1.0 _ read.clock-of.ensures block.read-block.ensures.0 _ _ _ _ _ _
+    next-end _ _ _ _ _ _ start.requires.0 start.requires.1.0 _ read.clock-of.ensures block.read-block.ensures.0 _ _ _ _ _ _
     c.over2.ensures put.before.before.enum_told.given.1
     (wrote-put (omega (arith, size, start.requires.1.1)) (omega (arith, start.well-formed)) put.put-line.ensures)
 
@@ -166,7 +166,7 @@ returns-4 c =
     let read = block.before.before in
     let start = read.before.before.before.before.before in
     let a = start.args in
-    next-bad _ _ _ _ _ _ _ start.requires.0 start.requires.1.0 _ read.clock-of.ensures block.read-block.ensures.0 _ _ _ _ _ _
+    next-bad _ _ _ _ _ _ start.requires.0 start.requires.1.0 _ read.clock-of.ensures block.read-block.ensures.0 _ _ _ _ _ _
     c.over3.ensures told.k.given.1
     (wrote-refusal BadLine (a.line + told.k.given.0.0) (omega (arith, line-room read, put.before)) start.requires.1.1
     (omega (arith, start.well-formed)) put.put-refusal.ensures)
@@ -179,7 +179,7 @@ returns-5 c =
     let block = c.before.before in
     let read = block.before.before in
     let start = read.before.before.before.before.before in
-    next_more _ _ _ _ _ _ _ start.requires.0 start.requires.1.0 _ read.clock-of.ensures block.read-block.ensures.0 c.enum-told2.given.1
+    next_more _ _ _ _ _ _ start.requires.0 start.requires.1.0 _ read.clock-of.ensures block.read-block.ensures.0 c.enum-told2.given.1
 
 pub next_turn_spec : {M : Type 1} → statement M
 next_turn_spec =
@@ -191,8 +191,8 @@ next_turn_spec =
     slice-aggregate-play-slot
     play-slot-requires
     enum-known-written
-    cast-t31
-    add-t32
+    cast-t30
+    add-t31
     enum-known-written-2
     over-requires
     enum_told

@@ -56,7 +56,7 @@ returns c =
     let wrote = wrote-refusal told.refusal.given.0.0 line.Line-of.result (omega (arith, line)) start.requires.1.1.1
     (omega (arith, start.well-formed)) put.put-refusal.ensures in
     slot-stopped a.engine a.table.now start.requires.0 (take a.count made.records-of.result)
-    (arrivals_from a.count a.numbers.now) made.records-of.ensures a.classed a.clock a.line a.out.now
+    (arrivals_from a.count a.numbers.now) made.records-of.ensures a.clock a.line a.out.now
     slot.slot-on.result slot.slot-on.new.1.0 slot.slot-on.new.1.1.1.1.0 slot.slot-on.ensures
     told.refusal.given.1 put.put-refusal.new.0 put.put-refusal.result line.Line-of.result
     line.Line-of.ensures wrote
@@ -77,7 +77,7 @@ returns-2 c =
     let a = start.args in
     let fits = fit32-i a.numbers.now made.before.before.before.shared-slice-known.given in
     slot-ran a.engine a.table.now start.requires.0 (take a.count made.records-of.result)
-    (arrivals_from a.count a.numbers.now) made.records-of.ensures a.classed a.clock a.line a.out.now
+    (arrivals_from a.count a.numbers.now) made.records-of.ensures a.clock a.line a.out.now
     slot.slot-on.result slot.slot-on.new.1.0 slot.slot-on.new.1.1.1.1.0 slot.slot-on.ensures
     (arrivals_from-fits a.count a.numbers.now fits) told.enum_told.given.1 put.put-slot.new.0
     put.put-slot.result put.put-slot.ensures

@@ -54,7 +54,7 @@ enter-requires : tie.Need-enter-requires
 unfolding accepted
 enter-requires c κs =
     let may = c.before.before.before.before.before.requires.0 in
-    rw c.cell-of.ensures (may.sound, ((may.input, may.room), (may.output, may.flow, may.class)))
+    rw c.cell-of.ensures (may.sound, ((may.input, may.room), (may.output, may.flow)))
 
 cast-input : tie.Need-overflow_cast-input
 cast-input c = search rules

@@ -48,7 +48,7 @@ write-entry-requires c κs =
     let ports = ports-below _ start.requires.0 in
     let fits = start.requires.1.1 in (
       (moved.move_up.auto.0 ∙ table-length _ start.requires.0, omega (arith, at.new-place.ensures)),
-      (fits.0, fits.1, fits.2, omega arith, omega arith),
+      (fits.0, fits.1, omega arith, omega arith),
     )
 
 add-write-count : tie.Need-overflow_add-write-count

@@ -5,6 +5,7 @@ use mathlib.Core.Path.{◌≡◌, sym, ◌∙◌}
 use native.Mathlib.Omega.{arith}
 use Rattle.model.specs.Crossbar.{in_list_of}
 use Rattle.layout.specs.Entry.{entry_at, count_in}
+use Rattle.slot_view.proofs.Placed.{decode-record, in_table-number}
 use Rattle.slot_arrival.proofs.Arriving.{place_none, place_found, above_more}
 use Rattle.slot_faults.proofs.Stored.{table-length, ports-below, count-below}
 use Rattle.slot_arrival.proofs.new_place.Statement.{statement}
@@ -46,7 +47,11 @@ in-list-requires c κs =
     let ports = ports-below _ start.requires.0 in
     let few = count-below _ start.requires.0 _ start.requires.1.0 in (
       (table-length _ start.requires.0, omega (arith, start.requires.1.0)),
-      ((omega (arith, start.requires.1.0), flow.flow-word.ensures), start.requires.1.1),
+      (
+        decode-record _ _ start.requires.0 _
+            (in_table-number _ _ start.requires.0 _ _ start.requires.1.0 (omega arith) (omega (arith, c.before.loop.invariant.1))),
+        (omega (arith, start.requires.1.0), flow.flow-word.ensures, start.requires.1.1.0),
+      ),
     )
 
 returns : tie.Need-returns invariant-loop decreases-loop

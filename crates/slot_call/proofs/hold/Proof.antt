@@ -87,7 +87,7 @@ records_ty = slice_ty (ty_ref (named 0) imm (pointee (R.the_row).written))
 
 -- a turn behind the copy of the record
 abbrev stores-it : Body
-stores-it = seq (assign (place 9 []) (op2 (mul unsigned) (copy (place 5 [])) (int w64 24)))
+stores-it = seq (assign (place 9 []) (op2 (mul unsigned) (copy (place 5 [])) (int w64 20)))
     (seq (assign (place 12 []) (addr_of (place 3 [])))
     (seq (assign (place 13 []) (op2 offset (copy (place 12 [])) (copy (place 9 []))))
     (seq (assign (place 13 (deref R'.mir ∷ [])) (rv_opd (copy (place 6 []))))
@@ -99,7 +99,7 @@ record_val = LL.val R.the_type R'.the_laws
 
 -- the array before any record is stored
 none_is : Is R.the_row no_record (record_val no_record ∷ [])
-none_is = LL.owes R.the_type R'.the_laws no_record ((refl, lit< tt), ((refl, lit< tt), ((refl, lit< tt), ((refl, lit< tt), ((refl, lit< tt), ((refl, lit< tt), tt))))))
+none_is = LL.owes R.the_type R'.the_laws no_record ((refl, lit< tt), ((refl, lit< tt), ((refl, lit< tt), ((refl, lit< tt), ((refl, lit< tt), tt)))))
 
 each_none : (n : ℕ) → shadow (each Arrival (R.the_row).own_val (replicate n no_record) (replicate n (record_val no_record)))
 each_none zero = tt
@@ -168,7 +168,7 @@ module _ {M : Type 1} {𝓤 : Ura M} (𝓛 : Logic 𝓤) (at_mem : Memory → SP
   room : (t : Far) → t.n < end → t.n < length t.held
   room t less = omega (arith, t.long)
 
-  spread : (t : Far) → t.n < end → t.n * 24 < 2 ^ 64
+  spread : (t : Far) → t.n < end → t.n * 20 < 2 ^ 64
   spread t less = omega arith
 
   abbrev a : Far → Arrival
@@ -219,8 +219,8 @@ module _ {M : Type 1} {𝓤 : Ura M} (𝓛 : Logic 𝓤) (at_mem : Memory → SP
 
     -- the context once the record has been copied out and the slice is shut
     abbrev Copied : Far → List (Item 𝓤)
-    Copied t = ‵ (flft κ q) ∷ Lent ∷ bare ty_ptr l₁₃ (bare ty_ptr l₁₂ (full R'.mir l₁₁ (aval t) (full ty_ptr l₁₀ (vptr b (place_of 24 o t.n))
-        (full word l₉ (vint w64 (t.n * 24)) (bare ty_bool l₈ (full word l₇ (vint w64 (length ys))
+    Copied t = ‵ (flft κ q) ∷ Lent ∷ bare ty_ptr l₁₃ (bare ty_ptr l₁₂ (full R'.mir l₁₁ (aval t) (full ty_ptr l₁₀ (vptr b (place_of 20 o t.n))
+        (full word l₉ (vint w64 (t.n * 20)) (bare ty_bool l₈ (full word l₇ (vint w64 (length ys))
         (full R'.mir l₆ (aval t) (full word l₅ (vint w64 t.n) (full word l₄ (vint w64 end) (Kept t []))))))))))
 
     stores : (t : Far) → t.n < end → Is R.the_row (a t) (aval t ∷ []) → Sq 𝓛 (Copied t) (runs C Λ En stores-it (any_q (Turned t)))
@@ -230,16 +230,16 @@ module _ {M : Type 1} {𝓤 : Ura M} (𝓛 : Logic 𝓤) (at_mem : Memory → SP
         assigns ! (bin ! (of-local ! 18 refl) (lit ! tt) (record { fits = spread t less })) (from ! (stop !))
         (store ! 10 refl (tt, record { fits = spread t less })) $ inits ! (addr ! (from ! (stop !))) 4 refl (tt, tt) $
         inits ! (bin ! (of-local ! 4 refl) (of-local ! 10 refl) tt) 2 refl (tt, tt) $
-        rewrite ! 2 (λ (p : ℕ). ‵ (fat full_share ty_ptr l₁₃ 0 (vptr l₃ p))) (sym (place_is 24 0 t.n)) refl $
+        rewrite ! 2 (λ (p : ℕ). ‵ (fat full_share ty_ptr l₁₃ 0 (vptr l₃ p))) (sym (place_is 20 0 t.n)) refl $
         -- what stands there is taken out of the array, and the record is put in
         move ! (22 ∷ []) $
         elem_out ! R.the_row (Is R.the_row) (shows 𝓛 R.the_row) (LL.vals R.the_type R'.the_laws) (LL.tells R.the_type R'.the_laws) full_share t.held
-        t.n no_record l₃ 0 (room t less) (λ gh. use1 𝓛 (‵ (fat full_share R'.mir l₃ (place_of 24 0 t.n) (record_val (get_or t.held t.n no_record))))
-        (𝓛.laws.raw_at full_share R'.mir l₃ (place_of 24 0 t.n) (record_val (get_or t.held t.n no_record))) $
+        t.n no_record l₃ 0 (room t less) (λ gh. use1 𝓛 (‵ (fat full_share R'.mir l₃ (place_of 20 0 t.n) (record_val (get_or t.held t.n no_record))))
+        (𝓛.laws.raw_at full_share R'.mir l₃ (place_of 20 0 t.n) (record_val (get_or t.held t.n no_record))) $
         -- [the record's cell; what it owns; the other records; the token; the borrow; _13; …]
         assigns ! (of_opd ! (of-local ! 19 refl)) (from ! (hop ! (look ! 5 refl) (stop !))) (store ! 0 refl
         ((LL.lawful R.the_type R'.the_laws 𝓛).typed (a t) _ ga).0) $
-        use1 𝓛 (‵ (cell_at full_share (R.the_row).mir (aval t ∷ []) l₃ (place_of 24 0 t.n))) (𝓛.laws.at_raw full_share R'.mir l₃ (place_of 24 0 t.n)
+        use1 𝓛 (‵ (cell_at full_share (R.the_row).mir (aval t ∷ []) l₃ (place_of 20 0 t.n))) (𝓛.laws.at_raw full_share R'.mir l₃ (place_of 20 0 t.n)
         (aval t)) $ move ! (1 ∷ []) $ drop ! $ owned ! R.the_row (Is R.the_row) ((LL.makes R.the_type R'.the_plain) 𝓛) (a t) (aval t ∷ []) ga $
         move ! (1 ∷ 0 ∷ []) $ elem_put ! R.the_row full_share t.held t.n (a t) (aval t ∷ []) l₃ 0 (room t less) $
         -- [the array; the token; the borrow; _13; …]
@@ -256,18 +256,18 @@ module _ {M : Type 1} {𝓤 : Ura M} (𝓛 : Logic 𝓤) (at_mem : Memory → SP
         inits ! (bin ! (of-local ! 16 refl) (lit ! tt) (record { fits = spread t (ltb-true _ _ less) })) 8 refl
         (tt, record { fits = spread t (ltb-true _ _ less) }) $
         inits ! (bin ! (load ! (from ! (fld ! refl (stop !))) (look_in ! 24 (sub ! 0 refl (whole !)))) (of-local ! 8 refl) tt) 6 refl (tt, tt) $
-        rewrite ! 6 (λ (p : ℕ). ‵ (fat full_share ty_ptr l₁₀ 0 (vptr b p))) (sym (place_is 24 o t.n)) refl $
+        rewrite ! 6 (λ (p : ℕ). ‵ (fat full_share ty_ptr l₁₀ 0 (vptr b p))) (sym (place_is 20 o t.n)) refl $
         -- the slice is looked into, and the record copied out
         move ! (29 ∷ 28 ∷ []) $
         looks_slice ! tt R.the_row (Is R.the_row) (shows 𝓛 R.the_row) (LL.vals R.the_type R'.the_laws) (LL.tells R.the_type R'.the_laws)
         (LL.copy R.the_type R'.the_copy 𝓛) ys b o (λ s.
         elem_out ! R.the_row (Is R.the_row) (shows 𝓛 R.the_row) (LL.vals R.the_type R'.the_laws) (LL.tells R.the_type R'.the_laws) s ys t.n no_record b o
         (inside t (ltb-true _ _ less)) (λ ga.
-        use1 𝓛 (‵ (fat s R'.mir b (place_of 24 o t.n) (aval t))) (𝓛.laws.raw_at s R'.mir b (place_of 24 o t.n) (aval t)) $
+        use1 𝓛 (‵ (fat s R'.mir b (place_of 20 o t.n) (aval t))) (𝓛.laws.raw_at s R'.mir b (place_of 20 o t.n) (aval t)) $
         -- [the record's cell; what it owns; the other records; what shuts; the borrow; _13; …]
         inits ! (of_opd ! (load ! (from ! (hop ! (look ! 11 refl) (stop !))) (look ! 0 refl))) 9 refl
         ((LL.lawful R.the_type R'.the_laws 𝓛).typed (a t) _ ga).0 $
-        use1 𝓛 (‵ (cell_at s (R.the_row).mir (aval t ∷ []) b (place_of 24 o t.n))) (𝓛.laws.at_raw s R'.mir b (place_of 24 o t.n) (aval t)) $
+        use1 𝓛 (‵ (cell_at s (R.the_row).mir (aval t ∷ []) b (place_of 20 o t.n))) (𝓛.laws.at_raw s R'.mir b (place_of 20 o t.n) (aval t)) $
         elem_back ! R.the_row s ys t.n no_record (aval t ∷ []) b o (inside t (ltb-true _ _ less)) $ shuts_slice ! tt R.the_row s ys b o $
         inits ! (of_opd ! (of-local ! 6 refl)) 16 refl ((LL.lawful R.the_type R'.the_laws 𝓛).typed (a t) _ ga).0 $ stores t (ltb-true _ _ less) ga))
 
@@ -306,8 +306,7 @@ module _ {M : Type 1} {𝓤 : Ura M} (𝓛 : Logic 𝓤) (at_mem : Memory → SP
     -- the array of no records, and how many are copied
     counts : Triple 𝓤 (C #layout_arrivals·few) (FewC 𝓛 at_mem run) → Sq 𝓛 Entered (runs C Λ En mir.t-1 (at_ret En Post))
     counts known-few =
-        inits ! (agg ! (and_then ! (lit ! tt) (and_then ! (lit ! tt) (and_then ! (lit ! tt) (and_then ! (lit ! tt) (and_then ! (lit ! tt) (and_then ! (lit ! tt)
-        (no_more !))))))))
+        inits ! (agg ! (and_then ! (lit ! tt) (and_then ! (lit ! tt) (and_then ! (lit ! tt) (and_then ! (lit ! tt) (and_then ! (lit ! tt) (no_more !)))))))
         22 refl ((LL.lawful R.the_type R'.the_laws 𝓛).typed no_record _ none_is).0 $
         inits ! (rep ! 17 (of-local ! 22 refl)) 20 refl (records-typed {𝓛 = 𝓛} nones _ nones-are) $
         inits ! (of_opd ! (load ! (from ! (fld ! refl (stop !))) (look_in ! 24 (sub ! 1 refl (whole !))))) 12 refl (tt, record { fits = gy.0 }) $

@@ -26,7 +26,7 @@ mul-result-2 c = search rules
 index-1-result : tie.Need-bounds-1-result
 index-1-result c =
     let start = c.before.before in
-    omega (arith, c.output-of.ensures, cell-output start.requires.0.known start.requires.1)
+    omega (arith, c.output-of.ensures, cell-output start.requires.0 start.requires.1)
 
 index-2-result : tie.Need-bounds-2-result
 index-2-result c = search rules
@@ -35,7 +35,7 @@ returns : tie.Need-returns
 returns c =
     let output = c.before in
     let start = output.before.before in
-    ready-is start.requires.0.known start.requires.1 output.output-of.ensures
+    ready-is start.requires.0 start.requires.1 output.output-of.ensures
 
 pub is_ready_spec : {M : Type 1} → statement M
 is_ready_spec =

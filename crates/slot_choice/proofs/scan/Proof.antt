@@ -19,16 +19,16 @@ use Rattle.slot_choice.proofs.scan.Statement.{statement}
 use Rattle.slot_choice.proofs.scan.Tie as tie
 
 abbrev invariant-loop : tie.invariant-loop
-invariant-loop table heads cross keys best least input urgent₀ left₀ urgent left = Early table input urgent left
+invariant-loop table heads keys best least input urgent₀ left₀ urgent left = Early table input urgent left
 
 abbrev decreases-loop : tie.decreases-loop
-decreases-loop table heads cross keys best least input urgent₀ left₀ urgent left = left
+decreases-loop table heads keys best least input urgent₀ left₀ urgent left = left
 
 abbrev invariant-loop2 : tie.invariant-loop2
-invariant-loop2 table heads cross keys best least input urgent₀ left₀ scheduled urgent left = Walked table input urgent left
+invariant-loop2 table heads keys best least input urgent₀ left₀ scheduled urgent left = Walked table input urgent left
 
 abbrev decreases-loop2 : tie.decreases-loop2
-decreases-loop2 table heads cross keys best least input urgent₀ left₀ scheduled urgent left = left
+decreases-loop2 table heads keys best least input urgent₀ left₀ scheduled urgent left = left
 
 ------------------------------------------------------------------------
 -- up to the first ready head
@@ -76,7 +76,7 @@ first-requires : tie.Need-first-requires invariant-loop decreases-loop invariant
 first-requires c κs = search rules
 
 is-ready-requires : tie.Need-is-ready-requires invariant-loop decreases-loop invariant-loop2 decreases-loop2
-is-ready-requires c κs = (record { cross = _; known = c.before.before.before.before.requires.0.known }, here c)
+is-ready-requires c κs = (c.before.before.before.before.requires.0.known, here c)
 
 rest-requires : tie.Need-rest-requires invariant-loop decreases-loop invariant-loop2 decreases-loop2
 rest-requires c κs = some c.before.before.before
@@ -200,18 +200,18 @@ loop2-again c =
 ------------------------------------------------------------------------
 -- at the end
 
-mul-t55 : tie.Need-overflow_mul-t55 invariant-loop decreases-loop invariant-loop2 decreases-loop2
-mul-t55 c =
+mul-t52 : tie.Need-overflow_mul-t52 invariant-loop decreases-loop invariant-loop2 decreases-loop2
+mul-t52 c =
     let start = c.before.before.before.before.before.before.before in
     omega (arith, start.requires.1.0, start.requires.0.known.readable.ports)
 
-add-t57 : tie.Need-overflow_add-t57 invariant-loop decreases-loop invariant-loop2 decreases-loop2
-add-t57 c =
+add-t54 : tie.Need-overflow_add-t54 invariant-loop decreases-loop invariant-loop2 decreases-loop2
+add-t54 c =
     let start = c.before.before.before.before.before.before.before in
     omega (arith, start.requires.1.0, start.requires.0.known.readable.ports, c.if2.true)
 
-cast-t53 : tie.Need-overflow_cast-t53 invariant-loop decreases-loop invariant-loop2 decreases-loop2
-cast-t53 c =
+cast-t50 : tie.Need-overflow_cast-t50 invariant-loop decreases-loop invariant-loop2 decreases-loop2
+cast-t50 c =
     let start = c.before.before.before.before.before.before.before in
     omega (arith, start.requires.1.0, start.requires.0.known.readable.ports, c.if2.true)
 
@@ -253,8 +253,8 @@ scan_spec =
     with-if-requires-2
     loop2-less
     loop2-again
-    mul-t55
-    add-t57
-    cast-t53
+    mul-t52
+    add-t54
+    cast-t50
     returns
     returns-2)

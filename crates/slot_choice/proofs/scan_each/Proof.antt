@@ -9,12 +9,11 @@ use Rattle.slot_choice.proofs.scan_each.Statement.{statement}
 use Rattle.slot_choice.proofs.scan_each.Tie as tie
 
 abbrev invariant-loop : tie.invariant-loop
-invariant-loop table heads cross keys best least scheduled₀ urgent₀ some₀ ports input₀ scheduled urgent some input =
+invariant-loop table heads keys best least scheduled₀ urgent₀ some₀ ports input₀ scheduled urgent some input =
     (input ≤ ports) × ScannedTo table input scheduled urgent some
 
 abbrev decreases-loop : tie.decreases-loop
-decreases-loop table heads cross keys best least scheduled₀ urgent₀ some₀ ports input₀ scheduled urgent some input =
-    ports - input
+decreases-loop table heads keys best least scheduled₀ urgent₀ some₀ ports input₀ scheduled urgent some input = ports - input
 
 ports-of-requires : tie.Need-ports-of-requires invariant-loop decreases-loop
 ports-of-requires c κs = search rules

@@ -9,7 +9,7 @@ use Rattle.slot_view.specs.CodeViewed.{Buffered}
 use Rattle.slot_view.specs.CodeScan.{Readable}
 use Rattle.slot_view.proofs.Own.{table-readable}
 use Rattle.slot_view.proofs.Window.{in_table-below}
-use Rattle.slot_loading.proofs.Buffers.{held-inside, best-choose, picked-came}
+use Rattle.slot_loading.proofs.Buffers.{best-choose, picked-came}
 use Rattle.slot_loading.proofs.choose_cell.Statement.{statement}
 use Rattle.slot_loading.proofs.choose_cell.Tie as tie
 
@@ -56,17 +56,11 @@ element-copy-out-rival c = column c.before.before
 is-better-requires : tie.Need-is-better-requires
 is-better-requires c κs =
     let keyed = c.before.before in
-    let output = keyed.before in
-    let start = output.before.before in
-    let a = start.args in (
+    let start = keyed.before.before.before in (
       start.requires.0,
       (
-        (
-          start.requires.1.0.entry,
-          held-inside a.table.now start.requires.0 a.k output.output-of.result (cell output) a.best.now
-              a.rivals.now start.requires.1.1,
-        ),
-        (keyed.key_of.ensures, start.requires.1.1.keys output.output-of.result (column output)),
+        start.requires.1.0.entry,
+        (keyed.key_of.ensures, start.requires.1.1.keys keyed.before.output-of.result (column keyed.before)),
       ),
     )
 

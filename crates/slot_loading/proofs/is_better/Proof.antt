@@ -16,7 +16,7 @@ returns c =
     let start = c.before.before in
     let a = start.args in
     let pre = start.requires in
-    better-key a.table.now pre.0 a.k a.held pre.1.0.0 pre.1.0.1
+    better-key a.table.now pre.0 a.k a.held pre.1.0
     (λ e. c.if1.true (pre.1.1.0 ∙ e ∙ sym pre.1.1.1))
     ∙ ap (λ b. cond b a.k a.held) (sym (ap₂ ltb pre.1.1.0 pre.1.1.1))
 
@@ -26,7 +26,7 @@ held_below c =
     let start = c.before.before in
     let a = start.args in
     let pre = start.requires in
-    key-held a.table.now pre.0 a.k a.held pre.1.0.0 (sym pre.1.1.0 ∙ c.if1.false ∙ pre.1.1.1)
+    key-held a.table.now pre.0 a.k a.held pre.1.0 (sym pre.1.1.0 ∙ c.if1.false ∙ pre.1.1.1)
 
 goes-first-requires : tie.Need-goes-first-requires
 goes-first-requires c κs =
@@ -34,11 +34,8 @@ goes-first-requires c κs =
     let a = start.args in
     let pre = start.requires in
     let readable = table-readable a.table.now pre.0 in (
-      (readable.size, in_table-below readable pre.1.0.0, held_below c),
-      (
-        (readable.early a.k pre.1.0.0, readable.early a.held (pre.1.0.1 (held_below c))),
-        (pre.1.1.0, pre.1.1.1 ∙ key_at-cell a.table.now a.held (held_below c)),
-      ),
+      (readable.size, in_table-below readable pre.1.0, held_below c),
+      (pre.1.1.0, pre.1.1.1 ∙ key_at-cell a.table.now a.held (held_below c)),
     )
 
 returns-2 : tie.Need-returns-2
@@ -46,7 +43,7 @@ returns-2 c =
     let start = c.before.before.before in
     let a = start.args in
     let pre = start.requires in
-    better-order a.table.now pre.0 a.k a.held pre.1.0.0 (held_below c.before) c.goes_first.result
+    better-order a.table.now pre.0 a.k a.held pre.1.0 (held_below c.before) c.goes_first.result
     c.goes_first.ensures
 
 pub is_better_spec : {M : Type 1} → statement M

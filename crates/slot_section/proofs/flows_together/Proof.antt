@@ -7,7 +7,7 @@ use native.Mathlib.Omega.{arith}
 use borrow.Author.Rules.{rules}
 use Rattle.sets.specs.Sets.{first_of}
 use Rattle.sets.proofs.Members.{first-position, rest-less}
-use Rattle.cell.specs.Order.{key_in_class}
+use Rattle.cell.specs.Order.{key}
 use Rattle.model.specs.State.{Entry}
 use Rattle.layout.specs.Entry.{entry_at}
 use Rattle.slot_section.specs.Code.{entries_in}
@@ -72,8 +72,8 @@ flow-number-requires c κs =
       rw c.first.ensures ranges,
     )
 
-key-in-class-of-requires : tie.Need-key-in-class-of-requires invariant-loop decreases-loop
-key-in-class-of-requires c κs =
+key-of-requires : tie.Need-key-of-requires invariant-loop decreases-loop
+key-of-requires c κs =
     let start = c.before.before.before.before.before in
     (start.requires.0.0, omega (arith, position c.before.before, c.before.first.ensures))
 
@@ -113,11 +113,11 @@ loop-again c =
     let flow : number.flow-number.result ≡ flow_number (entry_at a.bytes.now (a.first + first_of l.left)) =
     number.flow-number.ensures.0
     ∙ ap (λ j. flow_number (entry_at a.bytes.now (a.first + j))) at.first.ensures in
-    let first : keyed.key-in-class-of.result ≡ key_in_class (entry_at a.bytes.now (a.first + first_of l.left)).cell =
-    keyed.key-in-class-of.ensures ∙ ap (λ j. key_in_class (entry_at a.bytes.now (a.first + j)).cell) at.first.ensures in
+    let first : keyed.key_of.result ≡ key (entry_at a.bytes.now (a.first + first_of l.left)).cell =
+    keyed.key_of.ensures ∙ ap (λ j. key (entry_at a.bytes.now (a.first + j)).cell) at.first.ensures in
     rw (broken.breaks-flow.ensures, c.before.with-if.ensures, at.first.ensures, c.rest.ensures)
     (flows-next _ _ _ _ _ _ _ _ _ _ l.invariant (some in-loop) (good in-loop) number.flow-number.result
-    keyed.key-in-class-of.result flow number.flow-number.ensures.1 first)
+    keyed.key_of.result flow number.flow-number.ensures.1 first)
 
 returns : tie.Need-returns invariant-loop decreases-loop
 returns c =
@@ -139,7 +139,7 @@ flows_together_spec =
     first-requires
     add-k
     flow-number-requires
-    key-in-class-of-requires
+    key-of-requires
     element-copy-out-met
     breaks-flow-requires
     with-if-requires

@@ -1,4 +1,4 @@
--- Its lines are those of a departure.
+-- Its five lines are those of a departure.
 use borrow.Author.Rules.{rules}
 use Rattle.trace.specs.Lines.{departure_text}
 use Rattle.trace_line_writer.proofs.put_departure.Statement.{statement}

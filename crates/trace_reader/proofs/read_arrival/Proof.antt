@@ -1,19 +1,13 @@
 -- `trace_reader::read_arrival` meets its contract: each `return` is the line at which the arrival ends. Assumes nothing.
-use Prim.Native.Nat.{ℕ, ◌+◌, ◌-◌, ◌≤◌}
+use Prim.Native.Nat.{ℕ, ◌+◌, ◌^◌, ◌<◌}
 use native.Mathlib.Omega.{arith}
 use mathlib.Core.List.{List}
-use mathlib.Core.Logic.{⊎_elim}
-use mathlib.Core.Path.{◌≡◌, sym, ap, ◌∙◌}
-use lib.ListN.{length}
-use Rattle.trace.specs.declared.Key.TheVariants.{In, Out, Flow, Class, Rank, Tag}
-use Rattle.trace.specs.Contents.{record_lines}
-use Rattle.trace.specs.Reader.{from, got, class_number}
+use mathlib.Core.Path.{sym, ap, ◌∙◌}
+use Rattle.trace.specs.declared.Key.TheVariants.{In, Out, Flow, Rank, Tag}
 use Rattle.trace_reader.specs.declared.Came.TheVariants.{Bad}
 use Rattle.trace_line_reader.proofs.Lines.{rest, Taken, taken, number-bad}
-use Rattle.trace_reader.proofs.Arrivals.{came_of-bad, came_of-whole, record_lines-range}
-use Rattle.trace_reader.proofs.Arrivals.{class-bad, class-one, class-none}
-use Rattle.trace_reader.proofs.Arrivals.{arrival-bad-in, arrival-bad-out, arrival-bad-flow, arrival-bad-class}
-use Rattle.trace_reader.proofs.Arrivals.{arrival-bad-rank, arrival-bad-tag, arrival-whole}
+use Rattle.trace_reader.proofs.Arrivals.{came_of-bad, came_of-whole, arrival-bad-in, arrival-bad-out}
+use Rattle.trace_reader.proofs.Arrivals.{arrival-bad-flow, arrival-bad-rank, arrival-bad-tag, arrival-whole}
 use borrow.Author.Rules.{rules}
 use Rattle.trace_reader.proofs.read_arrival.Statement.{statement}
 use Rattle.trace_reader.proofs.read_arrival.Tie as tie
@@ -28,6 +22,12 @@ back₂ c = c.before.before.before.before.before
 
 abbrev back₃ : tie.After-known-told3 → tie.After-known-told2
 back₃ c = c.before.before.before.before.before
+
+abbrev back₄ : tie.After-known-told4 → tie.After-known-told3
+back₄ c = c.before.before.before.before.before
+
+abbrev back₅ : tie.After-known-told5 → tie.After-known-told4
+back₅ c = c.before.before.before.before.before
 
 -- the line that is next there, and the text that is left
 
@@ -49,6 +49,12 @@ line₃ c = line₂ (back₃ c) + 1
 abbrev left₃ : tie.After-known-told3 → List ℕ
 left₃ c = rest (left₂ (back₃ c)) c.before.flow.given.0.1.0
 
+abbrev line₄ : tie.After-known-told4 → ℕ
+line₄ c = line₃ (back₄ c) + 1
+
+abbrev left₄ : tie.After-known-told4 → List ℕ
+left₄ c = rest (left₃ (back₄ c)) c.before.rank.given.0.1.0
+
 -- the lines that were read
 
 taken₁ : (c : tie.After-known-told)
@@ -63,87 +69,34 @@ taken₃ : (c : tie.After-known-told3)
     → Taken Flow (line₂ (back₃ c)) (left₂ (back₃ c)) c.before.flow.given.0.0 c.before.flow.given.0.1.0
 taken₃ c = taken Flow _ _ c.before.before.before.read-line3.ensures c.before.flow.given.1
 
-------------------------------------------------------------------------
--- the line of the class, in the second form
-
 taken₄ : (c : tie.After-known-told4)
-    → let p₃ = c.before.before.before.before.before.before in
-    Taken Class (line₃ p₃) (left₃ p₃) c.before.number.given.0.0 c.before.number.given.0.1.0
-taken₄ c = taken Class _ _ c.before.before.before.read-line4.ensures c.before.number.given.1
-
--- where the forms meet again: the next line, and the class that was read or is 0
-abbrev line₄ : tie.Joined1 → ℕ
-line₄ c =
-    let a = (back₁ (back₂ (back₃ c.before.before))).args in
-    a.line + 3 + record_lines a.classed - 5
-
-abbrev left₄ : tie.Joined1 → List ℕ
-left₄ c = c.if1.rest.now
-
-classes : (c : tie.Joined1)
-    → let p₃ = c.before.before in
-    (class_number (back₁ (back₂ (back₃ p₃))).args.classed (from (line₃ p₃) (left₃ p₃))
-    ≡ got c.if1.class (from (line₄ c) (left₄ c)))
-    × (length (left₄ c) ≤ length (left₃ p₃))
-classes c =
-    let p₃ = c.before.before in
-    ⊎_elim
-    (λ w.
-    let p₄ : tie.After-known-told4 = record {
-      before = record {
-        before = record {
-          before = record { before = record { before = c.before; if1 = w.0 }; read-line4 = w.1 };
-          match4 = w.2;
-        };
-        number = w.3;
-      };
-      known-told4 = w.4;
-    } in
-    let t = taken₄ p₄ in
-    let e : left₄ c ≡ rest (left₃ p₃) w.3.given.0.1.0 = ap (λ x. x.now) w.6 in (
-      class-one (line₃ p₃) (line₄ c) (left₃ p₃) _ w.0.taken t.read (omega arith) w.7 e,
-      omega (arith, t.left, ap length e),
-    ))
-    (λ w.
-    let e : left₄ c ≡ left₃ p₃ = ap (λ x. x.now) w.1 in
-    (class-none (line₃ p₃) (line₄ c) (left₃ p₃) _ w.0.left (omega arith) w.2 e, omega (arith, ap length e)))
-    c.if1.branch
-
-------------------------------------------------------------------------
--- the last two lines
-
-abbrev back₅ : tie.After-known-told5 → tie.Joined1
-back₅ c = c.before.before.before.before
-
-abbrev back₆ : tie.After-known-told6 → tie.After-known-told5
-back₆ c = c.before.before.before.before.before
-
-abbrev left₅ : tie.After-known-told5 → List ℕ
-left₅ c = rest (left₄ (back₅ c)) c.before.rank.given.0.1.0
-
-abbrev left₆ : tie.After-known-told6 → List ℕ
-left₆ c = rest (left₅ (back₆ c)) c.before.tag.given.0.1.0
+    → Taken Rank (line₃ (back₄ c)) (left₃ (back₄ c)) c.before.rank.given.0.0 c.before.rank.given.0.1.0
+taken₄ c = taken Rank _ _ c.before.before.before.read-line4.ensures c.before.rank.given.1
 
 taken₅ : (c : tie.After-known-told5)
-    → Taken Rank (line₄ (back₅ c)) (left₄ (back₅ c)) c.before.rank.given.0.0 c.before.rank.given.0.1.0
-taken₅ c = taken Rank _ _ c.before.before.before.read-line5.ensures c.before.rank.given.1
+    → Taken Tag (line₄ (back₅ c)) (left₄ (back₅ c)) c.before.tag.given.0.0 c.before.tag.given.0.1.0
+taken₅ c = taken Tag _ _ c.before.before.before.read-line5.ensures c.before.tag.given.1
 
-taken₆ : (c : tie.After-known-told6)
-    → Taken Tag (line₄ (back₅ (back₆ c)) + 1) (left₅ (back₆ c)) c.before.tag.given.0.0 c.before.tag.given.0.1.0
-taken₆ c = taken Tag _ _ c.before.before.before.read-line6.ensures c.before.tag.given.1
-
--- they are within the text
-shorter : (c : tie.After-known-told6)
-    → length (left₆ c) ≤ length (back₁ (back₂ (back₃ (back₅ (back₆ c)).before.before))).args.text.now
-shorter c =
-    let p₅ = back₆ c in
-    let j = back₅ p₅ in
-    let p₃ = j.before.before in
+-- the five lines are within the text
+abbrev total : tie.After-known-told5 → ℕ
+total c =
+    let p₄ = back₅ c in
+    let p₃ = back₄ p₄ in
     let p₂ = back₃ p₃ in
     let p₁ = back₂ p₂ in
-    omega (arith, (taken₁ p₁).left, (taken₂ p₂).left, (taken₃ p₃).left, (classes j).1, (taken₅ p₅).left, (taken₆ c).left)
+    p₁.before.input.given.0.1.0
+    + p₂.before.output.given.0.1.0
+    + p₃.before.flow.given.0.1.0
+    + p₄.before.rank.given.0.1.0
+    + c.before.tag.given.0.1.0
 
-------------------------------------------------------------------------
+total-fits : (c : tie.After-known-told5) → total c < 2 ^ 64
+total-fits c =
+    let p₄ = back₅ c in
+    let p₃ = back₄ p₄ in
+    let p₂ = back₃ p₃ in
+    let p₁ = back₂ p₂ in
+    omega (arith, (back₁ p₁).good, taken₁ p₁, taken₂ p₂, taken₃ p₃, taken₄ p₄, taken₅ c)
 
 read-line-requires : tie.Need-read-line-requires
 read-line-requires c κs = search rules
@@ -156,7 +109,7 @@ enum_told c = search rules
 
 returns : tie.Need-returns
 returns c =
-    sym (came_of-bad _ (arrival-bad-in _ _ (number-bad In _ _ c.before.before.read-line.ensures c.enum_told.given.1)))
+    sym (came_of-bad _ (arrival-bad-in _ (number-bad In _ _ c.before.before.read-line.ensures c.enum_told.given.1)))
 
 sub-after-in : tie.Need-overflow_sub-after-in
 sub-after-in c = (taken₁ c).within
@@ -176,14 +129,14 @@ enum-known-output c = search rules
 enum-told-2 : tie.Need-enum-told-2
 enum-told-2 c = search rules
 
-add-t29 : tie.Need-overflow_add-t29
-add-t29 c = search rules
+add-t24 : tie.Need-overflow_add-t24
+add-t24 c = search rules
 
 returns-2 : tie.Need-returns-2
 returns-2 c =
     let p₁ = c.before.before.before.before in
     let b = number-bad Out _ (left₁ p₁) c.before.before.read-line2.ensures c.enum-told2.given.1 in
-    sym (came_of-bad _ (arrival-bad-out _ _ (taken₁ p₁).read b))
+    sym (came_of-bad _ (arrival-bad-out _ (taken₁ p₁).read b))
 
 sub-after-out : tie.Need-overflow_sub-after-out
 sub-after-out c = (taken₂ c).within
@@ -203,8 +156,8 @@ enum-known-flow c = search rules
 enum-told-3 : tie.Need-enum-told-3
 enum-told-3 c = search rules
 
-add-t33 : tie.Need-overflow_add-t33
-add-t33 c = search rules
+add-t28 : tie.Need-overflow_add-t28
+add-t28 c = search rules
 
 returns-3 : tie.Need-returns-3
 returns-3 c =
@@ -212,157 +165,91 @@ returns-3 c =
     let p₁ = back₂ p₂ in
     let b = number-bad Flow _ (left₂ p₂) c.before.before.read-line3.ensures c.enum-told3.given.1 in
     ap Bad (omega arith)
-    ∙ sym (came_of-bad _ (arrival-bad-flow _ _ (taken₁ p₁).read (taken₂ p₂).read b))
+    ∙ sym (came_of-bad _ (arrival-bad-flow _ (taken₁ p₁).read (taken₂ p₂).read b))
 
-sub-rest : tie.Need-overflow_sub-rest
-sub-rest c = (taken₃ c).within
+sub-after-flow : tie.Need-overflow_sub-after-flow
+sub-after-flow c = (taken₃ c).within
 
-part-rest-start : tie.Need-slice-bounds-rest-start
-part-rest-start c = (taken₃ c).within
+part-after-flow-start : tie.Need-slice-bounds-after-flow-start
+part-after-flow-start c = (taken₃ c).within
 
-part-rest-end : tie.Need-slice-bounds-rest-end
-part-rest-end c = search rules
+part-after-flow-end : tie.Need-slice-bounds-after-flow-end
+part-after-flow-end c = search rules
 
 read-line-requires-4 : tie.Need-read-line-requires-4
 read-line-requires-4 c κs = search rules
 
-enum-known-number : tie.Need-enum-known-number
-enum-known-number c = search rules
+enum-known-rank : tie.Need-enum-known-rank
+enum-known-rank c = search rules
 
 enum-told-4 : tie.Need-enum-told-4
 enum-told-4 c = search rules
 
-add-t39 : tie.Need-overflow_add-t39
-add-t39 c = search rules
+add-t32 : tie.Need-overflow_add-t32
+add-t32 c = search rules
 
 returns-4 : tie.Need-returns-4
 returns-4 c =
-    let branch = c.before.before.before in
-    let p₃ = branch.before.before in
+    let p₃ = c.before.before.before.before in
     let p₂ = back₃ p₃ in
     let p₁ = back₂ p₂ in
-    let b = number-bad Class (line₃ p₃) (left₃ p₃) c.before.before.read-line4.ensures c.enum-told4.given.1 in
+    let b = number-bad Rank _ (left₃ p₃) c.before.before.read-line4.ensures c.enum-told4.given.1 in
     ap Bad (omega arith)
-    ∙ sym
-    (came_of-bad _
-    (arrival-bad-class _ _ (taken₁ p₁).read (taken₂ p₂).read (taken₃ p₃).read (class-bad _ _ branch.if1.true b)))
-
-sub-rest-2 : tie.Need-overflow_sub-rest-2
-sub-rest-2 c = (taken₄ c).within
-
-part-rest-start-2 : tie.Need-slice-bounds-rest-start-2
-part-rest-start-2 c = (taken₄ c).within
-
-part-rest-end-2 : tie.Need-slice-bounds-rest-end-2
-part-rest-end-2 c = search rules
-
-read-line-requires-5 : tie.Need-read-line-requires-5
-read-line-requires-5 c κs = search rules
-
-enum-known-rank : tie.Need-enum-known-rank
-enum-known-rank c = search rules
-
-enum-told-5 : tie.Need-enum-told-5
-enum-told-5 c = search rules
-
-record-lines-requires : tie.Need-record-lines-requires
-record-lines-requires c κs = search rules
-
-add-t45 : tie.Need-overflow_add-t45
-add-t45 c =
-    let start = back₁ (back₂ (back₃ c.before.before.before.before.before.before)) in
-    omega (arith, c.record-lines.ensures, record_lines-range start.args.classed, start.pre)
-
-sub-t46 : tie.Need-overflow_sub-t46
-sub-t46 c =
-    let start = back₁ (back₂ (back₃ c.before.before.before.before.before.before)) in
-    omega (arith, c.record-lines.ensures, record_lines-range start.args.classed)
-
-returns-5 : tie.Need-returns-5
-returns-5 c =
-    let joined = c.before.before.before.before in
-    let p₃ = joined.before.before in
-    let p₂ = back₃ p₃ in
-    let p₁ = back₂ p₂ in
-    let start = back₁ p₁ in
-    let b = number-bad Rank (line₄ joined) (left₄ joined) c.before.before.before.read-line5.ensures
-    c.before.enum-told5.given.1 in
-    ap Bad (omega (arith, c.record-lines.ensures, record_lines-range start.args.classed))
-    ∙ sym
-    (came_of-bad _
-    (arrival-bad-rank _ _ (taken₁ p₁).read (taken₂ p₂).read (taken₃ p₃).read (classes joined).0 b))
+    ∙ sym (came_of-bad _ (arrival-bad-rank _ (taken₁ p₁).read (taken₂ p₂).read (taken₃ p₃).read b))
 
 sub-after-rank : tie.Need-overflow_sub-after-rank
-sub-after-rank c = (taken₅ c).within
+sub-after-rank c = (taken₄ c).within
 
 part-after-rank-start : tie.Need-slice-bounds-after-rank-start
-part-after-rank-start c = (taken₅ c).within
+part-after-rank-start c = (taken₄ c).within
 
 part-after-rank-end : tie.Need-slice-bounds-after-rank-end
 part-after-rank-end c = search rules
 
-read-line-requires-6 : tie.Need-read-line-requires-6
-read-line-requires-6 c κs = search rules
+read-line-requires-5 : tie.Need-read-line-requires-5
+read-line-requires-5 c κs = search rules
 
 enum-known-tag : tie.Need-enum-known-tag
 enum-known-tag c = search rules
 
-enum-told-6 : tie.Need-enum-told-6
-enum-told-6 c = search rules
+enum-told-5 : tie.Need-enum-told-5
+enum-told-5 c = search rules
 
-record-lines-requires-2 : tie.Need-record-lines-requires-2
-record-lines-requires-2 c κs = search rules
+add-t36 : tie.Need-overflow_add-t36
+add-t36 c = omega (arith, (back₁ (back₂ (back₃ (back₄ c.before.before.before.before)))).requires)
 
-add-t51 : tie.Need-overflow_add-t51
-add-t51 c =
-    let start = back₁ (back₂ (back₃ (back₅ c.before.before.before.before.before).before.before)) in
-    omega (arith, c.record-lines2.ensures, record_lines-range start.args.classed, start.pre)
+returns-5 : tie.Need-returns-5
+returns-5 c =
+    let p₄ = c.before.before.before.before in
+    let p₃ = back₄ p₄ in
+    let p₂ = back₃ p₃ in
+    let p₁ = back₂ p₂ in
+    let b = number-bad Tag _ (left₄ p₄) c.before.before.read-line5.ensures c.enum-told5.given.1 in
+    ap Bad (omega arith)
+    ∙ sym (came_of-bad _ (arrival-bad-tag _ (taken₁ p₁).read (taken₂ p₂).read (taken₃ p₃).read (taken₄ p₄).read b))
 
-sub-t52 : tie.Need-overflow_sub-t52
-sub-t52 c =
-    let start = back₁ (back₂ (back₃ (back₅ c.before.before.before.before.before).before.before)) in
-    omega (arith, c.record-lines2.ensures, record_lines-range start.args.classed)
+add-t21 : tie.Need-overflow_add-t21
+add-t21 c = omega (arith, total-fits c)
+
+add-t37 : tie.Need-overflow_add-t37
+add-t37 c = omega (arith, total-fits c)
+
+add-t38 : tie.Need-overflow_add-t38
+add-t38 c = omega (arith, total-fits c)
+
+add-t39 : tie.Need-overflow_add-t39
+add-t39 c = omega (arith, total-fits c)
 
 returns-6 : tie.Need-returns-6
 returns-6 c =
-    let p₅ = c.before.before.before.before.before in
-    let joined = back₅ p₅ in
-    let p₃ = joined.before.before in
-    let p₂ = back₃ p₃ in
-    let p₁ = back₂ p₂ in
-    let start = back₁ p₁ in
-    let b = number-bad Tag (line₄ joined + 1) (left₅ p₅) c.before.before.before.read-line6.ensures
-    c.before.enum-told6.given.1 in
-    ap Bad (omega (arith, c.record-lines2.ensures, record_lines-range start.args.classed))
-    ∙ sym
-    (came_of-bad _
-    (arrival-bad-tag _ _ (taken₁ p₁).read (taken₂ p₂).read (taken₃ p₃).read (classes joined).0 (taken₅ p₅).read b))
-
-sub-after-tag : tie.Need-overflow_sub-after-tag
-sub-after-tag c = (taken₆ c).within
-
-part-after-tag-start : tie.Need-slice-bounds-after-tag-start
-part-after-tag-start c = (taken₆ c).within
-
-part-after-tag-end : tie.Need-slice-bounds-after-tag-end
-part-after-tag-end c = search rules
-
-sub-t56 : tie.Need-overflow_sub-t56
-sub-t56 c = shorter c.before
-
-returns-7 : tie.Need-returns-7
-returns-7 c =
-    let p₆ = c.before in
-    let p₅ = back₆ p₆ in
-    let joined = back₅ p₅ in
-    let p₃ = joined.before.before in
+    let p₄ = back₅ c in
+    let p₃ = back₄ p₄ in
     let p₂ = back₃ p₃ in
     let p₁ = back₂ p₂ in
     sym
     (came_of-whole _
-    (arrival-whole _ _ (taken₁ p₁).read (taken₂ p₂).read (taken₃ p₃).read (classes joined).0 (taken₅ p₅).read
-    (taken₆ p₆).read)
-    (omega (arith, shorter p₆)))
+    (arrival-whole _ (taken₁ p₁).read (taken₂ p₂).read (taken₃ p₃).read (taken₄ p₄).read (taken₅ c).read)
+    (omega (arith, taken₁ p₁, taken₂ p₂, taken₃ p₃, taken₄ p₄, taken₅ c)))
 
 pub read_arrival_spec : {M : Type 1} → statement M
 read_arrival_spec =
@@ -378,7 +265,7 @@ read_arrival_spec =
     read-line-requires-2
     enum-known-output
     enum-told-2
-    add-t29
+    add-t24
     returns-2
     sub-after-out
     part-after-out-start
@@ -386,38 +273,26 @@ read_arrival_spec =
     read-line-requires-3
     enum-known-flow
     enum-told-3
-    add-t33
+    add-t28
     returns-3
-    sub-rest
-    part-rest-start
-    part-rest-end
+    sub-after-flow
+    part-after-flow-start
+    part-after-flow-end
     read-line-requires-4
-    enum-known-number
-    enum-told-4
-    add-t39
-    returns-4
-    sub-rest-2
-    part-rest-start-2
-    part-rest-end-2
-    read-line-requires-5
     enum-known-rank
-    enum-told-5
-    record-lines-requires
-    add-t45
-    sub-t46
-    returns-5
+    enum-told-4
+    add-t32
+    returns-4
     sub-after-rank
     part-after-rank-start
     part-after-rank-end
-    read-line-requires-6
+    read-line-requires-5
     enum-known-tag
-    enum-told-6
-    record-lines-requires-2
-    add-t51
-    sub-t52
-    returns-6
-    sub-after-tag
-    part-after-tag-start
-    part-after-tag-end
-    sub-t56
-    returns-7)
+    enum-told-5
+    add-t36
+    returns-5
+    add-t21
+    add-t37
+    add-t38
+    add-t39
+    returns-6)

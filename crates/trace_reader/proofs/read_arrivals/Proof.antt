@@ -5,20 +5,18 @@ use borrow.Author.Rules.{rules}
 use borrow.Author.Tests.{not-true, not-false}
 use native.Mathlib.Omega.{arith}
 use mathlib.Core.Path.{sym, ◌∙◌}
-use Rattle.trace_reader.proofs.Arrivals.{record_lines-range}
-use Rattle.trace_reader.proofs.Records.{Walked, walked_start, walked-within, walked_more, walked_stop}
-use Rattle.trace_reader.proofs.Records.{walked-full, walked-bad}
+use Rattle.trace_reader.proofs.Records.{Walked, walked_start, walked_more, walked_stop, walked-full, walked-bad}
 use Rattle.trace_reader.proofs.read_arrivals.Statement.{statement}
 use Rattle.trace_reader.proofs.read_arrivals.Tie as tie
 
 abbrev invariant-loop : tie.invariant-loop
-invariant-loop text classed start numbers₀ at₀ line₀ k₀ numbers at line k = Walked classed text start numbers₀ numbers at line k
+invariant-loop text start numbers₀ at₀ k₀ numbers at k = Walked text start numbers₀ numbers at k
 
 abbrev decreases-loop : tie.decreases-loop
-decreases-loop text classed start numbers₀ at₀ line₀ k₀ numbers at line k = 16 - k
+decreases-loop text start numbers₀ at₀ k₀ numbers at k = 16 - k
 
 loop-holds : tie.Need-loop-init invariant-loop decreases-loop
-loop-holds c = walked_start _ _ _ _ c.before.requires
+loop-holds c = walked_start _ _ _ c.before.requires
 
 sub-rest : tie.Need-overflow_sub-rest invariant-loop decreases-loop
 sub-rest c = c.before.loop.invariant.within
@@ -28,6 +26,15 @@ part-rest-start c = c.before.loop.invariant.within
 
 part-rest-end : tie.Need-slice-bounds-rest-end invariant-loop decreases-loop
 part-rest-end c = omega arith
+
+mul-line : tie.Need-overflow_mul-line invariant-loop decreases-loop
+mul-line c = omega arith
+
+add-line : tie.Need-overflow_add-line invariant-loop decreases-loop
+add-line c = omega arith
+
+cast-line : tie.Need-overflow_cast-line invariant-loop decreases-loop
+cast-line c = omega arith
 
 begins-requires : tie.Need-begins-requires invariant-loop decreases-loop
 begins-requires c κs = search rules
@@ -41,9 +48,7 @@ returns c =
     walked_stop begins.before.before.before.loop.invariant (sym begins.begins.ensures ∙ not-true _ c.if1.true)
 
 read-arrival-requires : tie.Need-read-arrival-requires invariant-loop decreases-loop
-read-arrival-requires c κs =
-    let turn = c.before.before.before in
-    omega (arith, turn.before.loop.invariant.lines, turn.loop-test.true)
+read-arrival-requires c κs = search rules
 
 enum-known-fault : tie.Need-enum-known-fault invariant-loop decreases-loop
 enum-known-fault c = search rules
@@ -62,41 +67,27 @@ enum-known-a c = search rules
 store-requires : tie.Need-store-requires invariant-loop decreases-loop
 store-requires c κs = search rules
 
-add_at : tie.Need-overflow_add-at invariant-loop decreases-loop
-add_at c =
+loop-again : tie.Need-loop-preserved invariant-loop decreases-loop
+loop-again c =
     let a = c.before.before.before in
     let came = a.before.before in
     let begins = came.before.before in
     let turn = begins.before.before in
     let b = sym begins.begins.ensures ∙ not-false _ came.before.if1.false in
-    let l = walked-within turn.before.loop.invariant turn.loop-test.true b came.read-arrival.ensures a.a.given.1 in
-    omega (arith, l, turn.before.before.before.well-formed)
+    walked_more turn.before.loop.invariant turn.loop-test.true b came.read-arrival.ensures a.a.given.1
+    c.store.ensures
 
-record-lines-requires : tie.Need-record-lines-requires invariant-loop decreases-loop
-record-lines-requires c κs = search rules
-
-add-line : tie.Need-overflow_add-line invariant-loop decreases-loop
-add-line c =
-    let turn = c.before.before.before.before.before.before.before.before.before.before in
-    let l = turn.before.loop.invariant.lines in
-    omega (arith, l, turn.loop-test.true, record_lines-range turn.before.before.before.args.classed, c.record-lines.ensures)
+add_at : tie.Need-overflow_add-at invariant-loop decreases-loop
+add_at c =
+    let came = c.before.before.before.before.before in
+    let turn = came.before.before.before.before in
+    omega (arith, (loop-again c).within, turn.before.before.before.well-formed)
 
 add-k : tie.Need-overflow_add-k invariant-loop decreases-loop
 add-k c = omega arith
 
 loop-less : tie.Need-loop-smaller invariant-loop decreases-loop
 loop-less c = omega arith
-
-loop-again : tie.Need-loop-preserved invariant-loop decreases-loop
-loop-again c =
-    let store = c.before in
-    let a = store.before.before.before in
-    let came = a.before.before in
-    let begins = came.before.before in
-    let turn = begins.before.before in
-    let b = sym begins.begins.ensures ∙ not-false _ came.before.if1.false in
-    walked_more turn.before.loop.invariant turn.loop-test.true b came.read-arrival.ensures a.a.given.1
-    store.store.ensures c.record-lines.ensures
 
 returns-3 : tie.Need-returns-3 invariant-loop decreases-loop
 returns-3 c = walked-full c.before.loop.invariant c.loop-test.false
@@ -111,6 +102,9 @@ read_arrivals_spec =
     sub-rest
     part-rest-start
     part-rest-end
+    mul-line
+    add-line
+    cast-line
     begins-requires
     cast-t18
     returns
@@ -120,8 +114,6 @@ read_arrivals_spec =
     enum-known-a
     store-requires
     add_at
-    record-lines-requires
-    add-line
     add-k
     loop-less
     loop-again

@@ -12,7 +12,7 @@ decided-requires c κs = search rules
 returns : tie.Need-returns
 returns c =
     let d = sym c.before.decided.ensures ∙ not-true _ c.if1.true in
-    block_more _ _ _ _ d _
+    block_more _ _ _ d _
 
 begins-requires : tie.Need-begins-requires
 begins-requires c κs = search rules
@@ -25,7 +25,7 @@ returns-2 c =
     let begins = c.before.before in
     let d = sym begins.before.before.decided.ensures ∙ not-false _ begins.before.if1.false in
     let b = sym begins.begins.ensures ∙ c.before.if2.true in
-    block-known _ _ _ _ d _ (c.read-end.ensures _, numbers-end _ _ _ b _)
+    block-known _ _ _ d _ (c.read-end.ensures, numbers-end _ _ b _)
 
 read-slot-requires : tie.Need-read-slot-requires
 read-slot-requires c κs = sym c.before.before.begins.ensures ∙ c.before.if2.false
@@ -34,7 +34,7 @@ returns-3 : tie.Need-returns-3
 returns-3 c =
     let begins = c.before.before.before in
     let d = sym begins.before.before.decided.ensures ∙ not-false _ begins.before.if1.false in
-    block-known _ _ _ _ d _ c.read-slot.ensures
+    block-known _ _ _ d _ c.read-slot.ensures
 
 pub read_block_spec : {M : Type 1} → statement M
 read_block_spec =

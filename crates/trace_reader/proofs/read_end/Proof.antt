@@ -16,30 +16,30 @@ enum_told : tie.Need-enum-told
 enum_told c = search rules
 
 returns : tie.Need-returns
-returns c classed =
+returns c =
     let line = c.before.before in
-    end-bad classed _ _ line.before.before.requires (number-bad End 0 _ line.read-line.ensures c.enum_told.given.1)
+    end-bad _ _ line.before.before.requires (number-bad End 0 _ line.read-line.ensures c.enum_told.given.1)
 
 returns-2 : tie.Need-returns-2
-returns-2 c classed =
+returns-2 c =
     let number = c.before.before in
     let line = number.before.before in
     let p = number-got End 0 _ line.read-line.ensures number.number.given.1 in
-    end-other classed _ _ line.before.before.requires number.number.given.0.1.0 p c.if1.true
+    end-other _ _ line.before.before.requires number.number.given.0.1.0 p c.if1.true
 
 returns-3 : tie.Need-returns-3
-returns-3 c classed =
+returns-3 c =
     let number = c.before.before.before in
     let line = number.before.before in
     let p = number-got End 0 _ line.read-line.ensures number.number.given.1 in
-    end_more classed _ _ line.before.before.requires _ p c.before.if1.false c.if2.true
+    end_more _ _ line.before.before.requires _ p c.before.if1.false c.if2.true
 
 returns-4 : tie.Need-returns-4
-returns-4 c classed =
+returns-4 c =
     let number = c.before.before.before in
     let line = number.before.before in
     let p = number-got End 0 _ line.read-line.ensures number.number.given.1 in
-    end-end classed _ _ line.before.before.requires _ p c.before.if1.false c.if2.false
+    end-end _ _ line.before.before.requires _ p c.before.if1.false c.if2.false
 
 pub read_end_spec : {M : Type 1} → statement M
 read_end_spec =

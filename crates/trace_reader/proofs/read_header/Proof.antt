@@ -1,22 +1,44 @@
--- `trace_reader::read_header` meets its contract: the form is that of the first line. Assumes nothing.
+-- `trace_reader::read_header` meets its contract: each `return` is a case of the header. Assumes nothing.
+use native.Mathlib.Omega.{arith}
 use mathlib.Core.Bool.{true}
+use mathlib.Core.List.{List}
 use mathlib.Core.Path.{◌≡◌, sym, ◌∙◌}
 use borrow.Author.Rules.{rules}
 use borrow.Author.Tests.{not-true, not-false}
-use Rattle.trace.specs.declared.Key.TheVariants.{Form}
+use Prim.Native.Nat.{ℕ}
+use Rattle.trace.specs.declared.Key.TheVariants.{Ports, First}
 use Rattle.trace.specs.Piece.{decided}
-use Rattle.trace_line_reader.proofs.Lines.{number-bad, number-got, number-within}
-use Rattle.trace_reader.specs.Reading.{slots_line}
-use Rattle.trace_reader.proofs.Answers.{opening-short, opening-no-form, opening-other-form, opening-form}
+use Rattle.trace_line_reader.proofs.Lines.{rest, Taken, taken, number-bad}
+use Rattle.trace_reader.proofs.Answers.{opening-short, opening-bad-ports, opening-bad-size}
+use Rattle.trace_reader.proofs.Answers.{opening-bad-first, opening-open}
 use Rattle.trace_reader.proofs.read_header.Statement.{statement}
 use Rattle.trace_reader.proofs.read_header.Tie as tie
 
--- the text is enough where its first line is read
-abbrev start : tie.After-read-line → tie.Start
-start c = c.before.before.before.before
+-- behind the line of `ports`
 
-decided₁ : (c : tie.After-read-line) → decided (start c).args.last (start c).args.text.now ≡ true
-decided₁ c = sym c.before.before.decided.ensures ∙ not-false _ c.before.if1.false
+abbrev start₁ : tie.After-known-told → tie.Start
+start₁ c = c.before.before.before.before.before.before.before
+
+taken₁ : (c : tie.After-known-told)
+    → Taken Ports 1 (start₁ c).args.text.now c.before.ports.given.0.0 c.before.ports.given.0.1.0
+taken₁ c = taken Ports 1 _ c.before.before.before.read-line.ensures c.before.ports.given.1
+
+decided₁ : (c : tie.After-known-told) → decided (start₁ c).args.last (start₁ c).args.text.now ≡ true
+decided₁ c =
+    let line = c.before.before.before in
+    sym line.before.before.decided.ensures ∙ not-false _ line.before.if1.false
+
+-- behind the line of `first`
+
+abbrev back₂ : tie.After-known-told2 → tie.After-known-told
+back₂ c = c.before.before.before.before.before.before.before
+
+abbrev left₁ : tie.After-known-told → List ℕ
+left₁ c = rest (start₁ c).args.text.now c.before.ports.given.0.1.0
+
+taken₂ : (c : tie.After-known-told2)
+    → Taken First 2 (left₁ (back₂ c)) c.before.first.given.0.0 c.before.first.given.0.1.0
+taken₂ c = taken First 2 _ c.before.before.before.read-line2.ensures c.before.first.given.1
 
 decided-requires : tie.Need-decided-requires
 decided-requires c κs = search rules
@@ -27,45 +49,65 @@ returns c = sym (opening-short _ _ (sym c.before.decided.ensures ∙ not-true _ 
 read-line-requires : tie.Need-read-line-requires
 read-line-requires c κs = search rules
 
-enum-known-form : tie.Need-enum-known-form
-enum-known-form c = search rules
+enum-known-ports : tie.Need-enum-known-ports
+enum-known-ports c = search rules
 
 enum_told : tie.Need-enum-told
 enum_told c = search rules
 
-read-ports-requires : tie.Need-read-ports-requires
-read-ports-requires c κs = search rules
-
 returns-2 : tie.Need-returns-2
-unfolding slots_line
 returns-2 c =
-    let line = c.before.before.before in
-    let f = number-bad Form 1 _ line.read-line.ensures c.before.enum_told.given.1 in
-    opening-no-form _ _ (decided₁ line) f c.read-ports.ensures
+    let line = c.before.before in
+    let d = sym line.before.before.decided.ensures ∙ not-false _ line.before.if1.false in
+    sym (opening-bad-ports _ _ d (number-bad Ports 1 _ line.read-line.ensures c.enum_told.given.1))
 
-read-ports-requires-2 : tie.Need-read-ports-requires-2
-read-ports-requires-2 c κs = search rules
+ports-in-range-requires : tie.Need-ports-in-range-requires
+ports-in-range-requires c κs = search rules
 
 returns-3 : tie.Need-returns-3
-unfolding slots_line
 returns-3 c =
-    let form = c.before.before.before in
-    let line = form.before.before in
-    let p = number-got Form 1 _ line.read-line.ensures form.form.given.1 in
-    opening-other-form _ _ (decided₁ line) p c.before.if2.true c.read-ports2.ensures
+    let ports = c.before.before in
+    let r = sym c.before.ports-in-range.ensures ∙ not-true _ c.if2.true in
+    sym (opening-bad-size _ _ (decided₁ ports) (taken₁ ports).read r)
 
-read-ports-requires-3 : tie.Need-read-ports-requires-3
-read-ports-requires-3 c κs =
-    let form = c.before.before in
-    number-within Form 1 _ form.before.before.read-line.ensures form.form.given.1
+sub-read-line : tie.Need-overflow_sub-read-line
+sub-read-line c = (taken₁ c.before.before).within
+
+part-read-line-start : tie.Need-slice-bounds-read-line-start
+part-read-line-start c = sub-read-line c
+
+part-read-line-end : tie.Need-slice-bounds-read-line-end
+part-read-line-end c = search rules
+
+read-line-requires-2 : tie.Need-read-line-requires-2
+read-line-requires-2 c κs = search rules
+
+enum-known-first : tie.Need-enum-known-first
+enum-known-first c = search rules
+
+enum-told-2 : tie.Need-enum-told-2
+enum-told-2 c = search rules
 
 returns-4 : tie.Need-returns-4
-unfolding slots_line
 returns-4 c =
-    let form = c.before.before.before in
-    let line = form.before.before in
-    let p = number-got Form 1 _ line.read-line.ensures form.form.given.1 in
-    opening-form _ _ (decided₁ line) p c.before.if2.false c.read-ports3.ensures
+    let line = c.before.before in
+    let range = line.before.before.before in
+    let ports = range.before in
+    let r = sym range.ports-in-range.ensures ∙ not-false _ line.before.before.if2.false in
+    let f = number-bad First 2 (left₁ ports) line.read-line2.ensures c.enum-told2.given.1 in
+    sym (opening-bad-first _ _ (decided₁ ports) (taken₁ ports).read r f)
+
+add-t15 : tie.Need-overflow_add-t15
+add-t15 c = omega (arith, (start₁ (back₂ c)).well-formed, taken₁ (back₂ c), taken₂ c)
+
+returns-5 : tie.Need-returns-5
+returns-5 c =
+    let line = c.before.before.before in
+    let range = line.before.before.before in
+    let ports = range.before in
+    let r = sym range.ports-in-range.ensures ∙ not-false _ line.before.before.if2.false in
+    let q = taken₂ c in
+    sym (opening-open _ _ (decided₁ ports) (taken₁ ports).read r q.read (omega (arith, taken₁ ports, q)))
 
 pub read_header_spec : {M : Type 1} → statement M
 read_header_spec =
@@ -74,11 +116,17 @@ read_header_spec =
     decided-requires
     returns
     read-line-requires
-    enum-known-form
+    enum-known-ports
     enum_told
-    read-ports-requires
     returns-2
-    read-ports-requires-2
+    ports-in-range-requires
     returns-3
-    read-ports-requires-3
-    returns-4)
+    sub-read-line
+    part-read-line-start
+    part-read-line-end
+    read-line-requires-2
+    enum-known-first
+    enum-told-2
+    returns-4
+    add-t15
+    returns-5)

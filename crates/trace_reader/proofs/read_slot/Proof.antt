@@ -18,14 +18,14 @@ enum_told c = search rules
 returns : tie.Need-returns
 returns c =
     let line = c.before.before in
-    slot-bad _ _ _ line.before.before.requires (number-bad Slot 0 _ line.read-line.ensures c.enum_told.given.1) _
+    slot-bad _ _ line.before.before.requires (number-bad Slot 0 _ line.read-line.ensures c.enum_told.given.1) _
 
 returns-2 : tie.Need-returns-2
 returns-2 c =
     let number = c.before.before in
     let line = number.before.before in
     let p = number-got Slot 0 _ line.read-line.ensures number.number.given.1 in
-    slot-other _ _ _ line.before.before.requires number.number.given.0.1.0 p c.if1.true _
+    slot-other _ _ line.before.before.requires number.number.given.0.1.0 p c.if1.true _
 
 read-arrivals-requires : tie.Need-read-arrivals-requires
 read-arrivals-requires c κs =
@@ -37,7 +37,7 @@ returns-3 c =
     let number = c.before.before.before.before in
     let line = number.before.before in
     let p = number-got Slot 0 _ line.read-line.ensures number.number.given.1 in
-    slot_same _ _ _ line.before.before.requires number.number.given.0.1.0 p c.before.before.if1.false _
+    slot_same _ _ line.before.before.requires number.number.given.0.1.0 p c.before.before.if1.false _
     c.read-arrivals.ensures.0 c.read-arrivals.ensures.1
 
 pub read_slot_spec : {M : Type 1} → statement M

@@ -1,4 +1,4 @@
--- `trace_reader::store` meets its contract: six stores, one after the other. Assumes nothing.
+-- `trace_reader::store` meets its contract: five stores, one after the other. Assumes nothing.
 use borrow.Author.Rules.{rules}
 use native.Mathlib.Numerals.{towards_suc}
 use Rattle.trace.specs.Piece.{numbers_of}
@@ -50,15 +50,6 @@ mul-numbers-5 c = search rules
 element-write-numbers-5 : tie.Need-element-write-numbers-5
 element-write-numbers-5 c = search rules
 
-add-numbers-5 : tie.Need-overflow_add-numbers-5
-add-numbers-5 c = search rules
-
-mul-numbers-6 : tie.Need-overflow_mul-numbers-6
-mul-numbers-6 c = search rules
-
-element-write-numbers-6 : tie.Need-element-write-numbers-6
-element-write-numbers-6 c = search rules
-
 returns : tie.Need-returns
 unfolding numbers_of
 returns c = simp towards_suc
@@ -82,7 +73,4 @@ store_spec =
     add-numbers-4
     mul-numbers-5
     element-write-numbers-5
-    add-numbers-5
-    mul-numbers-6
-    element-write-numbers-6
     returns)

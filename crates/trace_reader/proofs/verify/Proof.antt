@@ -30,8 +30,8 @@ verify-blocks-requires c κs = search rules
 enum-known-opening-2 : tie.Need-enum-known-opening-2
 enum-known-opening-2 c = search rules
 
-cast-t13 : tie.Need-overflow_cast-t13
-cast-t13 c = search rules
+cast-t12 : tie.Need-overflow_cast-t12
+cast-t12 c = search rules
 
 enum_told : tie.Need-enum-told
 enum_told c = search rules
@@ -39,7 +39,7 @@ enum_told c = search rules
 returns : tie.Need-returns
 returns c =
     let h = (opening-open-e true _ c.before.before.before.before.before.read-header.ensures c.before.before.before.opening.given.1).0 in
-    c.verify-blocks.ensures ∙ verdict-blocks _ c.before.before.before.opening.given.0.1.1.1.0 h
+    c.verify-blocks.ensures ∙ verdict-blocks _ c.before.before.before.opening.given.0.1.1.0 h
 
 returns-2 : tie.Need-returns-2
 returns-2 c =
@@ -60,7 +60,7 @@ verify_spec =
     part-verify-blocks-end
     verify-blocks-requires
     enum-known-opening-2
-    cast-t13
+    cast-t12
     enum_told
     returns
     returns-2

@@ -12,19 +12,13 @@ use Rattle.trace_reader.proofs.verify_blocks.Statement.{statement}
 use Rattle.trace_reader.proofs.verify_blocks.Tie as tie
 
 abbrev invariant-loop : tie.invariant-loop
-invariant-loop text classed first numbers₀ rest₀ clock₀ line₀ numbers rest clock line = Verified classed text first rest clock line
+invariant-loop text first numbers₀ rest₀ clock₀ line₀ numbers rest clock line = Verified text first rest clock line
 
 abbrev decreases-loop : tie.decreases-loop
-decreases-loop text classed first numbers₀ rest₀ clock₀ line₀ numbers rest clock line = length rest
-
-slots-line-requires : tie.Need-slots-line-requires invariant-loop decreases-loop
-slots-line-requires c κs = search rules
-
-cast-line : tie.Need-overflow_cast-line invariant-loop decreases-loop
-cast-line c = search rules
+decreases-loop text first numbers₀ rest₀ clock₀ line₀ numbers rest clock line = length rest
 
 loop-holds : tie.Need-loop-init invariant-loop decreases-loop
-loop-holds c = verified-start _ _ _ (omega (arith, c.before.before.ranges)) c.slots-line.ensures
+loop-holds c = verified-start _ _ (omega (arith, c.before.ranges))
 
 read-block-requires : tie.Need-read-block-requires invariant-loop decreases-loop
 read-block-requires c κs = search rules
@@ -32,8 +26,8 @@ read-block-requires c κs = search rules
 enum-known-used : tie.Need-enum-known-used invariant-loop decreases-loop
 enum-known-used c = search rules
 
-cast-line-2 : tie.Need-overflow_cast-line-2 invariant-loop decreases-loop
-cast-line-2 c = search rules
+cast-line : tie.Need-overflow_cast-line invariant-loop decreases-loop
+cast-line c = search rules
 
 add-line : tie.Need-overflow_add-line invariant-loop decreases-loop
 add-line c =
@@ -81,8 +75,8 @@ loop-again c =
 enum_told : tie.Need-enum-told invariant-loop decreases-loop
 enum_told c = search rules
 
-sub-t21 : tie.Need-overflow_sub-t21 invariant-loop decreases-loop
-sub-t21 c = c.before.before.before.before.before.loop.invariant.begun
+sub-t19 : tie.Need-overflow_sub-t19 invariant-loop decreases-loop
+sub-t19 c = c.before.before.before.before.before.loop.invariant.begun
 
 returns-2 : tie.Need-returns-2 invariant-loop decreases-loop
 returns-2 c =
@@ -92,11 +86,11 @@ returns-2 c =
 enum-known-k : tie.Need-enum-known-k invariant-loop decreases-loop
 enum-known-k c = search rules
 
-cast-t23 : tie.Need-overflow_cast-t23 invariant-loop decreases-loop
-cast-t23 c = search rules
+cast-t21 : tie.Need-overflow_cast-t21 invariant-loop decreases-loop
+cast-t21 c = search rules
 
-add-t24 : tie.Need-overflow_add-t24 invariant-loop decreases-loop
-add-t24 c =
+add-t22 : tie.Need-overflow_add-t22 invariant-loop decreases-loop
+add-t22 c =
     let block = c.before.before.before in
     let v = block.before.before.before.loop.invariant in
     let g = c.known-told2.given in
@@ -112,7 +106,7 @@ enum-told-2 c = search rules
 
 returns-4 : tie.Need-returns-4 invariant-loop decreases-loop
 returns-4 c =
-    whole-decided _ (answer-more-e true _ _ _ c.before.before.read-block.ensures.0 c.enum-told2.given.1)
+    whole-decided _ (answer-more-e true _ _ c.before.before.read-block.ensures.0 c.enum-told2.given.1)
 
 returns-5 : tie.Need-returns-5 invariant-loop decreases-loop
 returns-5 c = verified-missing c.before.loop.invariant c.loop-test.false
@@ -123,12 +117,10 @@ verify_blocks_spec =
     (tie.spec
     invariant-loop
     decreases-loop
-    slots-line-requires
-    cast-line
     loop-holds
     read-block-requires
     enum-known-used
-    cast-line-2
+    cast-line
     add-line
     returns
     add-clock
@@ -138,11 +130,11 @@ verify_blocks_spec =
     loop-less
     loop-again
     enum_told
-    sub-t21
+    sub-t19
     returns-2
     enum-known-k
-    cast-t23
-    add-t24
+    cast-t21
+    add-t22
     returns-3
     enum-told-2
     returns-4

@@ -20,19 +20,15 @@ number-at-requires-4 c κs = search rules
 number-at-requires-5 : tie.Need-number-at-requires-5
 number-at-requires-5 c κs = search rules
 
-number-at-requires-6 : tie.Need-number-at-requires-6
-number-at-requires-6 c κs = search rules
-
 returns : tie.Need-returns
 unfolding arrival_at
 returns c =
     λ k. record {
-      input = c.before.before.before.before.before.number-at.ensures k;
-      output = c.before.before.before.before.number-at2.ensures k;
-      flow = c.before.before.before.number-at3.ensures k;
-      class = c.before.before.number-at4.ensures k;
-      rank = c.before.number-at5.ensures k;
-      tag = c.number-at6.ensures k;
+      input = c.before.before.before.before.number-at.ensures k;
+      output = c.before.before.before.number-at2.ensures k;
+      flow = c.before.before.number-at3.ensures k;
+      rank = c.before.number-at4.ensures k;
+      tag = c.number-at5.ensures k;
     }
 
 pub arrival_at_spec : {M : Type 1} → statement M
@@ -44,5 +40,4 @@ arrival_at_spec =
     number-at-requires-3
     number-at-requires-4
     number-at-requires-5
-    number-at-requires-6
     returns)

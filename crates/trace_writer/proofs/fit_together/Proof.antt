@@ -20,17 +20,17 @@ decreases-loop counts numbers left₀ i₀ left i = length counts - i
 loop-holds : tie.Need-loop-init invariant-loop decreases-loop
 loop-holds c = (omega arith, fit_together-start _ _)
 
-mul-taken : tie.Need-overflow_mul-taken invariant-loop decreases-loop
-mul-taken c = omega arith
+mul-five : tie.Need-overflow_mul-five invariant-loop decreases-loop
+mul-five c = omega arith
 
-shared-slice-read-taken : tie.Need-shared-slice-read-taken invariant-loop decreases-loop
-shared-slice-read-taken c = omega arith
+shared-slice-read-five : tie.Need-shared-slice-read-five invariant-loop decreases-loop
+shared-slice-read-five c = omega arith
 
-cast-taken : tie.Need-overflow_cast-taken invariant-loop decreases-loop
-cast-taken c = omega (arith, c.shared-slice-known.given c.before.before.loop.i)
+cast-five : tie.Need-overflow_cast-five invariant-loop decreases-loop
+cast-five c = omega (arith, c.shared-slice-known.given c.before.before.loop.i)
 
-mul-taken-2 : tie.Need-overflow_mul-taken-2 invariant-loop decreases-loop
-mul-taken-2 c = omega (arith, c.shared-slice-known.given c.before.before.loop.i)
+mul-five-2 : tie.Need-overflow_mul-five-2 invariant-loop decreases-loop
+mul-five-2 c = omega (arith, c.shared-slice-known.given c.before.before.loop.i)
 
 returns : tie.Need-returns invariant-loop decreases-loop
 returns c =
@@ -64,10 +64,10 @@ fit_together_spec =
     invariant-loop
     decreases-loop
     loop-holds
-    mul-taken
-    shared-slice-read-taken
-    cast-taken
-    mul-taken-2
+    mul-five
+    shared-slice-read-five
+    cast-five
+    mul-five-2
     returns
     add-i
     loop-less

@@ -3,14 +3,11 @@
 use mathlib.Core.Bool.{true}
 use mathlib.Core.Path.{◌≡◌, sym, ◌∙◌}
 use borrow.Author.Tests.{not-true, not-false}
-use Rattle.laws.specs.Lists.{all?}
 use Rattle.trace.specs.Flat.{fit_together}
-use Rattle.trace_writer.proofs.Flat.{flat_has_text-apart, flat_has_text-crowded}
-use Rattle.trace_writer.proofs.Flat.{flat_has_text-class, flat_has_text-by-clock}
+use Rattle.trace_writer.proofs.Flat.{flat_has_text-apart, flat_has_text-crowded, flat_has_text-by-clock}
 use borrow.Author.Rules.{rules}
 use Rattle.trace_writer.proofs.has_text.Statement.{statement}
 use Rattle.trace_writer.proofs.has_text.Tie as tie
-use Rattle.trace_writer.specs.Code.{few}
 
 together : (c : tie.Else1)
     → fit_together c.before.before.before.before.args.counts.now
@@ -18,15 +15,11 @@ together : (c : tie.Else1)
     ≡ true
 together c = sym c.before.fit-together.ensures ∙ not-false _ c.if1.false
 
-few-each : (c : tie.Else2)
-    → all? few c.before.before.before.before.before.before.args.counts.now ≡ true
-few-each c = sym c.before.blocks-fit.ensures ∙ not-false _ c.if2.false
-
 fit-together-requires : tie.Need-fit-together-requires
 fit-together-requires c κs = search rules
 
 returns : tie.Need-returns
-returns c = sym (flat_has_text-apart _ _ _ _ (sym c.before.fit-together.ensures ∙ not-true _ c.if1.true))
+returns c = sym (flat_has_text-apart _ _ _ (sym c.before.fit-together.ensures ∙ not-true _ c.if1.true))
 
 blocks-fit-requires : tie.Need-blocks-fit-requires
 blocks-fit-requires c κs = search rules
@@ -34,39 +27,17 @@ blocks-fit-requires c κs = search rules
 returns-2 : tie.Need-returns-2
 returns-2 c =
     let b = c.before in
-    sym (flat_has_text-crowded _ _ _ _ (together b.before) (sym b.blocks-fit.ensures ∙ not-true _ c.if2.true))
-
-classes-fit-requires : tie.Need-classes-fit-requires
-classes-fit-requires c κs = search rules
-
-returns-3 : tie.Need-returns-3
-returns-3 c =
-    let k = c.before in
-    let b = k.before in
-    sym
-    (flat_has_text-class _ _ _ _ (together b.before.before) (few-each b)
-    (sym k.classes-fit.ensures ∙ not-true _ c.if3.true))
+    sym (flat_has_text-crowded _ _ _ (together b.before) (sym b.blocks-fit.ensures ∙ not-true _ c.if2.true))
 
 add-result : tie.Need-overflow_add-result
 add-result c = search rules
 
-returns-4 : tie.Need-returns-4
-returns-4 c =
-    let k = c.before in
-    let b = k.before in
-    sym
-    (flat_has_text-by-clock _ _ _ _ (together b.before.before) (few-each b)
-    (sym k.classes-fit.ensures ∙ not-false _ c.if3.false))
+returns-3 : tie.Need-returns-3
+returns-3 c =
+    let b = c.before in
+    sym (flat_has_text-by-clock _ _ _ (together b.before) (sym b.blocks-fit.ensures ∙ not-false _ c.if2.false))
 
 pub has_text_spec : {M : Type 1} → statement M
 has_text_spec =
     tie.close
-    (tie.spec
-    fit-together-requires
-    returns
-    blocks-fit-requires
-    returns-2
-    classes-fit-requires
-    returns-3
-    add-result
-    returns-4)
+    (tie.spec fit-together-requires returns blocks-fit-requires returns-2 add-result returns-3)

@@ -5,7 +5,7 @@ use Prim.Native.Nat.{◌+◌, ◌*◌}
 use native.Mathlib.Omega.{arith}
 use mathlib.Core.Path.{◌≡◌}
 use lib.ListN.{drop}
-use Rattle.trace.specs.Contents.{arrival_numbers, arrival_text, arrivals_text}
+use Rattle.trace.specs.Contents.{arrival_text, arrivals_text}
 use Rattle.trace.specs.Flat.{arrivals_from}
 use Rattle.trace_writer.proofs.Flat.{arrivals_text-end}
 use Rattle.trace_line_writer.proofs.Pour.{Rest, rest-start, rest-done}
@@ -14,13 +14,13 @@ use Rattle.trace_writer.proofs.pour_arrivals.Statement.{statement}
 use Rattle.trace_writer.proofs.pour_arrivals.Tie as tie
 
 abbrev invariant-loop : tie.invariant-loop
-invariant-loop out₀ at classed count numbers place₀ from₀ left₀ out place from left =
-    (from + arrival_numbers * left ≡ arrival_numbers * count)
-    × Rest out₀ at (arrivals_text classed (arrivals_from count numbers)) out place
-    (arrivals_text classed (arrivals_from left (drop from numbers)))
+invariant-loop out₀ at count numbers place₀ from₀ left₀ out place from left =
+    (from + 5 * left ≡ 5 * count)
+    × Rest out₀ at (arrivals_text (arrivals_from count numbers)) out place
+    (arrivals_text (arrivals_from left (drop from numbers)))
 
 abbrev decreases-loop : tie.decreases-loop
-decreases-loop out₀ at classed count numbers place₀ from₀ left₀ out place from left = left
+decreases-loop out₀ at count numbers place₀ from₀ left₀ out place from left = left
 
 loop-holds : tie.Need-loop-init invariant-loop decreases-loop
 loop-holds c = (omega arith, rest-start (omega arith))
@@ -49,10 +49,9 @@ loop-again c =
     let p = c.before.before in
     let a = p.before in
     let f = a.before in
-    let l = f.before.before.before in
-    let s = l.before.before.before.args in (
+    let l = f.before.before.before in (
       omega arith,
-      rest-arrival (omega arith) s.classed l.loop.left l.loop.from s.numbers.now
+      rest-arrival (omega arith) l.loop.left l.loop.from l.before.before.before.args.numbers.now
           (omega arith)
           l.loop.invariant.1
           f.numbers-from.ensures
@@ -66,7 +65,7 @@ same_length c = c.before.loop.invariant.1.same
 returns : tie.Need-returns invariant-loop decreases-loop
 returns c =
     let l = c.before.loop in
-    rest-done (rw (arrivals_text-end _ l.left l.from _ (omega arith)) at l.invariant.1)
+    rest-done (rw (arrivals_text-end l.left l.from _ (omega arith)) at l.invariant.1)
 
 pub pour_arrivals_spec : {M : Type 1} → statement M
 pour_arrivals_spec =

@@ -1,4 +1,4 @@
--- `trace_writer::pour_contents` meets its contract: the lines of the header, then the slots.
+-- `trace_writer::pour_contents` meets its contract: the two lines of the header, then the slots.
 -- Assumes nothing.
 use native.Mathlib.Omega.{arith}
 use Rattle.trace_writer.proofs.Writing.{tried-contents}
@@ -6,8 +6,8 @@ use borrow.Author.Rules.{rules}
 use Rattle.trace_writer.proofs.pour_contents.Statement.{statement}
 use Rattle.trace_writer.proofs.pour_contents.Tie as tie
 
-put-header-requires : tie.Need-put-header-requires
-put-header-requires c κs = search rules
+pour-pair-requires : tie.Need-pour-pair-requires
+pour-pair-requires c κs = search rules
 
 pour-slots-requires : tie.Need-pour-slots-requires
 pour-slots-requires c κs = search rules
@@ -19,8 +19,8 @@ returns : tie.Need-returns
 returns c =
     let n = c.before.before in
     let m = n.before.before.before.before in
-    tried-contents _ _ _ _ _ (omega arith) m.put-header.ensures n.pour-slots.ensures
+    tried-contents _ _ _ _ (omega arith) m.pour-pair.ensures n.pour-slots.ensures
 
 pub pour_contents_spec : {M : Type 1} → statement M
 pour_contents_spec =
-    tie.close (tie.spec put-header-requires pour-slots-requires same_length returns)
+    tie.close (tie.spec pour-pair-requires pour-slots-requires same_length returns)

@@ -13,18 +13,18 @@ use Rattle.trace_writer.proofs.pour_slots.Statement.{statement}
 use Rattle.trace_writer.proofs.pour_slots.Tie as tie
 
 abbrev invariant-loop : tie.invariant-loop
-invariant-loop out₀ at classed first counts numbers place₀ from₀ i₀ out place from i =
+invariant-loop out₀ at first counts numbers place₀ from₀ i₀ out place from i =
     (i ≤ length counts)
-    × Rest out₀ at (slots_text classed first (slots_from counts numbers)) out place
-    (slots_text classed (first + i) (slots_from (drop i counts) (drop from numbers)))
+    × Rest out₀ at (slots_text first (slots_from counts numbers)) out place
+    (slots_text (first + i) (slots_from (drop i counts) (drop from numbers)))
 
 abbrev decreases-loop : tie.decreases-loop
-decreases-loop out₀ at classed first counts numbers place₀ from₀ i₀ out place from i = length counts - i
+decreases-loop out₀ at first counts numbers place₀ from₀ i₀ out place from i = length counts - i
 
 loop-holds : tie.Need-loop-init invariant-loop decreases-loop
 loop-holds c =
     let s = c.before.before.before.args in
-    (omega arith, rest-slots s.classed s.first s.counts.now s.numbers.now (omega arith))
+    (omega arith, rest-slots s.first s.counts.now s.numbers.now (omega arith))
 
 mul-count : tie.Need-overflow_mul-count invariant-loop decreases-loop
 mul-count c = omega arith
@@ -67,9 +67,9 @@ loop-again c =
     let s = l.before.before.before.before in
     let a = s.args in (
       omega arith,
-      rest-slot (omega arith) a.classed a.first a.counts.now l.loop.i l.loop.from a.numbers.now
+      rest-slot (omega arith) a.first a.counts.now l.loop.i l.loop.from a.numbers.now
           (omega arith)
-          (omega (arith, s.well-formed.1.1.1.1.1.0))
+          (omega (arith, s.well-formed.1.1.1.1.0))
           l.loop.invariant.1
           b.before.numbers-from.ensures
           b.pour-block.ensures
@@ -90,7 +90,7 @@ returns c =
     let e = c.before.before in
     let l = e.before.before.before in
     let s = l.before.before.before.before.args in
-    rest-slots-end (omega arith) s.classed s.first s.counts.now l.loop.i l.loop.from s.numbers.now
+    rest-slots-end (omega arith) s.first s.counts.now l.loop.i l.loop.from s.numbers.now
     (omega arith)
     l.loop.invariant.1
     e.pour-line.ensures

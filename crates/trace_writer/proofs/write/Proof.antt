@@ -25,14 +25,14 @@ fit32 c = fit32-i (start c).args.numbers.now c.before.before.before.shared-slice
 
 some-text : (c : tie.Else2)
     → let a = (start c.before.before).args in
-    flat_has_text a.classed a.first a.counts.now a.numbers.now ≡ true
+    flat_has_text a.first a.counts.now a.numbers.now ≡ true
 some-text c = sym c.before.has-text.ensures ∙ not-false _ c.if2.false
 
 ports-in-range-requires : tie.Need-ports-in-range-requires
 ports-in-range-requires c κs = search rules
 
 returns : tie.Need-returns
-returns c = write-size _ _ _ _ _ _ (sym c.before.ports-in-range.ensures ∙ not-true _ c.if1.true)
+returns c = write-size _ _ _ _ _ (sym c.before.ports-in-range.ensures ∙ not-true _ c.if1.true)
 
 has-text-requires : tie.Need-has-text-requires
 has-text-requires c κs = search rules
@@ -41,7 +41,7 @@ returns-2 : tie.Need-returns-2
 returns-2 c =
     let h = c.before in
     let r = h.before in
-    write-no-text _ _ _ _ _ _ (in-range r) (fit32 r) (sym h.has-text.ensures ∙ not-true _ c.if2.true)
+    write-no-text _ _ _ _ _ (in-range r) (fit32 r) (sym h.has-text.ensures ∙ not-true _ c.if2.true)
 
 slice-relend-prefix-pour-contents : tie.Need-slice-relend-prefix-pour-contents
 slice-relend-prefix-pour-contents c = search rules
@@ -60,7 +60,7 @@ returns-3 c =
     let m = c.before.before.before in
     let h = m.before.before in
     let r = h.before.before in
-    write-too-long _ _ _ _ _ _ (in-range r) (fit32 r) (some-text h) m.pour-contents.ensures c.if3.true
+    write-too-long _ _ _ _ _ (in-range r) (fit32 r) (some-text h) m.pour-contents.ensures c.if3.true
 
 pour-contents-requires-2 : tie.Need-pour-contents-requires-2
 pour-contents-requires-2 c κs = search rules
@@ -75,8 +75,8 @@ returns-4 c =
     let m = o.before.before.before in
     let h = m.before.before in
     let r = h.before.before in
-    write-whole _ _ _ _ _ _ (in-range r) (fit32 r) (some-text h) m.pour-contents.ensures o.if3.false
-    (omega (arith, r.before.before.before.before.before.well-formed.1.1.1.1.1.0))
+    write-whole _ _ _ _ _ (in-range r) (fit32 r) (some-text h) m.pour-contents.ensures o.if3.false
+    (omega (arith, r.before.before.before.before.before.well-formed.1.1.1.1.0))
     w.pour-contents2.ensures
 
 pub write_spec : {M : Type 1} → statement M

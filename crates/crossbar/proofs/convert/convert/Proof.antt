@@ -1,28 +1,31 @@
--- `crossbar::convert::convert` meets its contract: 2, then 10, else the table as it was read.
+-- `crossbar::convert::convert` meets its contract: 2, then 10, else the cells of the older table.
 -- Assumes nothing.
 use mathlib.Core.Path.{sym, ◌∙◌}
 use borrow.Author.Rules.{rules}
 use borrow.Author.Tests.{not-true, not-false}
+use Rattle.cell.specs.declared.Refusal.TheVariants.{BrokenTable, ShortBuffer}
 use Rattle.layout.specs.Fair.{fair_number}
-use Rattle.layout.specs.Older.{older}
-use Rattle.fair_table.proofs.OlderTable.{convert-broken, convert-short, convert-done}
-use Rattle.crossbar.proofs.OlderTables.{older-long}
+use Rattle.layout.specs.Table.{decode}
+use Rattle.layout.proofs.Older.{convert_call-broken, convert_call-short, convert_call-done}
+use Rattle.layout.proofs.Table.{is-table}
+use Rattle.fair_table.proofs.Calls.{refuses, writes}
+use Rattle.crossbar.proofs.Calls.{older-none}
 use Rattle.crossbar.proofs.convert.convert.Statement.{statement}
 use Rattle.crossbar.proofs.convert.convert.Tie as tie
 
-slice-aggregate-read-older : tie.Need-slice-aggregate-read-older
-slice-aggregate-read-older c = search rules
-
-read-older-requires : tie.Need-read-older-requires
-read-older-requires c κs = search rules
+is-table-requires : tie.Need-is-table-requires
+is-table-requires c κs = search rules
 
 number-requires : tie.Need-number-requires
 number-requires c κs = search rules
 
 returns : tie.Need-returns
 returns c =
-    let read = c.before.before.before.read-older in
-    convert-broken fair_number older older-long _ _ (sym read.ensures.0 ∙ not-true _ c.before.if1.true) _
+    let asked = c.before.before in
+    let a = asked.before.before.before.args in
+    refuses fair_number a.table.now _ BrokenTable c.number.result
+    (convert_call-broken decode a.old.now a.table.now
+    (older-none a.old.now (sym asked.is-table.ensures ∙ not-true _ c.before.if1.true)))
     c.number.ensures
 
 number-requires-2 : tie.Need-number-requires-2
@@ -30,41 +33,44 @@ number-requires-2 c κs = search rules
 
 returns-2 : tie.Need-returns-2
 returns-2 c =
-    let then2 = c.before in
-    let else1 = then2.before in
-    let read = else1.before.before.read-older in
-    convert-short fair_number older older-long _ _ (sym read.ensures.0 ∙ not-false _ else1.if1.false)
-    then2.if2.true _ c.number2.ensures
+    let old = c.before.before in
+    let asked = old.before in
+    let a = asked.before.before.before.args in
+    refuses fair_number a.table.now _ ShortBuffer c.number2.result
+    (convert_call-short decode a.old.now a.table.now _
+    (is-table a.old.now (sym asked.is-table.ensures ∙ not-false _ old.if1.false)) c.before.if2.true)
+    c.number2.ensures
 
-slice-aggregate-copy : tie.Need-slice-aggregate-copy
-slice-aggregate-copy c = search rules
-
-copy-requires : tie.Need-copy-requires
-copy-requires c κs = search rules
+write-older-requires : tie.Need-write-older-requires
+write-older-requires c κs =
+    let long = c.before in
+    let old = long.before in
+    (sym old.before.is-table.ensures ∙ not-false _ old.if1.false, long.if2.false)
 
 same_length : tie.Need-same-length
 same_length c = search rules
 
 returns-3 : tie.Need-returns-3
 returns-3 c =
-    let copied = c.before.before in
-    let else2 = copied.before.before.before in
-    let else1 = else2.before in
-    let read = else1.before.before.read-older in
-    convert-done fair_number older older-long _ _ (sym read.ensures.0 ∙ not-false _ else1.if1.false) _ _
-    read.ensures.1 else2.if2.false copied.copy.ensures
+    let wrote = c.before.before in
+    let long = wrote.before.before in
+    let old = long.before in
+    let asked = old.before in
+    let a = asked.before.before.before.args in
+    writes fair_number a.table.now _ _ _
+    (convert_call-done decode a.old.now a.table.now _
+    (is-table a.old.now (sym asked.is-table.ensures ∙ not-false _ old.if1.false)) long.if2.false)
+    wrote.write-older.ensures
 
 pub convert_spec : {M : Type 1} → statement M
 convert_spec =
     tie.close
     (tie.spec
-    slice-aggregate-read-older
-    read-older-requires
+    is-table-requires
     number-requires
     returns
     number-requires-2
     returns-2
-    slice-aggregate-copy
-    copy-requires
+    write-older-requires
     same_length
     returns-3)

@@ -5,7 +5,6 @@ use borrow.Author.Rules.{rules}
 use borrow.Author.Tests.{eq-eqb, ne_eqb}
 use lib.ListN.{take, drop, replicate}
 use Rattle.laws.proofs.Tests.{and-false-l}
-use Rattle.layout.specs.Fair.{fair_number}
 use Rattle.layout.specs.Number.{word, same_bytes}
 use Rattle.cue_store.specs.Code.{is_header}
 use Rattle.cue_store.proofs.check.is_header.Statement.{statement}
@@ -18,7 +17,7 @@ returns : tie.Need-returns
 unfolding is_header
 returns c =
     let store = c.before.before.before.args.store.now in
-    sym (and-false-l _ _ (ne_eqb (word store 0) fair_number (λ e. c.if1.true (c.before.read_u32.ensures ∙ e))))
+    sym (and-false-l _ _ (ne_eqb (word store 0) 2 (λ e. c.if1.true (c.before.read_u32.ensures ∙ e))))
 
 is-clear-requires : tie.Need-is-clear-requires
 is-clear-requires c κs = search rules
@@ -30,7 +29,7 @@ returns-2 c =
     let store = else1.before.before.before.args.store.now in
     let number = sym else1.before.read_u32.ensures ∙ else1.if1.false in
     let zeros = same_bytes (replicate 12 0) (take 12 (drop 4 store)) in
-    c.is-clear.ensures ∙ sym (ap (λ b. b && zeros) (eq-eqb (word store 0) fair_number number))
+    c.is-clear.ensures ∙ sym (ap (λ b. b && zeros) (eq-eqb (word store 0) 2 number))
 
 pub is_header_spec : {M : Type 1} → statement M
 is_header_spec = tie.close (tie.spec read-u32-requires returns is-clear-requires returns-2)

@@ -1,58 +1,49 @@
--- The length says of which kind it is; then what is written is asked.
-use mathlib.Core.Logic.{inl, inr}
-use mathlib.Core.Path.{refl}
+-- The length, the number, and then whether the places in the new layout are a store.
+use mathlib.Core.Path.{sym, ◌∙◌}
 use borrow.Author.Rules.{rules}
-use Rattle.cue_store.proofs.OlderStore.{read-oldest, read-later, read-other}
+use Rattle.layout_table.proofs.Places.{known_bytes}
+use Rattle.cue_store.proofs.OlderStore.{read-other-length, read-other-number, read-places}
 use Rattle.cue_store.proofs.older.read_older.Statement.{statement}
 use Rattle.cue_store.proofs.older.read_older.Tie as tie
 
-write-new-requires : tie.Need-write-new-requires
-write-new-requires c κs =
-    let then = c.before in
-    (then.if1.true, then.before.before.before.requires, inl refl)
+returns : tie.Need-returns
+returns c = read-other-length _ _ c.if1.true
 
-is-classless-store-requires : tie.Need-is-classless-store-requires
-is-classless-store-requires c κs = search rules
+read-u32-requires : tie.Need-read-u32-requires
+read-u32-requires c κs = search rules
+
+returns-2 : tie.Need-returns-2
+returns-2 c = read-other-number _ _ (λ e. c.if2.true (c.before.read_u32.ensures ∙ e))
+
+write-new-requires : tie.Need-write-new-requires
+write-new-requires c κs = search rules
+
+is-store-requires : tie.Need-is-store-requires
+is-store-requires c κs = search rules
 
 same_length : tie.Need-same-length
 same_length c = search rules
 
-returns : tie.Need-returns
-returns c =
-    let wrote = c.before.before.before.before in
-    read-oldest _ _ c.is-classless-store.result wrote.before.before.if1.true wrote.write_new.ensures
-    c.is-classless-store.ensures
-
-write-new-requires-2 : tie.Need-write-new-requires-2
-write-new-requires-2 c κs =
-    let then = c.before in
-    (then.if2.true, then.before.before.before.before.requires, inr refl)
-
-is-classless-store-requires-2 : tie.Need-is-classless-store-requires-2
-is-classless-store-requires-2 c κs = search rules
-
-same-length-2 : tie.Need-same-length-2
-same-length-2 c = search rules
-
-returns-2 : tie.Need-returns-2
-returns-2 c =
-    let wrote = c.before.before.before.before in
-    read-later _ _ c.is-classless-store2.result wrote.before.before.if2.true wrote.write-new2.ensures
-    c.is-classless-store2.ensures
-
 returns-3 : tie.Need-returns-3
-returns-3 c = read-other _ _ c.before.if1.false c.if2.false
+returns-3 c =
+    let wrote = c.before.before.before.before in
+    let else2 = wrote.before.before in
+    let read = else2.before in
+    let else1 = read.before in
+    let known = else1.before.before in
+    let old = known.before.args.old.now in
+    read-places old wrote.write_new.new.1.0 c.is-store.result
+    (known_bytes old known.shared-slice-known.given) else1.if1.false
+    (sym read.read_u32.ensures ∙ else2.if2.false) wrote.write_new.ensures c.is-store.ensures
 
 pub read_older_spec : {M : Type 1} → statement M
 read_older_spec =
     tie.close
     (tie.spec
-    write-new-requires
-    is-classless-store-requires
-    same_length
     returns
-    write-new-requires-2
-    is-classless-store-requires-2
-    same-length-2
+    read-u32-requires
     returns-2
+    write-new-requires
+    is-store-requires
+    same_length
     returns-3)

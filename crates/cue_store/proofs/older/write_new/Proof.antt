@@ -1,12 +1,11 @@
 -- So far the header and the first `k` places stand in the new layout.
 use Prim.Native.Nat.{◌≤◌, ◌-◌}
 use native.Mathlib.Omega.{arith}
-use mathlib.Core.Path.{◌≡◌, ap, ◌∙◌}
+use mathlib.Core.Path.{◌≡◌}
 use borrow.Author.Rules.{rules}
 use lib.ListN.{length, take}
 use Rattle.model.specs.Cues.{cue_limit}
 use Rattle.layout.specs.Cues.{store_size}
-use Rattle.layout.specs.OlderCues.{number_new}
 use Rattle.cue_store.specs.Code.{place_start}
 use Rattle.cue_store.specs.CodeOlder.{new_up_to}
 use Rattle.cue_store.proofs.OlderPlaces.{places-first, places-next, places-last}
@@ -14,17 +13,11 @@ use Rattle.cue_store.proofs.older.write_new.Statement.{statement}
 use Rattle.cue_store.proofs.older.write_new.Tie as tie
 
 abbrev invariant-loop : tie.invariant-loop
-invariant-loop old number size store₀ k₀ store k =
-    (k ≤ cue_limit) × (length store ≡ store_size) × (take (place_start k) store ≡ new_up_to number size k old)
+invariant-loop old store₀ k₀ store k =
+    (k ≤ cue_limit) × (length store ≡ store_size) × (take (place_start k) store ≡ new_up_to k old)
 
 abbrev decreases-loop : tie.decreases-loop
-decreases-loop old number size store₀ k₀ store k = cue_limit - k
-
-read-u32-requires : tie.Need-read-u32-requires invariant-loop decreases-loop
-read-u32-requires c κs = search rules
-
-number-new-requires : tie.Need-number-new-requires invariant-loop decreases-loop
-number-new-requires c κs = search rules
+decreases-loop old store₀ k₀ store k = cue_limit - k
 
 write-u32-requires : tie.Need-write-u32-requires invariant-loop decreases-loop
 write-u32-requires c κs = search rules
@@ -36,26 +29,17 @@ loop-holds : tie.Need-loop-init invariant-loop decreases-loop
 loop-holds c =
     let copied = c.before.before in
     let wrote = copied.before.before.before.before in
-    let renewed = wrote.before in
-    let read = renewed.before in
-    let start = read.before.before.before.before in
-    let a = start.args in
+    let start = wrote.before.before.before.before in
     let first =
-    places-first a.number a.size a.old.now start.requires.2 start.requires.0 renewed.number-new.result
-    a.store.now wrote.write-u32.new.0 copied.copy.new.1.1.0 start.requires.1
-    (renewed.number-new.ensures ∙ ap (number_new a.number) read.read_u32.ensures) wrote.write-u32.ensures
-    copied.copy.ensures in
+    places-first start.args.old.now start.args.store.now wrote.write-u32.new.0 copied.copy.new.1.1.0
+    start.requires.0 start.requires.1 wrote.write-u32.ensures copied.copy.ensures in
     (omega arith, first.0, first.1)
 
 abbrev started : tie.At-loop invariant-loop decreases-loop → tie.Start invariant-loop decreases-loop
-started l = l.before.before.before.before.before.before.before.before.before.before.before.before.before
+started l = l.before.before.before.before.before.before.before.before.before.before.before
 
 write-place-requires : tie.Need-write-place-requires invariant-loop decreases-loop
-write-place-requires c κs =
-    let in-loop = c.before in
-    let l = in-loop.before in
-    let start = started l in
-    (start.pre.0, l.loop.invariant.1, start.pre.2, in-loop.loop-test.true)
+write-place-requires c κs = search rules
 
 add-k : tie.Need-overflow_add-k invariant-loop decreases-loop
 add-k c = search rules
@@ -69,11 +53,9 @@ loop-again c =
     let in-loop = placed.before.before in
     let l = in-loop.before in
     let start = started l in
-    let a = start.args in
     let next =
-    places-next a.number a.size a.old.now start.pre.2 start.pre.0 l.loop.k l.loop.store
-    placed.write-place.new.1.1.1.0 l.loop.invariant.1 in-loop.loop-test.true l.loop.invariant.2
-    placed.write-place.ensures in
+    places-next l.loop.k start.args.old.now l.loop.store placed.write-place.new.1.1.0 start.pre.0
+    l.loop.invariant.1 in-loop.loop-test.true l.loop.invariant.2 placed.write-place.ensures in
     (omega arith, next.0, next.1)
 
 same_length : tie.Need-same-length invariant-loop decreases-loop
@@ -82,10 +64,8 @@ same_length c = search rules
 returns : tie.Need-returns invariant-loop decreases-loop
 returns c =
     let l = c.before in
-    let start = started l in
-    let a = start.args in
-    places-last a.number a.size a.old.now start.pre.2 start.pre.0 l.loop.k l.loop.store
-    l.loop.invariant.1 l.loop.invariant.0 c.loop-test.false l.loop.invariant.2
+    places-last l.loop.k (started l).args.old.now l.loop.store l.loop.invariant.1 l.loop.invariant.0
+    c.loop-test.false l.loop.invariant.2
 
 pub write_new_spec : {M : Type 1} → statement M
 write_new_spec =
@@ -93,8 +73,6 @@ write_new_spec =
     (tie.spec
     invariant-loop
     decreases-loop
-    read-u32-requires
-    number-new-requires
     write-u32-requires
     copy-requires
     loop-holds

@@ -20,12 +20,6 @@ flow-of-requires c κs = search rules
 cast-t8 : tie.Need-overflow_cast-t8
 cast-t8 c = search rules
 
-class-of-requires : tie.Need-class-of-requires
-class-of-requires c κs = search rules
-
-cast-t10 : tie.Need-overflow_cast-t10
-cast-t10 c = search rules
-
 rank-of-requires : tie.Need-rank-of-requires
 rank-of-requires c κs = search rules
 
@@ -37,14 +31,13 @@ slot-of-requires c κs = search rules
 
 returns : tie.Need-returns
 returns c =
-    let read = c.before.before.before.before.before in
+    let read = c.before.before.before.before in
     let a = read.before.before.args in
     λ i.
     record {
       input = sym (entry_at-input a.bytes.now a.k) i;
       output = read.output-of.ensures i;
-      flow = c.before.before.before.before.flow-of.ensures i;
-      class = c.before.before.before.class_of.ensures i;
+      flow = c.before.before.before.flow-of.ensures i;
       rank = c.before.before.rank-of.ensures i;
       tag = c.before.tag_of.ensures i;
       slot = c.slot_of.ensures i;
@@ -59,8 +52,6 @@ cell_of_spec =
     cast-t6
     flow-of-requires
     cast-t8
-    class-of-requires
-    cast-t10
     rank-of-requires
     tag-of-requires
     slot-of-requires

@@ -24,29 +24,23 @@ mul-write-u32-2 c = search rules
 add-write-u32-2 : tie.Need-overflow_add-write-u32-2
 add-write-u32-2 c = search rules
 
-mul-write-u32-3 : tie.Need-overflow_mul-write-u32-3
-mul-write-u32-3 c = search rules
+write-u32-requires : tie.Need-write-u32-requires
+write-u32-requires c κs = search rules
 
 add-write-u32-3 : tie.Need-overflow_add-write-u32-3
 add-write-u32-3 c = search rules
 
-write-u32-requires : tie.Need-write-u32-requires
-write-u32-requires c κs = search rules
+write-u32-requires-2 : tie.Need-write-u32-requires-2
+write-u32-requires-2 c κs = search rules
 
 add-write-u32-4 : tie.Need-overflow_add-write-u32-4
 add-write-u32-4 c = search rules
 
-write-u32-requires-2 : tie.Need-write-u32-requires-2
-write-u32-requires-2 c κs = search rules
-
-add-write-u32-5 : tie.Need-overflow_add-write-u32-5
-add-write-u32-5 c = search rules
-
 write-u32-requires-3 : tie.Need-write-u32-requires-3
 write-u32-requires-3 c κs = search rules
 
-add-write-u32-6 : tie.Need-overflow_add-write-u32-6
-add-write-u32-6 c = search rules
+add-write-u32-5 : tie.Need-overflow_add-write-u32-5
+add-write-u32-5 c = search rules
 
 write-u32-requires-4 : tie.Need-write-u32-requires-4
 write-u32-requires-4 c κs = search rules
@@ -60,18 +54,18 @@ returns c =
     let x = d.before.before.before.before in
     let b = x.before.before.before.before in
     let a = b.before.before.before.before in
-    let at = a.before.before.before.before.before in
+    let at = a.before.before.before.before in
     let start = at.before.before in
     let cell = start.args.c in
     let p = start.args.place in
     let old = start.args.bytes.now in
     let fits = start.requires.1 in
-    put_four at.start_of.result (cell.output + 256 * cell.flow + 65536 * p + 16777216 * cell.class) cell.rank cell.tag cell.slot
+    put_four at.start_of.result (cell.output + 256 * cell.flow + 65536 * p) cell.rank cell.tag cell.slot
     old a.write-u32.new.0 b.write-u322.new.0 x.write-u323.new.0 d.write-u324.new.0
     (omega (arith, at.start_of.ensures, start.requires.0.0, start.requires.0.1))
     a.write-u32.ensures b.write-u322.ensures x.write-u323.ensures d.write-u324.ensures
     ∙ ap₂ (λ n bs. put n 16 bs old) at.start_of.ensures
-    (entry-words cell p fits.0 fits.1 fits.3 fits.4)
+    (entry-words cell p fits.0 fits.1 fits.2 fits.3)
 
 pub write_entry_spec : {M : Type 1} → statement M
 write_entry_spec =
@@ -82,14 +76,12 @@ write_entry_spec =
     add-write-u32
     mul-write-u32-2
     add-write-u32-2
-    mul-write-u32-3
-    add-write-u32-3
     write-u32-requires
-    add-write-u32-4
+    add-write-u32-3
     write-u32-requires-2
-    add-write-u32-5
+    add-write-u32-4
     write-u32-requires-3
-    add-write-u32-6
+    add-write-u32-5
     write-u32-requires-4
     same_length
     returns)

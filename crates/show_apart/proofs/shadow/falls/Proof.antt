@@ -6,10 +6,10 @@ use Rattle.show_apart.proofs.shadow.falls.Statement.{statement}
 use Rattle.show_apart.proofs.shadow.falls.Tie as tie
 
 abbrev invariant-loop : tie.invariant-loop
-invariant-loop shadow arrival rank k₀ k = k ≤ 2048
+invariant-loop shadow input output flow rank k₀ k = k ≤ 2048
 
 abbrev decreases-loop : tie.decreases-loop
-decreases-loop shadow arrival rank k₀ k = 2048 - k
+decreases-loop shadow input output flow rank k₀ k = 2048 - k
 
 loop-holds : tie.Need-loop-init invariant-loop decreases-loop
 loop-holds c = search rules

@@ -6,10 +6,10 @@ use Rattle.show_apart.proofs.shadow.leave.Statement.{statement}
 use Rattle.show_apart.proofs.shadow.leave.Tie as tie
 
 abbrev invariant-loop : tie.invariant-loop
-invariant-loop shadow place sent₀ output f₀ sent f = f ≤ 8
+invariant-loop shadow place sent₀ output f₀ sent f = f ≤ 7
 
 abbrev decreases-loop : tie.decreases-loop
-decreases-loop shadow place sent₀ output f₀ sent f = 8 - f
+decreases-loop shadow place sent₀ output f₀ sent f = 7 - f
 
 returns : tie.Need-returns invariant-loop decreases-loop
 returns c = search rules

@@ -6,10 +6,10 @@ use Rattle.show_apart.proofs.stage.same_departures.Statement.{statement}
 use Rattle.show_apart.proofs.stage.same_departures.Tie as tie
 
 abbrev invariant-loop : tie.invariant-loop
-invariant-loop answer sent k₀ k = k ≤ 128
+invariant-loop answer sent k₀ k = k ≤ 112
 
 abbrev decreases-loop : tie.decreases-loop
-decreases-loop answer sent k₀ k = 128 - k
+decreases-loop answer sent k₀ k = 112 - k
 
 loop-holds : tie.Need-loop-init invariant-loop decreases-loop
 loop-holds c = search rules

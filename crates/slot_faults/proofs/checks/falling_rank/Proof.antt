@@ -40,7 +40,7 @@ outranked-requires c κs =
     let end = flow.before.end_of_lem.ensures in
     let low = at.loop.invariant.start in (
       (table-length _ start.requires.0, omega (arith, start.requires.1.0, end)),
-      (omega (arith, start.requires.1.0, end), flow.flow-word.ensures, start.requires.1.1.0, start.requires.1.1.1),
+      (omega (arith, start.requires.1.0, end), flow.flow-word.ensures, start.requires.1.1.0),
     )
 
 add-k : tie.Need-overflow_add-k invariant-loop decreases-loop

@@ -14,8 +14,7 @@ returns : tie.Need-returns
 returns c =
     let word = c.before.before.flow-word-of in
     let own = c.before.before.before.before.requires.1 in
-    outranks-by _ _ _ _
-    (own-flow _ _ _ _ _ own.0 own.2 own.3 word.ensures.1 word.ensures.2 word.ensures.0 own.1)
+    outranks-by _ _ _ _ (own-flow _ _ _ _ _ own.0 own.2 word.ensures.1 word.ensures.0 own.1)
     c.before.rank-of.ensures
 
 pub outranked_spec : {M : Type 1} → statement M

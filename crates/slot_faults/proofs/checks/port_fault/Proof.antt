@@ -1,7 +1,7 @@
 -- The checks in their order. No cell waits.
 use mathlib.Core.Path.{sym, ◌∙◌, ap}
 use borrow.Author.Rules.{rules}
-use Rattle.model.proofs.CheckOrder.{fault-port, fault-flow, fault-class, fault-turn}
+use Rattle.model.proofs.CheckOrder.{fault-port, fault-flow, fault-turn}
 use Rattle.slot_faults.specs.CodeFault.{fault_at}
 use Rattle.slot_faults.proofs.Faults.{port-none}
 use Rattle.slot_faults.proofs.checks.port_fault.Statement.{statement}
@@ -27,45 +27,28 @@ returns-2 c =
     (sym port.before.no-such-port.ensures ∙ port.if1.false)
     (sym c.before.no-such-flow.ensures ∙ c.if2.true)))
 
-no-such-class-requires : tie.Need-no-such-class-requires
-no-such-class-requires c κs = search rules
+out-of-turn-requires : tie.Need-out-of-turn-requires
+out-of-turn-requires c κs = search rules
 
 returns-3 : tie.Need-returns-3
 unfolding fault_at
 returns-3 c =
     let flow = c.before.before in
     let port = flow.before.before in
-    λ before e. sym (ap (fault_at _) (fault-class _ _ before _
+    λ before e. sym (ap (fault_at _) (fault-turn _ _ before _
     (sym port.before.no-such-port.ensures ∙ port.if1.false)
     (sym flow.before.no-such-flow.ensures ∙ flow.if2.false)
-    (sym c.before.no-such-class.ensures ∙ c.if3.true)))
-
-out-of-turn-requires : tie.Need-out-of-turn-requires
-out-of-turn-requires c κs = search rules
+    (sym (c.before.out-of-turn.ensures before e) ∙ c.if3.true)))
 
 returns-4 : tie.Need-returns-4
 unfolding fault_at
 returns-4 c =
-    let class = c.before.before in
-    let flow = class.before.before in
-    let port = flow.before.before in
-    λ before e. sym (ap (fault_at _) (fault-turn _ _ before _
-    (sym port.before.no-such-port.ensures ∙ port.if1.false)
-    (sym flow.before.no-such-flow.ensures ∙ flow.if2.false)
-    (sym class.before.no-such-class.ensures ∙ class.if3.false)
-    (sym (c.before.out-of-turn.ensures before e) ∙ c.if4.true)))
-
-returns-5 : tie.Need-returns-5
-unfolding fault_at
-returns-5 c =
-    let class = c.before.before in
-    let flow = class.before.before in
+    let flow = c.before.before in
     let port = flow.before.before in
     λ before e. sym (ap (fault_at _) (port-none _ before _
     (sym port.before.no-such-port.ensures ∙ port.if1.false)
     (sym flow.before.no-such-flow.ensures ∙ flow.if2.false)
-    (sym class.before.no-such-class.ensures ∙ class.if3.false)
-    (sym (c.before.out-of-turn.ensures before e) ∙ c.if4.false)))
+    (sym (c.before.out-of-turn.ensures before e) ∙ c.if3.false)))
 
 pub port_fault_spec : {M : Type 1} → statement M
 port_fault_spec =
@@ -75,8 +58,6 @@ port_fault_spec =
     returns
     no-such-flow-requires
     returns-2
-    no-such-class-requires
-    returns-3
     out-of-turn-requires
-    returns-4
-    returns-5)
+    returns-3
+    returns-4)

@@ -10,7 +10,7 @@ falling-rank-requires : tie.Need-falling-rank-requires
 falling-rank-requires c κs =
     let pre = c.before.requires in
     let ports = ports-below _ pre.0 in
-    (pre.0, (pre.1.input, (omega (arith, pre.1.output), omega (arith, pre.1.flow), omega (arith, pre.1.class))))
+    (pre.0, (pre.1.input, (omega (arith, pre.1.output), omega (arith, pre.1.flow))))
 
 returns : tie.Need-returns
 unfolding fault_at waiting_fault
