@@ -27,7 +27,7 @@ returns c =
     let fits = start.ranges in
     sym (in_turn-places fits.i.fits fits.j.fits
     (placed _ _ _ fits.start.fits one.wrapping_sub_u32.type_inv one.wrapping_sub_u32.ensures)
-    (placed _ _ _ fits.start.fits c.wrapping_sub_u32-2.type-inv c.wrapping_sub_u32-2.ensures))
+    (placed _ _ _ fits.start.fits c.wrapping_sub_u32-2.type_inv c.wrapping_sub_u32-2.ensures))
 
 pub in_turn_spec : {M : Type 1} → statement M
 in_turn_spec = tie.close (tie.spec wrapping-sub-u32-requires wrapping-sub-u32-requires-2 returns)
