@@ -1,6 +1,7 @@
 // The trace: one grammar, read by `trace_reader` and written by `trace_writer`. What a line, a block and a whole text
 // mean is in specs/.
 #![tactic(auto)]
+
 use cell::Refusal;
 
 // So many arrivals a block has at most, each of so many numbers: input, output, flow, rank, tag.
