@@ -1,6 +1,7 @@
 // The bytes of the table, of the arrivals, of the answer, of the tally and of the cue store: definitions in specs/ and
 // laws in proofs/. Here are their sizes, for all code that reads or writes them, each made of the others.
 #![tactic(auto)]
+
 pub mod result;
 pub mod run;
 pub mod word;

@@ -1,6 +1,7 @@
 // Scope 7.1: a line is read. The text is lent and only read.
 // No public function has a `requires`.
 #![tactic(auto)]
+
 ghost use Rattle.std.specs.Prelude.{◌≡◌, ◌+◌, ◌≤◌, ◌<◌, length, drop};
 ghost use Rattle.trace.specs.Line.{is_digit, read_line};
 ghost use Rattle.trace.specs.Reader.{from, begins};

@@ -7,10 +7,10 @@ use Rattle.layout.specs.Host.{fault_result}
 use Rattle.layout.proofs.result.result_of.Statement.{statement}
 use Rattle.layout.proofs.result.result_of.Tie as tie
 
-enum_told : tie.Need-enum-told
+enum_told : tie.Need-enum_told-1
 enum_told c = search rules
 
-enum-known-fault : tie.Need-enum-known-fault
+enum-known-fault : tie.Need-enum_known-fault
 enum-known-fault c = search rules
 
 number-requires : tie.Need-number-requires
@@ -19,7 +19,7 @@ number-requires c κs = search rules
 cast-result : tie.Need-overflow_cast-result
 cast-result c = search rules
 
-cast-result-2 : tie.Need-overflow_cast-result-2
+cast-result-2 : tie.Need-overflow_cast-result-in-At
 cast-result-2 c = search rules
 
 mul-result : tie.Need-overflow_mul-result
@@ -28,13 +28,12 @@ mul-result c = search rules
 add-result : tie.Need-overflow_add-result
 add-result c = search rules
 
-returns : tie.Need-returns
+returns : tie.Need-returns-in-Clear
 returns c = search rules
 
-returns-2 : tie.Need-returns-2
+returns-2 : tie.Need-returns-in-At
 returns-2 c =
-    let told = c.before.before.fault.given in
-    ap (λ n. n + 256 * told.0.1.0) c.number.ensures ∙ sym (ap fault_result told.1)
+    ap (λ n. n + 256 * c.in-At.place) c.number.ensures ∙ sym (ap fault_result c.in-At.is)
 
 pub result_of_spec : {M : Type 1} → statement M
 result_of_spec =

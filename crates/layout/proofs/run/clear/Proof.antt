@@ -11,32 +11,32 @@ use Rattle.layout.proofs.Runs.{put-more}
 use Rattle.layout.proofs.run.clear.Statement.{statement}
 use Rattle.layout.proofs.run.clear.Tie as tie
 
-abbrev invariant-loop : tie.invariant-loop
+abbrev invariant-loop : tie.invariant-loop-i
 invariant-loop bytes₀ at count i₀ bytes i =
     (i ≤ count) × (length bytes ≡ length bytes₀) × (bytes ≡ put at i (take i (replicate count 0)) bytes₀)
 
-abbrev decreases-loop : tie.decreases-loop
+abbrev decreases-loop : tie.decreases-loop-i
 decreases-loop bytes₀ at count i₀ bytes i = count - i
 
-loop-holds : tie.Need-loop-init invariant-loop decreases-loop
+loop-holds : tie.Need-loop-i-init invariant-loop decreases-loop
 loop-holds c = (omega arith, refl, put-none c.args.at c.args.bytes.now)
 
 add-bytes : tie.Need-overflow_add-bytes invariant-loop decreases-loop
 add-bytes c = search rules
 
-slice-write-bytes : tie.Need-slice-write-bytes invariant-loop decreases-loop
+slice-write-bytes : tie.Need-bounds-bytes-at invariant-loop decreases-loop
 slice-write-bytes c = search rules
 
 add-i : tie.Need-overflow_add-i invariant-loop decreases-loop
 add-i c = search rules
 
-loop-less : tie.Need-loop-smaller invariant-loop decreases-loop
+loop-less : tie.Need-loop-i-smaller invariant-loop decreases-loop
 loop-less c = omega arith
 
-loop-again : tie.Need-loop-preserved invariant-loop decreases-loop
+loop-again : tie.Need-loop-i-preserved invariant-loop decreases-loop
 loop-again c =
     let a = c.before.before.args in
-    let l = c.before.loop in
+    let l = c.before.loop-i in
     let long = length-replicate {A = ℕ} a.count 0 in (
       omega arith,
       length-set l.bytes (a.at + l.i) 0 ∙ l.invariant.1,
@@ -44,13 +44,13 @@ loop-again c =
           (omega (arith, long)) l.invariant.2 (sym (get_or-replicate a.count l.i 0 0 (omega arith))),
     )
 
-same_length : tie.Need-same-length invariant-loop decreases-loop
+same_length : tie.Need-shape_of-bytes invariant-loop decreases-loop
 same_length c = search rules
 
 returns : tie.Need-returns invariant-loop decreases-loop
 returns c =
     let a = c.before.before.args in
-    let l = c.before.loop in
+    let l = c.before.loop-i in
     let long = length-replicate {A = ℕ} a.count 0 in
     let end : l.i ≡ a.count = omega arith in
     l.invariant.2

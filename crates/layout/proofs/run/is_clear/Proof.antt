@@ -9,52 +9,52 @@ use Rattle.layout.proofs.Runs.{zeros_past, zeros-first, zeros-next, zeros-stop, 
 use Rattle.layout.proofs.run.is_clear.Statement.{statement}
 use Rattle.layout.proofs.run.is_clear.Tie as tie
 
-abbrev invariant-loop : tie.invariant-loop
+abbrev invariant-loop : tie.invariant-loop-i
 invariant-loop bytes at count i₀ i =
     same_bytes (replicate count 0) (take count (drop at bytes)) ≡ zeros_past i at count bytes
 
-abbrev decreases-loop : tie.decreases-loop
+abbrev decreases-loop : tie.decreases-loop-i
 decreases-loop bytes at count i₀ i = count - i
 
-loop-holds : tie.Need-loop-init invariant-loop decreases-loop
+loop-holds : tie.Need-loop-i-init invariant-loop decreases-loop
 loop-holds c = zeros-first c.args.at c.args.count c.args.bytes.now
 
-add-if1 : tie.Need-overflow_add-if1 invariant-loop decreases-loop
+add-if1 : tie.Need-overflow_add-at invariant-loop decreases-loop
 add-if1 c = search rules
 
-shared-slice-read-if1 : tie.Need-shared-slice-read-if1 invariant-loop decreases-loop
+shared-slice-read-if1 : tie.Need-bounds-bytes-at invariant-loop decreases-loop
 shared-slice-read-if1 c = search rules
 
-returns : tie.Need-returns invariant-loop decreases-loop
+returns : tie.Need-returns-then-bytes-at-ne0 invariant-loop decreases-loop
 returns c =
     let in-loop = c.before.before in
     let start = in-loop.before.before in
-    let l = in-loop.before.loop in
+    let l = in-loop.before.loop-i in
     sym
     (l.invariant
     ∙ zeros-stop l.i start.args.at start.args.count start.args.bytes.now start.requires
-    in-loop.loop-test.true c.if1.true)
+    in-loop.loop-i-test.true c.if-bytes-at-ne0.true)
 
 add-i : tie.Need-overflow_add-i invariant-loop decreases-loop
 add-i c = search rules
 
-loop-less : tie.Need-loop-smaller invariant-loop decreases-loop
+loop-less : tie.Need-loop-i-smaller invariant-loop decreases-loop
 loop-less c = omega arith
 
-loop-again : tie.Need-loop-preserved invariant-loop decreases-loop
+loop-again : tie.Need-loop-i-preserved invariant-loop decreases-loop
 loop-again c =
     let in-loop = c.before.before in
     let start = in-loop.before.before in
-    let l = in-loop.before.loop in
+    let l = in-loop.before.loop-i in
     l.invariant
     ∙ zeros-next l.i start.args.at start.args.count start.args.bytes.now start.requires
-    in-loop.loop-test.true c.if1.false
+    in-loop.loop-i-test.true c.if-bytes-at-ne0.false
 
-returns-2 : tie.Need-returns-2 invariant-loop decreases-loop
+returns-2 : tie.Need-returns invariant-loop decreases-loop
 returns-2 c =
     let a = c.before.before.args in
-    let l = c.before.loop in
-    sym (l.invariant ∙ zeros-end l.i a.at a.count a.bytes.now c.loop-test.false)
+    let l = c.before.loop-i in
+    sym (l.invariant ∙ zeros-end l.i a.at a.count a.bytes.now c.loop-i-test.false)
 
 pub is_clear_spec : {M : Type 1} → statement M
 is_clear_spec =

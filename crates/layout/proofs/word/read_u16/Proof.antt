@@ -8,28 +8,28 @@ use Rattle.layout.proofs.Halves.{read-halves, number_at-byte}
 use Rattle.layout.proofs.word.read_u16.Statement.{statement}
 use Rattle.layout.proofs.word.read_u16.Tie as tie
 
-shared-slice-read-result : tie.Need-shared-slice-read-result
+shared-slice-read-result : tie.Need-bounds-bytes-at
 shared-slice-read-result c = search rules
 
 cast-result : tie.Need-overflow_cast-result
-cast-result c = omega (arith, c.shared-slice-known.given c.before.args.at)
+cast-result c = omega (arith, c.shared_slice_known-1.given c.before.args.at)
 
 add-result : tie.Need-overflow_add-result
 add-result c = search rules
 
-shared-slice-read-result-2 : tie.Need-shared-slice-read-result-2
+shared-slice-read-result-2 : tie.Need-bounds-bytes-at-2
 shared-slice-read-result-2 c = search rules
 
 cast-result-2 : tie.Need-overflow_cast-result-2
-cast-result-2 c = omega (arith, c.shared-slice-known2.given (c.before.before.args.at + 1))
+cast-result-2 c = omega (arith, c.shared_slice_known-2-1.given (c.before.before.args.at + 1))
 
 mul-result : tie.Need-overflow_mul-result
-mul-result c = omega (arith, c.shared-slice-known2.given (c.before.before.args.at + 1))
+mul-result c = omega (arith, c.shared_slice_known-2-1.given (c.before.before.args.at + 1))
 
 add-result-2 : tie.Need-overflow_add-result-2
 add-result-2 c =
     let at = c.before.before.args.at in
-    omega (arith, c.before.shared-slice-known.given at, c.shared-slice-known2.given (at + 1))
+    omega (arith, c.before.shared_slice_known-1.given at, c.shared_slice_known-2-1.given (at + 1))
 
 returns : tie.Need-returns
 returns c =

@@ -5,16 +5,16 @@ use Rattle.layout.proofs.Halves.{read-halves}
 use Rattle.layout.proofs.word.read_u64.Statement.{statement}
 use Rattle.layout.proofs.word.read_u64.Tie as tie
 
-read-u32-requires : tie.Need-read-u32-requires
+read-u32-requires : tie.Need-read_u32-requires
 read-u32-requires c κs = search rules
 
 cast-result : tie.Need-overflow_cast-result
 cast-result c = search rules
 
-add-read-u32 : tie.Need-overflow_add-read-u32
+add-read-u32 : tie.Need-overflow_add-at
 add-read-u32 c = search rules
 
-read-u32-requires-2 : tie.Need-read-u32-requires-2
+read-u32-requires-2 : tie.Need-read_u32-requires-2
 read-u32-requires-2 c κs = search rules
 
 cast-result-2 : tie.Need-overflow_cast-result-2
@@ -31,7 +31,7 @@ unfolding word
 returns c =
     let start = c.before.before.before in
     let low = c.before.read_u32 in
-    let high = c.read-u322 in
+    let high = c.read_u32-2 in
     read-halves 4 start.args.at low.result high.result start.args.bytes.now
     start.requires low.ensures high.ensures
 

@@ -6,22 +6,22 @@ use Rattle.layout.proofs.Halves.{put-halves}
 use Rattle.layout.proofs.word.write_u64.Statement.{statement}
 use Rattle.layout.proofs.word.write_u64.Tie as tie
 
-cast-write-u32 : tie.Need-overflow_cast-write-u32
+cast-write-u32 : tie.Need-overflow_cast-n
 cast-write-u32 c = search rules
 
-write-u32-requires : tie.Need-write-u32-requires
+write-u32-requires : tie.Need-write_u32-requires
 write-u32-requires c κs = search rules
 
-add-write-u32 : tie.Need-overflow_add-write-u32
+add-write-u32 : tie.Need-overflow_add-at
 add-write-u32 c = search rules
 
-cast-write-u32-2 : tie.Need-overflow_cast-write-u32-2
+cast-write-u32-2 : tie.Need-overflow_cast-n-2
 cast-write-u32-2 c = search rules
 
-write-u32-requires-2 : tie.Need-write-u32-requires-2
+write-u32-requires-2 : tie.Need-write_u32-requires-2
 write-u32-requires-2 c κs = search rules
 
-same_length : tie.Need-same-length
+same_length : tie.Need-shape_of-bytes
 same_length c = search rules
 
 returns : tie.Need-returns
@@ -30,8 +30,8 @@ returns c =
     let low = high.before.before.before.before in
     let start = low.before.before.before in
     let a = start.args in
-    put-halves 4 a.at (a.n % 4294967296) (a.n / 4294967296) a.n a.bytes.now low.write-u32.new.0
-    high.write-u322.new.0 start.requires low.write-u32.ensures high.write-u322.ensures (omega arith) (omega arith)
+    put-halves 4 a.at (a.n % 4294967296) (a.n / 4294967296) a.n a.bytes.now low.write_u32.new.bytes
+    high.write_u32-2.new.bytes start.requires low.write_u32.ensures high.write_u32-2.ensures (omega arith) (omega arith)
 
 pub write_u64_spec : {M : Type 1} → statement M
 write_u64_spec =
