@@ -10,7 +10,7 @@ ghost use Rattle.cell.specs.Refusal.{number};
 use std::num::wrapping_sub_u32;
 
 // A cell in the switch. `slot` is the slot in which it was accepted.
-#[derive(Drop)]
+#[derive(Clone, Copy)]
 pub struct Cell {
     pub input: u32,
     pub output: u32,
@@ -21,7 +21,7 @@ pub struct Cell {
 }
 
 // A record of the arrivals that a slot is lent: any five numbers.
-#[derive(Drop)]
+#[derive(Clone, Copy)]
 pub struct Arrival {
     pub input: u32,
     pub output: u32,
@@ -31,7 +31,7 @@ pub struct Arrival {
 }
 
 // What the caller counts: slots run, slots refused, cells in, cells out. A count at its top stays there.
-#[derive(Drop)]
+#[derive(Clone, Copy)]
 pub struct Tally {
     pub run: u64,
     pub refused: u64,
@@ -40,7 +40,7 @@ pub struct Tally {
 }
 
 // Why a call is turned back.
-#[derive(Drop)]
+#[derive(Clone, Copy)]
 pub enum Refusal {
     // bad size: N is not 1 to 16
     BadSize,
@@ -100,7 +100,7 @@ impl Refusal {
 }
 
 // What the checks of a slot's records find: nothing, or the first fault and its record's place, from 1.
-#[derive(Drop)]
+#[derive(Clone, Copy)]
 pub enum Fault {
     Clear,
     At(Refusal, u32),
@@ -108,7 +108,7 @@ pub enum Fault {
 
 // The switch's size and its clock, the number of the next slot; and its limits. What they make of a table's room and of
 // its bytes is in `layout`.
-#[derive(Drop)]
+#[derive(Clone, Copy)]
 pub struct Switch {
     pub ports: u32,
     pub clock: u32,

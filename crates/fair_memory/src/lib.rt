@@ -1,6 +1,7 @@
 // The memory of a switch in its bytes: the marks of its fair outputs, the rank that last left each output, and the last
 // rank given to each flow, each a number of 32 bits. A caller shows that the bytes are there.
 #![tactic(auto)]
+
 ghost use Rattle.std.specs.Prelude.{◌≡◌, ◌<◌, length, get_or};
 ghost use Rattle.cell.specs.Limits.{port_limit};
 ghost use Rattle.model.specs.Fair.{is_fair, no_memory, flow_count};

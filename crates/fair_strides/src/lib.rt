@@ -1,5 +1,6 @@
 // The strides of the weights, read from a table.
 #![tactic(auto)]
+
 ghost use Rattle.std.specs.Prelude.{◌≡◌, cond};
 ghost use Rattle.model.specs.Fair.{weight_in_range, stride};
 

@@ -2,6 +2,7 @@
 // the proposals of the two phases, then for each phase how many crosspoints of each output held a cell. A caller shows
 // that the bytes are there.
 #![tactic(auto)]
+
 ghost use Rattle.std.specs.Prelude.{◌++◌, ◌≡◌, ◌+◌, ◌≤◌, eqb, length};
 ghost use Rattle.std.proofs.Math.Option.{none, some};
 ghost use Rattle.cell.specs.Limits.{port_limit};

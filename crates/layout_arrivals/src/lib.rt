@@ -1,5 +1,6 @@
 // The records of lent arrivals, read from their bytes.
 #![tactic(auto)]
+
 ghost use Rattle.std.specs.Prelude.{◌≡◌, ◌+◌, ◌*◌, ◌/◌, ◌≤◌, min, length, take};
 ghost use Rattle.layout.specs.Arrivals.{arrival_size, arrivals_of, held_limit};
 ghost use Rattle.layout_arrivals.specs.Code.{arrival_at};

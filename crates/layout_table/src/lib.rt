@@ -1,5 +1,6 @@
 // The code that reads and writes the table's bytes.
 #![tactic(auto)]
+
 pub mod entry;
 pub mod header;
 pub mod priority;

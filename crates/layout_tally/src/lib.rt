@@ -1,5 +1,6 @@
 // The tally: four counts, each 64 bits wide, of which each slot call changes some. As bytes it takes 32.
 #![tactic(auto)]
+
 ghost use Rattle.std.specs.Prelude.{◌≡◌, length};
 ghost use Rattle.model.specs.Tally.{raise};
 ghost use Rattle.layout.specs.TallyBytes.{tally_of, tally_bytes, tally_size};

@@ -10,7 +10,7 @@ use libc::{STDERR_FILENO, STDIN_FILENO, STDOUT_FILENO};
 use player_turns::{Engine, Stage, take_turns};
 
 // What the arguments ask for.
-#[derive(Drop)]
+#[derive(Clone, Copy)]
 enum Request {
     Play,
     Help,
@@ -19,7 +19,7 @@ enum Request {
 }
 
 // How many bytes of text the window has, whether no more will come, and whether a read failed.
-#[derive(Drop)]
+#[derive(Clone, Copy)]
 struct Filling {
     filled: usize,
     last: bool,

@@ -26,7 +26,7 @@ use trace::{Answer, Key, Opening};
 const TURN_ROOM: usize = 16 + layout::PORTS * 76;
 
 // Which switch plays the slots.
-#[derive(Drop)]
+#[derive(Clone, Copy)]
 pub enum Engine {
     Crossbar,
     Oq,
@@ -34,7 +34,7 @@ pub enum Engine {
 
 // Where the player stands: before the header; before a block or the end; or behind all that it writes, where the trace
 // was played to its end or was turned back.
-#[derive(Drop)]
+#[derive(Clone, Copy)]
 pub enum Stage {
     Opening,
     Playing,
@@ -43,7 +43,7 @@ pub enum Stage {
 }
 
 // What a turn leaves: the stage, the number of the next line, how many bytes of the text it took and how many it wrote.
-#[derive(Drop)]
+#[derive(Clone, Copy)]
 pub struct Turn {
     pub stage: Stage,
     pub line: usize,
@@ -52,7 +52,7 @@ pub struct Turn {
 }
 
 // What became of a block's slot, with the number of bytes written: it ran, or it was refused.
-#[derive(Drop)]
+#[derive(Clone, Copy)]
 enum Played {
     Ran(usize),
     Stopped(usize),

@@ -102,7 +102,7 @@ fn run_held(table: &mut [u8], held: [Arrival; HELD], number: usize, answer: &mut
 }
 
 // What a slot call leaves of what it was passed by value: its refusal, and the tally.
-#[derive(Drop)]
+#[derive(Clone, Copy)]
 pub struct Called {
     pub fault: Fault,
     pub tally: Tally,

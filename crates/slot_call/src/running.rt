@@ -11,7 +11,7 @@ use layout::PORTS;
 use slot_course::slot::run;
 
 // What came of a slot: its refusal if it is turned back, and its departures if it ran.
-#[derive(Drop)]
+#[derive(Clone, Copy)]
 pub struct Ended {
     pub fault: Fault,
     pub ran: bool,

@@ -19,7 +19,7 @@ use layout::{CELLS, PORTS, TABLE_BYTES, word};
 use layout_table::{entry, header};
 
 // Whether a section is sound; and if it is, its cells by their places, as sets of positions, and the heads of its list.
-#[derive(Drop)]
+#[derive(Clone, Copy)]
 struct Sorted {
     sound: bool,
     listed: u64,

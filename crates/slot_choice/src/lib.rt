@@ -19,7 +19,7 @@ use slot_view::{Choice, NO_KEY};
 
 // What the walk finds: the number of the scheduled cell, 1,024 where there is none, and the positions of the urgent
 // cells.
-#[derive(Drop)]
+#[derive(Clone, Copy)]
 struct Found {
     scheduled: u16,
     urgent: u64,

@@ -13,7 +13,7 @@ use slot_matching::{Matched, find_matching};
 use slot_moves::move_cells;
 
 // What a phase reports: the number of proposals that it made, and the occupancy of each output.
-#[derive(Drop)]
+#[derive(Clone, Copy)]
 pub struct Report {
     pub proposals: u32,
     pub occupancy: [u16; PORTS],

@@ -22,7 +22,7 @@ use slot_view::NO_KEY;
 const PHASES: usize = 2;
 
 // What the two phases report: the proposals that each made, and the occupancy of each output in each.
-#[derive(Drop)]
+#[derive(Clone, Copy)]
 struct Reports {
     proposals: [u32; PHASES],
     first: [u16; PORTS],

@@ -22,7 +22,7 @@ use slot_view::NO_KEY;
 const NO_FLOW: u16 = 65535;
 
 // The cells of an input by their places, as sets of positions.
-#[derive(Drop)]
+#[derive(Clone, Copy)]
 struct Places {
     listed: u64,
     crossed: u64,

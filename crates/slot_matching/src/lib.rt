@@ -14,7 +14,7 @@ use layout_table::priority::NOWHERE;
 
 // `held`: for each output the number of the cell that it holds, `NOWHERE` for none. `proposals`: how many proposals
 // were made.
-#[derive(Drop)]
+#[derive(Clone, Copy)]
 pub struct Matched {
     pub held: [u16; PORTS],
     pub proposals: u32,

@@ -19,14 +19,14 @@ use slot_steps::{pull, pull_number, send, send_number, straight_number, straight
 use slot_view::Choice;
 
 // The ports of the straight cells: the inputs that they left, and the outputs that they went to.
-#[derive(Drop)]
+#[derive(Clone, Copy)]
 struct Marks {
     inputs: [bool; PORTS],
     outputs: [bool; PORTS],
 }
 
 // The choice of each output (rule 6): the best cell at its crosspoints, and how many of them hold a cell.
-#[derive(Drop)]
+#[derive(Clone, Copy)]
 struct OutputChoice {
     best: [u16; PORTS],
     occupancy: [u16; PORTS],

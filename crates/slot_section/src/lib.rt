@@ -17,7 +17,7 @@ use layout_table::entry;
 
 // What one pass over the entries of a section finds: whether all are entries, whether two may have one slot, and the
 // low and the high digits of their places, as sets of positions.
-#[derive(Drop)]
+#[derive(Clone, Copy)]
 pub struct Places {
     pub good: bool,
     pub again: bool,
@@ -26,7 +26,7 @@ pub struct Places {
 }
 
 // Whether the cells of each flow stand together, and which of them are the first of their flow.
-#[derive(Drop)]
+#[derive(Clone, Copy)]
 pub struct Flows {
     pub together: bool,
     pub heads: u64,

@@ -8,7 +8,7 @@ pub const NO_KEY: u64 = 18446744073709551615;
 // The choice of a phase, rules 1 to 4: whether a cell is urgent; for each input its scheduled cell, and the positions
 // of those of its cells that are matched; and for each output the best cell at its crosspoints. `NOWHERE` stands for
 // no cell.
-#[derive(Drop)]
+#[derive(Clone, Copy)]
 pub struct Choice {
     pub urgent: bool,
     pub scheduled: [u16; PORTS],

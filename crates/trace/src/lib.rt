@@ -15,7 +15,7 @@ pub const NUMBERS: usize = BLOCK_LIMIT as usize * FIELDS;
 pub const BLOCK_LINES: u32 = NUMBERS as u32 + 1;
 
 // The key of a line, in a trace or in what the player writes.
-#[derive(Drop)]
+#[derive(Clone, Copy)]
 pub enum Key {
     Ports,
     First,
@@ -31,7 +31,7 @@ pub enum Key {
 }
 
 // What stands at the start of a text.
-#[derive(Drop)]
+#[derive(Clone, Copy)]
 pub enum Opening {
     // The number of ports, the first slot, and how many bytes the two lines have.
     Open(u32, u32, usize),
@@ -42,7 +42,7 @@ pub enum Opening {
 }
 
 // What stands after the header or a block.
-#[derive(Drop)]
+#[derive(Clone, Copy)]
 pub enum Answer {
     // A block: how many arrivals, bytes and lines it has.
     Slot(u32, usize, u32),
@@ -55,7 +55,7 @@ pub enum Answer {
 }
 
 // What the writer answers.
-#[derive(Drop)]
+#[derive(Clone, Copy)]
 pub enum Output {
     // The length of the text, which stands at the start of the buffer.
     Text(usize),

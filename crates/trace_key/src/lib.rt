@@ -1,12 +1,13 @@
 // The text of a key, for the reader and the writer of a line.
 #![tactic(auto)]
+
 ghost use Rattle.std.specs.Prelude.{◌≡◌, ◌-◌, length, take, drop, replicate};
 ghost use Rattle.trace.specs.Line.{key_text};
 
 use trace::Key;
 
 // A key and `=`, filled up with blanks, and how many bytes they have.
-#[derive(Drop)]
+#[derive(Clone, Copy)]
 pub struct KeyText(pub [u8; 8], pub usize);
 
 // What a key is in a text.

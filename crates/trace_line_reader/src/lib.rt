@@ -12,7 +12,7 @@ use trace::Key;
 use trace_key::key_text;
 
 // What stands at the start of a text.
-#[derive(Drop)]
+#[derive(Clone, Copy)]
 pub enum Line {
     // The number, and how many bytes the line has.
     Number(u32, usize),

@@ -4,6 +4,7 @@
 // the `write_..` below ask for the room, which every caller has measured, and answer where the text starts. One of them
 // is public, for a text of numbers alone. No other function has a `requires`.
 #![tactic(auto)]
+
 ghost use Rattle.std.specs.Prelude.{◌≡◌, ◌++◌, length};
 ghost use Rattle.std.proofs.Math.Option.{some};
 ghost use Rattle.trace.specs.declared.Key.TheVariants.{Flow, Rank, Tag};

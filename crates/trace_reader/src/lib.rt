@@ -19,7 +19,7 @@ use trace_line_reader::{Line, begins, read_line};
 const ARRIVALS: usize = BLOCK_LIMIT as usize;
 
 // What reading a whole text by the grammar alone gives.
-#[derive(Drop)]
+#[derive(Clone, Copy)]
 pub enum Verdict {
     // The number of slots.
     Accepted(u32),
@@ -28,7 +28,7 @@ pub enum Verdict {
 }
 
 // What stands where an arrival may begin.
-#[derive(Drop)]
+#[derive(Clone, Copy)]
 enum Came {
     // The arrival, and how many bytes its lines have.
     Whole(Arrival, usize),

@@ -5,13 +5,13 @@ use Rattle.fair_memory.proofs.Words.{given_word}
 use Rattle.fair_memory.proofs.given_of.Statement.{statement}
 use Rattle.fair_memory.proofs.given_of.Tie as tie
 
-mul-read-u32 : tie.Need-overflow_mul-read-u32
+mul-read-u32 : tie.Need-overflow_mul-index
 mul-read-u32 c = search rules
 
-add-read-u32 : tie.Need-overflow_add-read-u32
+add-read-u32 : tie.Need-overflow_add-index
 add-read-u32 c = search rules
 
-read-u32-requires : tie.Need-read-u32-requires
+read-u32-requires : tie.Need-read_u32-requires
 read-u32-requires c κs = search rules
 
 returns : tie.Need-returns

@@ -5,13 +5,13 @@ use Rattle.fair_memory.proofs.Words.{left_word}
 use Rattle.fair_memory.proofs.left_of.Statement.{statement}
 use Rattle.fair_memory.proofs.left_of.Tie as tie
 
-mul-read-u32 : tie.Need-overflow_mul-read-u32
+mul-read-u32 : tie.Need-overflow_mul-output
 mul-read-u32 c = search rules
 
-add-read-u32 : tie.Need-overflow_add-read-u32
+add-read-u32 : tie.Need-overflow_add-output
 add-read-u32 c = search rules
 
-read-u32-requires : tie.Need-read-u32-requires
+read-u32-requires : tie.Need-read_u32-requires
 read-u32-requires c κs = search rules
 
 returns : tie.Need-returns

@@ -4,7 +4,7 @@ use Rattle.layout.specs.Memory.{memory_of}
 use Rattle.fair_memory.proofs.marks_of.Statement.{statement}
 use Rattle.fair_memory.proofs.marks_of.Tie as tie
 
-read-u32-requires : tie.Need-read-u32-requires
+read-u32-requires : tie.Need-read_u32-requires
 read-u32-requires c κs = search rules
 
 returns : tie.Need-returns

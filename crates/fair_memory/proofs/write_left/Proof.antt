@@ -9,16 +9,16 @@ use Rattle.layout.proofs.Memory.{memory_of-left}
 use Rattle.fair_memory.proofs.write_left.Statement.{statement}
 use Rattle.fair_memory.proofs.write_left.Tie as tie
 
-mul-write-u32 : tie.Need-overflow_mul-write-u32
+mul-write-u32 : tie.Need-overflow_mul-output
 mul-write-u32 c = search rules
 
-add-write-u32 : tie.Need-overflow_add-write-u32
+add-write-u32 : tie.Need-overflow_add-output
 add-write-u32 c = search rules
 
-write-u32-requires : tie.Need-write-u32-requires
+write-u32-requires : tie.Need-write_u32-requires
 write-u32-requires c κs = search rules
 
-same_length : tie.Need-same-length
+same_length : tie.Need-shape_of-memory
 same_length c = search rules
 
 returns : tie.Need-returns
@@ -27,7 +27,7 @@ returns c =
     let call = c.before.before in
     let start = call.before.before.before in
     let a = start.args in
-    ap memory_of call.write-u32.ensures
+    ap memory_of call.write_u32.ensures
     ∙ memory_of-left a.memory.now start.requires.0 a.output a.rank (below-fits32 a.rank (omega arith))
     start.requires.1
 

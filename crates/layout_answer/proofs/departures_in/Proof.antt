@@ -7,19 +7,19 @@ use Rattle.layout_answer.proofs.Departures.{sent_below, sent-none, sent-next, se
 use Rattle.layout_answer.proofs.departures_in.Statement.{statement}
 use Rattle.layout_answer.proofs.departures_in.Tie as tie
 
-abbrev invariant-loop : tie.invariant-loop
+abbrev invariant-loop : tie.invariant-loop-output
 invariant-loop answer count₀ output₀ count output = (output ≤ 16) × (count ≤ output) × (count ≡ sent_below output answer)
 
-abbrev decreases-loop : tie.decreases-loop
+abbrev decreases-loop : tie.decreases-loop-output
 decreases-loop answer count₀ output₀ count output = 16 - output
 
-loop-holds : tie.Need-loop-init invariant-loop decreases-loop
+loop-holds : tie.Need-loop-output-init invariant-loop decreases-loop
 loop-holds c = (omega arith, omega arith, sent-none _)
 
-mul-read-u32 : tie.Need-overflow_mul-read-u32 invariant-loop decreases-loop
+mul-read-u32 : tie.Need-overflow_mul-output invariant-loop decreases-loop
 mul-read-u32 c = omega arith
 
-read-u32-requires : tie.Need-read-u32-requires invariant-loop decreases-loop
+read-u32-requires : tie.Need-read_u32-requires invariant-loop decreases-loop
 read-u32-requires c κs = omega arith
 
 add-count : tie.Need-overflow_add-count invariant-loop decreases-loop
@@ -28,22 +28,22 @@ add-count c = omega arith
 add-output : tie.Need-overflow_add-output invariant-loop decreases-loop
 add-output c = omega arith
 
-loop-less : tie.Need-loop-smaller invariant-loop decreases-loop
+loop-less : tie.Need-loop-output-smaller invariant-loop decreases-loop
 loop-less c = omega arith
 
-loop-again : tie.Need-loop-preserved invariant-loop decreases-loop
+loop-again : tie.Need-loop-output-preserved invariant-loop decreases-loop
 loop-again c =
-    let at = c.before.before.before.loop in
+    let at = c.before.before.before.loop-output in
     let read = c.before.read_u32 in
     let sofar = at.invariant.2 in
     ⊎_elim
     (λ w. (omega arith, omega arith, w.1 ∙ ap (λ k. k + 1) sofar ∙ sent-next _ _ (λ z. w.0.taken (read.ensures ∙ z))))
     (λ w. (omega arith, omega arith, w.1 ∙ sofar ∙ sent-same _ _ (sym read.ensures ∙ w.0.left)))
-    c.if1.branch
+    c.if-read_u32-ne0.branch
 
 returns : tie.Need-returns invariant-loop decreases-loop
 returns c =
-    let at = c.before.loop in
+    let at = c.before.loop-output in
     let e : at.output ≡ 16 = omega arith in
     at.invariant.2 ∙ ap (λ n. sent_below n c.before.before.before.args.answer.now) e ∙ sent-all _
 

@@ -5,7 +5,7 @@ use lib.Dec.{eqb}
 use Rattle.layout_answer.proofs.is_none.Statement.{statement}
 use Rattle.layout_answer.proofs.is_none.Tie as tie
 
-read-u32-requires : tie.Need-read-u32-requires
+read-u32-requires : tie.Need-read_u32-requires
 read-u32-requires c κs = search rules
 
 returns : tie.Need-returns

@@ -8,13 +8,13 @@ use Rattle.layout_answer.specs.Code.{no_cell}
 use Rattle.layout_answer.proofs.write_none.Statement.{statement}
 use Rattle.layout_answer.proofs.write_none.Tie as tie
 
-no-cell-requires : tie.Need-no-cell-requires
+no-cell-requires : tie.Need-no_cell-requires
 no-cell-requires c κs = search rules
 
-write-seven-requires : tie.Need-write-seven-requires
+write-seven-requires : tie.Need-write_seven-requires
 write-seven-requires c κs = search rules
 
-same_length : tie.Need-same-length
+same_length : tie.Need-shape_of-answer
 same_length c = search rules
 
 returns : tie.Need-returns
@@ -23,7 +23,7 @@ returns c =
     let seven = c.before.before in
     let cell = seven.before.no_cell in
     let a = seven.before.before.before.before.args in
-    seven.write-seven.ensures
+    seven.write_seven.ensures
     ∙ ap (λ d. put a.at departure_size (seven_bytes 0 d) a.answer.now) cell.ensures
 
 pub write_none_spec : {M : Type 1} → statement M

@@ -13,53 +13,53 @@ use Rattle.layout.proofs.Put.{put-none, put_next}
 use Rattle.layout_answer.proofs.write_occupancies.Statement.{statement}
 use Rattle.layout_answer.proofs.write_occupancies.Tie as tie
 
-abbrev invariant-loop : tie.invariant-loop
+abbrev invariant-loop : tie.invariant-loop-output
 invariant-loop answer₀ at held output₀ answer output =
     (output ≤ 16) × (length answer ≡ length answer₀) × (answer ≡ put at (4 * output) (words_bytes output held) answer₀)
 
-abbrev decreases-loop : tie.decreases-loop
+abbrev decreases-loop : tie.decreases-loop-output
 decreases-loop answer₀ at held output₀ answer output = 16 - output
 
-loop-holds : tie.Need-loop-init invariant-loop decreases-loop
+loop-holds : tie.Need-loop-output-init invariant-loop decreases-loop
 unfolding words_bytes
 loop-holds c =
     let a = c.before.args in
     (omega arith, refl, put-none a.at a.answer.now)
 
-mul-write-held : tie.Need-overflow_mul-write-held invariant-loop decreases-loop
+mul-write-held : tie.Need-overflow_mul-output invariant-loop decreases-loop
 mul-write-held c = search rules
 
-add-write-held : tie.Need-overflow_add-write-held invariant-loop decreases-loop
+add-write-held : tie.Need-overflow_add-at invariant-loop decreases-loop
 add-write-held c = search rules
 
-mul-write-held-2 : tie.Need-overflow_mul-write-held-2 invariant-loop decreases-loop
+mul-write-held-2 : tie.Need-offset_bounds-held-output invariant-loop decreases-loop
 mul-write-held-2 c = search rules
 
-element-copy-out-write-held : tie.Need-element-copy-out-write-held invariant-loop decreases-loop
+element-copy-out-write-held : tie.Need-bounds-held-output invariant-loop decreases-loop
 element-copy-out-write-held c = search rules
 
-write-held-requires : tie.Need-write-held-requires invariant-loop decreases-loop
+write-held-requires : tie.Need-write_held-requires invariant-loop decreases-loop
 write-held-requires c κs =
     let at = c.before.before.before in
-    omega (arith, c.before.before.loop-test.true, at.loop.invariant.1, at.before.before.requires)
+    omega (arith, c.before.before.loop-output-test.true, at.loop-output.invariant.1, at.before.before.requires)
 
 add-output : tie.Need-overflow_add-output invariant-loop decreases-loop
 add-output c = search rules
 
-loop-less : tie.Need-loop-smaller invariant-loop decreases-loop
+loop-less : tie.Need-loop-output-smaller invariant-loop decreases-loop
 loop-less c = search rules
 
-loop-again : tie.Need-loop-preserved invariant-loop decreases-loop
+loop-again : tie.Need-loop-output-preserved invariant-loop decreases-loop
 loop-again c =
     let test = c.before.before.before.before.before in
-    let loop = test.before.loop in
+    let loop = test.before.loop-output in
     let start = test.before.before.before in
     let a = start.args in
-    let one = c.before.before.write-held in
+    let one = c.before.before.write_held in
     let n : ℕ = 4 * loop.output in
     let next : n + 4 ≡ 4 * (loop.output + 1) = omega arith in
-    let room : a.at + (n + 4) ≤ length a.answer.now = omega (arith, test.loop-test.true, start.requires) in (
-      omega (arith, test.loop-test.true),
+    let room : a.at + (n + 4) ≤ length a.answer.now = omega (arith, test.loop-output-test.true, start.requires) in (
+      omega (arith, test.loop-output-test.true),
       one.auto.0 ∙ loop.invariant.1,
       put_next a.at n 4 (words_bytes loop.output a.held.now) (bytes_of 4 (get_or a.held.now loop.output 0))
           a.answer.now loop.answer one.new.0 (length-words_bytes loop.output a.held.now)
@@ -67,14 +67,14 @@ loop-again c =
           ∙ ap₂ (λ k bs. put a.at k bs a.answer.now) next (sym (words_bytes-more loop.output a.held.now)),
     )
 
-same_length : tie.Need-same-length invariant-loop decreases-loop
-same_length c = c.before.loop.invariant.1
+same_length : tie.Need-shape_of-answer invariant-loop decreases-loop
+same_length c = c.before.loop-output.invariant.1
 
 returns : tie.Need-returns invariant-loop decreases-loop
 returns c =
-    let loop = c.before.loop in
+    let loop = c.before.loop-output in
     let a = c.before.before.before.args in
-    let last : loop.output ≡ 16 = omega (arith, c.loop-test.false, loop.invariant.0) in
+    let last : loop.output ≡ 16 = omega (arith, c.loop-output-test.false, loop.invariant.0) in
     loop.invariant.2 ∙ ap (λ n. put a.at (4 * n) (words_bytes n a.held.now) a.answer.now) last
 
 pub write_occupancies_spec : {M : Type 1} → statement M

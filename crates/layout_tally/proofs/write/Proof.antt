@@ -4,19 +4,19 @@ use borrow.Author.Rules.{rules}
 use Rattle.layout_tally.proofs.write.Statement.{statement}
 use Rattle.layout_tally.proofs.write.Tie as tie
 
-write-u64-requires : tie.Need-write-u64-requires
+write-u64-requires : tie.Need-write_u64-requires
 write-u64-requires c κs = search rules
 
-write-u64-requires-2 : tie.Need-write-u64-requires-2
+write-u64-requires-2 : tie.Need-write_u64-requires-2
 write-u64-requires-2 c κs = search rules
 
-write-u64-requires-3 : tie.Need-write-u64-requires-3
+write-u64-requires-3 : tie.Need-write_u64-requires-3
 write-u64-requires-3 c κs = search rules
 
-write-u64-requires-4 : tie.Need-write-u64-requires-4
+write-u64-requires-4 : tie.Need-write_u64-requires-4
 write-u64-requires-4 c κs = search rules
 
-same_length : tie.Need-same-length
+same_length : tie.Need-shape_of-bytes
 same_length c = search rules
 
 returns : tie.Need-returns
@@ -26,9 +26,9 @@ returns c =
     let refused = arrived.before.before.before.before in
     let run = refused.before.before.before.before in
     let start = run.before.before.before in
-    put-tally start.args.t start.args.bytes.now run.write-u64.new.0 refused.write-u642.new.0
-    arrived.write-u643.new.0 departed.write-u644.new.0 start.requires run.write-u64.ensures
-    refused.write-u642.ensures arrived.write-u643.ensures departed.write-u644.ensures
+    put-tally start.args.t start.args.bytes.now run.write_u64.new.bytes refused.write_u64-2.new.bytes
+    arrived.write_u64-3.new.bytes departed.write_u64-4.new.bytes start.requires run.write_u64.ensures
+    refused.write_u64-2.ensures arrived.write_u64-3.ensures departed.write_u64-4.ensures
 
 pub write_spec : {M : Type 1} → statement M
 write_spec =

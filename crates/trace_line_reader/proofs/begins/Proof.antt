@@ -8,27 +8,27 @@ use Rattle.trace_line_reader.specs.Code.{begins_with}
 use Rattle.trace_line_reader.proofs.begins.Statement.{statement}
 use Rattle.trace_line_reader.proofs.begins.Tie as tie
 
-key-text-requires : tie.Need-key-text-requires
+key-text-requires : tie.Need-key_text-mark-requires
 key-text-requires c κs = search rules
 
-array-share-prefix-bytes : tie.Need-array-share-prefix-bytes
+array-share-prefix-bytes : tie.Need-slice_bounds-bytes-end
 array-share-prefix-bytes c =
-    let k = c.before.key-text in
+    let k = c.before.key_text-mark in
     omega (arith, k.ensures.1.0, ap length k.ensures.0, length-take k.result.1 k.result.0)
 
-slice-aggregate-starts-with : tie.Need-slice-aggregate-starts-with
+slice-aggregate-starts-with : tie.Need-slice_bounds-starts_with-end
 slice-aggregate-starts-with c =
-    let k = c.before.before.key-text.ensures in
+    let k = c.before.before.key_text-mark.ensures in
     k.1.0 ∙ sym (ap length k.0)
 
-starts-with-requires : tie.Need-starts-with-requires
+starts-with-requires : tie.Need-starts_with-requires
 starts-with-requires c κs = search rules
 
 returns : tie.Need-returns
 unfolding begins begins_with
 returns c =
     let key = c.before.before.before in
-    c.starts_with.ensures ∙ ap (λ p. begins_with p key.before.before.args.text.now) key.key-text.ensures.0
+    c.starts_with.ensures ∙ ap (λ p. begins_with p key.before.before.args.text.now) key.key_text-mark.ensures.0
 
 pub begins_spec : {M : Type 1} → statement M
 begins_spec =

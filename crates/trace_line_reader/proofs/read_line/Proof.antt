@@ -10,29 +10,29 @@ use Rattle.trace_line_reader.proofs.Lines.{line_of-none, read_line-short, read_l
 use Rattle.trace_line_reader.proofs.read_line.Statement.{statement}
 use Rattle.trace_line_reader.proofs.read_line.Tie as tie
 
-key-text-requires : tie.Need-key-text-requires
+key-text-requires : tie.Need-key_text-mark-requires
 key-text-requires c κs = search rules
 
-returns : tie.Need-returns
-returns c = sym (line_of-none _ (read_line-short _ _ (omega (arith, c.before.before.key-text.ensures.1.0))))
+returns : tie.Need-returns-then-text-mark
+returns c = sym (line_of-none _ (read_line-short _ _ (omega (arith, c.before.before.key_text-mark.ensures.1.0))))
 
 begins-requires : tie.Need-begins-requires
 begins-requires c κs = search rules
 
-returns-2 : tie.Need-returns-2
-returns-2 c = sym (line_of-none _ (read_line-missing _ _ (sym c.before.begins.ensures ∙ not-true _ c.if2.true)))
+returns-2 : tie.Need-returns-then-not-begins
+returns-2 c = sym (line_of-none _ (read_line-missing _ _ (sym c.before.begins.ensures ∙ not-true _ c.if-not-begins.true)))
 
-read-number-requires : tie.Need-read-number-requires
+read-number-requires : tie.Need-read_number-requires
 read-number-requires c κs = search rules
 
-returns-3 : tie.Need-returns-3
+returns-3 : tie.Need-returns
 returns-3 c =
     let begins = c.before.before in
     let key = begins.before.before.before in
     let a = key.before.before.args in
     let t = a.text.now in
-    let b = read_line-before a.key t (sym begins.begins.ensures ∙ not-false _ c.before.if2.false) in
-    c.read_number.ensures ∙ ap (λ n. line_of t (read_body (drop n t))) key.key-text.ensures.1.0 ∙ ap (line_of t) (sym b)
+    let b = read_line-before a.key t (sym begins.begins.ensures ∙ not-false _ c.before.if-not-begins.false) in
+    c.read_number.ensures ∙ ap (λ n. line_of t (read_body (drop n t))) key.key_text-mark.ensures.1.0 ∙ ap (line_of t) (sym b)
 
 pub read_line_spec : {M : Type 1} → statement M
 read_line_spec =

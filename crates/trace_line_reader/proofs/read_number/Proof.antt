@@ -19,31 +19,31 @@ use Rattle.trace_line_reader.proofs.read_number.Statement.{statement}
 use Rattle.trace_line_reader.proofs.read_number.Tie as tie
 use Rattle.trace_line_reader.specs.Code.{read_body}
 
-abbrev invariant-loop : tie.invariant-loop
+abbrev invariant-loop : tie.invariant-loop-at
 invariant-loop text start first n₀ at₀ n at =
     (at ≤ length text) × (n ≤ clock_end) × (read_body (drop start text) ≡ continued n (drop at text))
 
-abbrev decreases-loop : tie.decreases-loop
+abbrev decreases-loop : tie.decreases-loop-at
 decreases-loop text start first n₀ at₀ n at = length text - at
 
-returns : tie.Need-returns invariant-loop decreases-loop
-returns c = sym (line_of-none _ (ap read_body (drop_of_length-le _ c.if1.true) ∙ read_body-nil))
+returns : tie.Need-returns-then-text-start invariant-loop decreases-loop
+returns c = sym (line_of-none _ (ap read_body (drop_of_length-le _ c.if-text-start.true) ∙ read_body-nil))
 
-shared-slice-read-first : tie.Need-shared-slice-read-first invariant-loop decreases-loop
+shared-slice-read-first : tie.Need-bounds-text-start invariant-loop decreases-loop
 shared-slice-read-first c = search rules
 
-is-digit-requires : tie.Need-is-digit-requires invariant-loop decreases-loop
+is-digit-requires : tie.Need-is_digit-requires invariant-loop decreases-loop
 is-digit-requires c κs = search rules
 
-returns-2 : tie.Need-returns-2 invariant-loop decreases-loop
+returns-2 : tie.Need-returns-then-not-is_digit invariant-loop decreases-loop
 returns-2 c =
-    let d = sym c.before.is_digit.ensures ∙ not-true _ c.if2.true in
-    let f = drop_here _ _ c.before.before.before.if1.false in
+    let d = sym c.before.is_digit.ensures ∙ not-true _ c.if-not-is_digit.true in
+    let f = drop_here _ _ c.before.before.before.if-text-start.false in
     sym (line_of-none _ (ap read_body f ∙ read_body-stray _ _ d))
 
-first-digit : (c : tie.Else2 invariant-loop decreases-loop)
+first-digit : (c : tie.Else-not-is_digit invariant-loop decreases-loop)
     → let a = c.before.before.before.before.before.args in is_digit (get_or a.text.now a.start 0) ≡ true
-first-digit c = sym c.before.is_digit.ensures ∙ not-false _ c.if2.false
+first-digit c = sym c.before.is_digit.ensures ∙ not-false _ c.if-not-is_digit.false
 
 sub-n : tie.Need-overflow_sub-n invariant-loop decreases-loop
 sub-n c = (is_digit-e _ (first-digit c)).0
@@ -54,52 +54,52 @@ cast-n c = omega (arith, is_digit-e _ (first-digit c))
 add_at : tie.Need-overflow_add-at invariant-loop decreases-loop
 add_at c = omega arith
 
-loop-holds : tie.Need-loop-init invariant-loop decreases-loop
+loop-holds : tie.Need-loop-at-init invariant-loop decreases-loop
 loop-holds c =
     let d = first-digit c in (
       omega arith,
       omega (arith, is_digit-e _ d),
-      ap read_body (drop_here _ _ c.before.before.before.if1.false) ∙ read_body-first _ _ d,
+      ap read_body (drop_here _ _ c.before.before.before.if-text-start.false) ∙ read_body-first _ _ d,
     )
 
-abbrev start : tie.In-loop invariant-loop decreases-loop → tie.Start invariant-loop decreases-loop
+abbrev start : tie.In-loop-at invariant-loop decreases-loop → tie.Start invariant-loop decreases-loop
 start c = c.before.before.before.before.before.before.before
 
 -- what is read, by the next byte
-here : (c : tie.In-loop invariant-loop decreases-loop)
+here : (c : tie.In-loop-at invariant-loop decreases-loop)
     → let a = (start c).args in
-    let l = c.before.loop in
+    let l = c.before.loop-at in
     read_body (drop a.start a.text.now)
     ≡ continued l.n (get_or a.text.now l.at 0 ∷ drop (l.at + 1) a.text.now)
-here c = c.before.loop.invariant.2 ∙ ap (continued c.before.loop.n) (drop_here _ _ c.loop-test.true)
+here c = c.before.loop-at.invariant.2 ∙ ap (continued c.before.loop-at.n) (drop_here _ _ c.loop-at-test.true)
 
-shared-slice-read-b : tie.Need-shared-slice-read-b invariant-loop decreases-loop
+shared-slice-read-b : tie.Need-bounds-text-at invariant-loop decreases-loop
 shared-slice-read-b c = search rules
 
-is-digit-requires-2 : tie.Need-is-digit-requires-2 invariant-loop decreases-loop
+is-digit-requires-2 : tie.Need-is_digit-requires-in-loop-at invariant-loop decreases-loop
 is-digit-requires-2 c κs = search rules
 
-add-t19 : tie.Need-overflow_add-t19 invariant-loop decreases-loop
+add-t19 : tie.Need-overflow_add-result invariant-loop decreases-loop
 add-t19 c = omega arith
 
-returns-3 : tie.Need-returns-3 invariant-loop decreases-loop
+returns-3 : tie.Need-returns-then-b-eq10 invariant-loop decreases-loop
 returns-3 c =
     let turn = c.before.before.before.before in
-    sym (line_of-some _ (here turn ∙ continued-line-feed _ _ _ turn.before.loop.invariant.1 c.if4.true) (omega arith))
+    sym (line_of-some _ (here turn ∙ continued-line-feed _ _ _ turn.before.loop-at.invariant.1 c.if-b-eq10.true) (omega arith))
 
-returns-4 : tie.Need-returns-4 invariant-loop decreases-loop
+returns-4 : tie.Need-returns-then-not-is_digit-2 invariant-loop decreases-loop
 returns-4 c =
-    let d = sym c.before.before.is-digit2.ensures ∙ not-true _ c.before.if3.true in
-    sym (line_of-none _ (here c.before.before.before.before ∙ continued-stray _ _ _ c.if4.false d))
+    let d = sym c.before.before.is_digit-in-loop-at.ensures ∙ not-true _ c.before.if-not-is_digit-2.true in
+    sym (line_of-none _ (here c.before.before.before.before ∙ continued-stray _ _ _ c.if-b-eq10.false d))
 
-digit : (c : tie.Else3 invariant-loop decreases-loop)
+digit : (c : tie.Else-not-is_digit-2 invariant-loop decreases-loop)
     → let turn = c.before.before.before in
-    is_digit (get_or (start turn).args.text.now turn.before.loop.at 0) ≡ true
-digit c = sym c.before.is-digit2.ensures ∙ not-false _ c.if3.false
+    is_digit (get_or (start turn).args.text.now turn.before.loop-at.at 0) ≡ true
+digit c = sym c.before.is_digit-in-loop-at.ensures ∙ not-false _ c.if-not-is_digit-2.false
 
-returns-5 : tie.Need-returns-5 invariant-loop decreases-loop
+returns-5 : tie.Need-returns-then-n-eq0 invariant-loop decreases-loop
 returns-5 c =
-    sym (line_of-none _ (here c.before.before.before.before ∙ continued-zero _ _ _ c.if5.true (digit c.before)))
+    sym (line_of-none _ (here c.before.before.before.before ∙ continued-zero _ _ _ c.if-n-eq0.true (digit c.before)))
 
 cast-m : tie.Need-overflow_cast-m invariant-loop decreases-loop
 cast-m c = omega arith
@@ -110,41 +110,41 @@ mul-m c = omega arith
 sub-m : tie.Need-overflow_sub-m invariant-loop decreases-loop
 sub-m c = (is_digit-e _ (digit c.before)).0
 
-cast-m-2 : tie.Need-overflow_cast-m-2 invariant-loop decreases-loop
+cast-m-2 : tie.Need-overflow_cast-m-in-loop-at invariant-loop decreases-loop
 cast-m-2 c = omega (arith, is_digit-e _ (digit c.before))
 
 add-m : tie.Need-overflow_add-m invariant-loop decreases-loop
 add-m c = omega (arith, is_digit-e _ (digit c.before))
 
 -- what is read, behind one more digit
-further : (c : tie.Else5 invariant-loop decreases-loop)
+further : (c : tie.Else-n-eq0 invariant-loop decreases-loop)
     → let turn = c.before.before.before.before in
     let a = (start turn).args in
-    let l = turn.before.loop in
+    let l = turn.before.loop-at in
     read_body (drop a.start a.text.now)
     ≡ continued (10 * l.n + (get_or a.text.now l.at 0 - 48)) (drop (l.at + 1) a.text.now)
-further c = here c.before.before.before.before ∙ continued-digit _ _ _ c.if5.false (digit c.before)
+further c = here c.before.before.before.before ∙ continued-digit _ _ _ c.if-n-eq0.false (digit c.before)
 
-returns-6 : tie.Need-returns-6 invariant-loop decreases-loop
+returns-6 : tie.Need-returns-then-m-gt4294967295 invariant-loop decreases-loop
 returns-6 c =
-    sym (line_of-none _ (further c.before ∙ continued-over _ _ c.if6.true))
+    sym (line_of-none _ (further c.before ∙ continued-over _ _ c.if-m-gt4294967295.true))
 
-cast-n-2 : tie.Need-overflow_cast-n-2 invariant-loop decreases-loop
+cast-n-2 : tie.Need-overflow_cast-n-in-loop-at invariant-loop decreases-loop
 cast-n-2 c = omega arith
 
-add-at-2 : tie.Need-overflow_add-at-2 invariant-loop decreases-loop
+add-at-2 : tie.Need-overflow_add-at-in-loop-at invariant-loop decreases-loop
 add-at-2 c = omega arith
 
-loop-less : tie.Need-loop-smaller invariant-loop decreases-loop
+loop-less : tie.Need-loop-at-smaller invariant-loop decreases-loop
 loop-less c = omega arith
 
-loop-again : tie.Need-loop-preserved invariant-loop decreases-loop
-loop-again c = (omega arith, c.if6.false, further c.before)
+loop-again : tie.Need-loop-at-preserved invariant-loop decreases-loop
+loop-again c = (omega arith, c.if-m-gt4294967295.false, further c.before)
 
-returns-7 : tie.Need-returns-7 invariant-loop decreases-loop
+returns-7 : tie.Need-returns invariant-loop decreases-loop
 returns-7 c =
-    let l = c.before.loop in
-    sym (line_of-none _ (l.invariant.2 ∙ ap (continued l.n) (drop_of_length-le _ c.loop-test.false) ∙ continued-nil _))
+    let l = c.before.loop-at in
+    sym (line_of-none _ (l.invariant.2 ∙ ap (continued l.n) (drop_of_length-le _ c.loop-at-test.false) ∙ continued-nil _))
 
 pub read_number_spec : {M : Type 1} → statement M
 read_number_spec =

@@ -6,7 +6,7 @@ use Rattle.trace.proofs.Lengths.{length-key_text-le, length-decimal-below, lengt
 use Rattle.trace_line_writer.proofs.line_length.Statement.{statement}
 use Rattle.trace_line_writer.proofs.line_length.Tie as tie
 
-key-text-requires : tie.Need-key-text-requires
+key-text-requires : tie.Need-key_text-text-requires
 key-text-requires c κs = search rules
 
 digits-requires : tie.Need-digits-requires

@@ -6,19 +6,19 @@ use Rattle.trace_line_writer.proofs.Pour.{ends-then, put-short, tried_then, trie
 use Rattle.trace_line_writer.proofs.pour_cell.Statement.{statement}
 use Rattle.trace_line_writer.proofs.pour_cell.Tie as tie
 
-returns : tie.Need-returns
+returns : tie.Need-returns-then-out-end
 returns c =
     let i = c.before in
     let h = i.before in
     let g = h.before in
     let f = g.before in
     put-short
-    (ends-then f.before.line-end.ensures
-    (ends-then f.line-end2.ensures
-    (ends-then g.line-end3.ensures (ends-then h.line-end4.ensures i.line-end5.ensures))))
-    c.if1.true
+    (ends-then f.before.line_end-second_at.ensures
+    (ends-then f.line_end-flow_at.ensures
+    (ends-then g.line_end-rank_at.ensures (ends-then h.line_end-tag_at.ensures i.line_end-end.ensures))))
+    c.if-out-end.true
 
-write-line-requires-5 : tie.Need-write-line-requires-5
+write-line-requires-5 : tie.Need-write_line-requires-5
 write-line-requires-5 c κs =
     let four = c.before.before.before in
     let three = four.before.before.before.before in
@@ -29,15 +29,15 @@ write-line-requires-5 c κs =
     omega (
       arith,
       i.before.before.before.before.before.before.well-formed.0,
-      fits.if1.false,
-      i.line-end5.ensures.place,
-      one.write-line.auto.0,
-      two.write-line2.auto.0,
-      three.write-line3.auto.0,
-      four.write-line4.auto.0,
+      fits.if-out-end.false,
+      i.line_end-end.ensures.place,
+      one.write_line.auto.0,
+      two.write_line-2.auto.0,
+      three.write_line-3.auto.0,
+      four.write_line-4.auto.0,
     )
 
-returns-2 : tie.Need-returns-2
+returns-2 : tie.Need-returns
 returns-2 c =
     let w₅ = c.before.before in
     let w₄ = w₅.before.before.before.before in
@@ -50,16 +50,16 @@ returns-2 c =
     let e₂ = e₃.before in
     let e₁ = e₂.before in
     let last = e₁.before.before.well-formed.0 in
-    let k₁ = w₁.write-line.auto.0 in
-    let k₂ = w₂.write-line2.auto.0 in
-    let k₃ = w₃.write-line3.auto.0 in
-    let k₄ = w₄.write-line4.auto.0 in
-    put-tried w₁.before.before.if1.false (omega arith)
-    (tried_then (omega arith) (tried-written (omega arith) e₁.line-end.ensures w₁.write-line.ensures)
-    (tried_then (omega arith) (tried-written (omega arith) e₂.line-end2.ensures w₂.write-line2.ensures)
-    (tried_then (omega arith) (tried-written (omega arith) e₃.line-end3.ensures w₃.write-line3.ensures)
-    (tried_then (omega arith) (tried-written (omega arith) e₄.line-end4.ensures w₄.write-line4.ensures)
-    (tried-written (omega arith) e₅.line-end5.ensures w₅.write-line5.ensures)))))
+    let k₁ = w₁.write_line.auto.0 in
+    let k₂ = w₂.write_line-2.auto.0 in
+    let k₃ = w₃.write_line-3.auto.0 in
+    let k₄ = w₄.write_line-4.auto.0 in
+    put-tried w₁.before.before.if-out-end.false (omega arith)
+    (tried_then (omega arith) (tried-written (omega arith) e₁.line_end-second_at.ensures w₁.write_line.ensures)
+    (tried_then (omega arith) (tried-written (omega arith) e₂.line_end-flow_at.ensures w₂.write_line-2.ensures)
+    (tried_then (omega arith) (tried-written (omega arith) e₃.line_end-rank_at.ensures w₃.write_line-3.ensures)
+    (tried_then (omega arith) (tried-written (omega arith) e₄.line_end-tag_at.ensures w₄.write_line-4.ensures)
+    (tried-written (omega arith) e₅.line_end-end.ensures w₅.write_line-5.ensures)))))
 
 pub pour_cell_spec : {M : Type 1} → statement M
 pour_cell_spec =

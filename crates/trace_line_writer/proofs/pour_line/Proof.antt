@@ -6,23 +6,23 @@ use Rattle.trace_line_writer.proofs.Pour.{put-short, tried-written, put-tried}
 use Rattle.trace_line_writer.proofs.pour_line.Statement.{statement}
 use Rattle.trace_line_writer.proofs.pour_line.Tie as tie
 
-line-end-requires : tie.Need-line-end-requires
+line-end-requires : tie.Need-line_end-end-requires
 line-end-requires c κs = search rules
 
-returns : tie.Need-returns
-returns c = put-short c.before.line-end.ensures c.if1.true
+returns : tie.Need-returns-then-out-end
+returns c = put-short c.before.line_end-end.ensures c.if-out-end.true
 
-write-line-requires : tie.Need-write-line-requires
+write-line-requires : tie.Need-write_line-requires
 write-line-requires c κs = search rules
 
-same_length : tie.Need-same-length
+same_length : tie.Need-shape_of-out
 same_length c = search rules
 
-returns-2 : tie.Need-returns-2
+returns-2 : tie.Need-returns
 returns-2 c =
     let w = c.before.before in
     let e = w.before.before.before in
-    put-tried (omega arith) (omega arith) (tried-written (omega arith) e.line-end.ensures w.write-line.ensures)
+    put-tried (omega arith) (omega arith) (tried-written (omega arith) e.line_end-end.ensures w.write_line.ensures)
 
 pub pour_line_spec : {M : Type 1} → statement M
 pour_line_spec =

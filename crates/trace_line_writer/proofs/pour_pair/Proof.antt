@@ -6,32 +6,32 @@ use Rattle.trace_line_writer.proofs.Pour.{ends-then, put-short, tried_then, trie
 use Rattle.trace_line_writer.proofs.pour_pair.Statement.{statement}
 use Rattle.trace_line_writer.proofs.pour_pair.Tie as tie
 
-line-end-requires : tie.Need-line-end-requires
+line-end-requires : tie.Need-line_end-second_at-requires
 line-end-requires c κs = search rules
 
-line-end-requires-2 : tie.Need-line-end-requires-2
+line-end-requires-2 : tie.Need-line_end-end-requires
 line-end-requires-2 c κs = search rules
 
-returns : tie.Need-returns
-returns c = put-short (ends-then c.before.before.line-end.ensures c.before.line-end2.ensures) c.if1.true
+returns : tie.Need-returns-then-out-end
+returns c = put-short (ends-then c.before.before.line_end-second_at.ensures c.before.line_end-end.ensures) c.if-out-end.true
 
-write-line-requires : tie.Need-write-line-requires
+write-line-requires : tie.Need-write_line-requires
 write-line-requires c κs = omega arith
 
-write-line-requires-2 : tie.Need-write-line-requires-2
+write-line-requires-2 : tie.Need-write_line-requires-2
 write-line-requires-2 c κs = omega arith
 
-same_length : tie.Need-same-length
+same_length : tie.Need-shape_of-out
 same_length c = search rules
 
-returns-2 : tie.Need-returns-2
+returns-2 : tie.Need-returns
 returns-2 c =
     let w = c.before.before in
     let v = w.before.before.before.before in
     let f = v.before.before.before in
     put-tried (omega arith) (omega arith)
-    (tried_then (omega arith) (tried-written (omega arith) f.before.line-end.ensures v.write-line.ensures)
-    (tried-written (omega arith) f.line-end2.ensures w.write-line2.ensures))
+    (tried_then (omega arith) (tried-written (omega arith) f.before.line_end-second_at.ensures v.write_line.ensures)
+    (tried-written (omega arith) f.line_end-end.ensures w.write_line-2.ensures))
 
 pub pour_pair_spec : {M : Type 1} → statement M
 pour_pair_spec =

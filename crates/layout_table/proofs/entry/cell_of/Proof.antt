@@ -5,28 +5,28 @@ use Rattle.layout.proofs.Records.{entry_at-input}
 use Rattle.layout_table.proofs.entry.cell_of.Statement.{statement}
 use Rattle.layout_table.proofs.entry.cell_of.Tie as tie
 
-cast-t4 : tie.Need-overflow_cast-t4
+cast-t4 : tie.Need-overflow_cast-result
 cast-t4 c = search rules
 
-output-of-requires : tie.Need-output-of-requires
+output-of-requires : tie.Need-output_of-requires
 output-of-requires c κs = search rules
 
-cast-t6 : tie.Need-overflow_cast-t6
+cast-t6 : tie.Need-overflow_cast-result-2
 cast-t6 c = search rules
 
-flow-of-requires : tie.Need-flow-of-requires
+flow-of-requires : tie.Need-flow_of-requires
 flow-of-requires c κs = search rules
 
-cast-t8 : tie.Need-overflow_cast-t8
+cast-t8 : tie.Need-overflow_cast-result-3
 cast-t8 c = search rules
 
-rank-of-requires : tie.Need-rank-of-requires
+rank-of-requires : tie.Need-rank_of-requires
 rank-of-requires c κs = search rules
 
-tag-of-requires : tie.Need-tag-of-requires
+tag-of-requires : tie.Need-tag_of-requires
 tag-of-requires c κs = search rules
 
-slot-of-requires : tie.Need-slot-of-requires
+slot-of-requires : tie.Need-slot_of-requires
 slot-of-requires c κs = search rules
 
 returns : tie.Need-returns
@@ -36,9 +36,9 @@ returns c =
     λ i.
     record {
       input = sym (entry_at-input a.bytes.now a.k) i;
-      output = read.output-of.ensures i;
-      flow = c.before.before.before.flow-of.ensures i;
-      rank = c.before.before.rank-of.ensures i;
+      output = read.output_of.ensures i;
+      flow = c.before.before.before.flow_of.ensures i;
+      rank = c.before.before.rank_of.ensures i;
       tag = c.before.tag_of.ensures i;
       slot = c.slot_of.ensures i;
     }

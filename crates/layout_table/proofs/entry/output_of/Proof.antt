@@ -6,10 +6,10 @@ use Rattle.layout.proofs.Records.{entry_at-output}
 use Rattle.layout_table.proofs.entry.output_of.Statement.{statement}
 use Rattle.layout_table.proofs.entry.output_of.Tie as tie
 
-start-of-requires : tie.Need-start-of-requires
+start-of-requires : tie.Need-start_of-requires
 start-of-requires c κs = search rules
 
-shared-slice-read-result : tie.Need-shared-slice-read-result
+shared-slice-read-result : tie.Need-bounds-bytes-start_of
 shared-slice-read-result c = search rules
 
 returns : tie.Need-returns

@@ -9,13 +9,13 @@ use Rattle.layout.proofs.Records.{place_byte_at-byte, entry_at-place}
 use Rattle.layout_table.proofs.entry.place_of.Statement.{statement}
 use Rattle.layout_table.proofs.entry.place_of.Tie as tie
 
-start-of-requires : tie.Need-start-of-requires
+start-of-requires : tie.Need-start_of-requires
 start-of-requires c κs = search rules
 
 add-result : tie.Need-overflow_add-result
 add-result c = search rules
 
-shared-slice-read-result : tie.Need-shared-slice-read-result
+shared-slice-read-result : tie.Need-bounds-bytes-start_of
 shared-slice-read-result c = search rules
 
 returns : tie.Need-returns

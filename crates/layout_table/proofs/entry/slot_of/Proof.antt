@@ -7,13 +7,13 @@ use Rattle.layout.proofs.Records.{entry_at-slot}
 use Rattle.layout_table.proofs.entry.slot_of.Statement.{statement}
 use Rattle.layout_table.proofs.entry.slot_of.Tie as tie
 
-start-of-requires : tie.Need-start-of-requires
+start-of-requires : tie.Need-start_of-requires
 start-of-requires c κs = search rules
 
-add-read-u32 : tie.Need-overflow_add-read-u32
+add-read-u32 : tie.Need-overflow_add-start_of
 add-read-u32 c = search rules
 
-read-u32-requires : tie.Need-read-u32-requires
+read-u32-requires : tie.Need-read_u32-requires
 read-u32-requires c κs = search rules
 
 returns : tie.Need-returns

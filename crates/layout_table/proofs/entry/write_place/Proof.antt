@@ -6,16 +6,16 @@ use borrow.Author.Rules.{rules}
 use Rattle.layout_table.proofs.entry.write_place.Statement.{statement}
 use Rattle.layout_table.proofs.entry.write_place.Tie as tie
 
-start-of-requires : tie.Need-start-of-requires
+start-of-requires : tie.Need-start_of-requires
 start-of-requires c κs = search rules
 
 add-bytes : tie.Need-overflow_add-bytes
 add-bytes c = search rules
 
-slice-write-bytes : tie.Need-slice-write-bytes
+slice-write-bytes : tie.Need-bounds-bytes-start_of
 slice-write-bytes c = search rules
 
-same_length : tie.Need-same-length
+same_length : tie.Need-shape_of-bytes
 same_length c = search rules
 
 returns : tie.Need-returns

@@ -4,7 +4,7 @@ use Rattle.layout.specs.Entry.{clock_in}
 use Rattle.layout_table.proofs.header.clock_of.Statement.{statement}
 use Rattle.layout_table.proofs.header.clock_of.Tie as tie
 
-read-u32-requires : tie.Need-read-u32-requires
+read-u32-requires : tie.Need-read_u32-requires
 read-u32-requires c κs = search rules
 
 returns : tie.Need-returns

@@ -10,11 +10,11 @@ use Rattle.layout_table.proofs.header.count_of.Tie as tie
 add-result : tie.Need-overflow_add-result
 add-result c = search rules
 
-shared-slice-read-result : tie.Need-shared-slice-read-result
+shared-slice-read-result : tie.Need-bounds-bytes-input
 shared-slice-read-result c = search rules
 
 cast-result : tie.Need-overflow_cast-result
-cast-result c = omega (arith, c.shared-slice-known.given (16 + c.before.args.input))
+cast-result c = omega (arith, c.shared_slice_known-1.given (16 + c.before.args.input))
 
 returns : tie.Need-returns
 unfolding count_in

@@ -10,14 +10,14 @@ use Rattle.layout_table.proofs.header.end_of.Tie as tie
 mul-result : tie.Need-overflow_mul-result
 mul-result c = search rules
 
-count-of-requires : tie.Need-count-of-requires
+count-of-requires : tie.Need-count_of-requires
 count-of-requires c κs = search rules
 
 add-result : tie.Need-overflow_add-result
 unfolding count_in
 add-result c =
     let start = c.before.before in
-    omega (arith, c.count_of.ensures, c.before.shared-slice-known.given (16 + start.args.input))
+    omega (arith, c.count_of.ensures, c.before.shared_slice_known-1.given (16 + start.args.input))
 
 returns : tie.Need-returns
 returns c = ap (λ n. 64 * c.before.before.args.input + n) c.count_of.ensures

@@ -8,16 +8,16 @@ use Rattle.layout_table.proofs.header.write_fresh.Tie as tie
 clear-requires : tie.Need-clear-requires
 clear-requires c κs = search rules
 
-write-u32-requires : tie.Need-write-u32-requires
+write-u32-requires : tie.Need-write_u32-requires
 write-u32-requires c κs = search rules
 
-write-u32-requires-2 : tie.Need-write-u32-requires-2
+write-u32-requires-2 : tie.Need-write_u32-requires-2
 write-u32-requires-2 c κs = search rules
 
-write-u32-requires-3 : tie.Need-write-u32-requires-3
+write-u32-requires-3 : tie.Need-write_u32-requires-3
 write-u32-requires-3 c κs = search rules
 
-same_length : tie.Need-same-length
+same_length : tie.Need-shape_of-table
 same_length c = search rules
 
 returns : tie.Need-returns
@@ -27,9 +27,9 @@ returns c =
     let layout = ports.before.before.before.before in
     let cleared = layout.before.before.before.before in
     let a = cleared.before.before.before.args in
-    header-put a.switch.ports a.switch.clock a.table.now cleared.clear.new.0 layout.write-u32.new.0
-    ports.write-u322.new.0 clock.write-u323.new.0 cleared.clear.ensures layout.write-u32.ensures
-    ports.write-u322.ensures clock.write-u323.ensures
+    header-put a.switch.ports a.switch.clock a.table.now cleared.clear.new.bytes layout.write_u32.new.bytes
+    ports.write_u32-2.new.bytes clock.write_u32-3.new.bytes cleared.clear.ensures layout.write_u32.ensures
+    ports.write_u32-2.ensures clock.write_u32-3.ensures
 
 pub write_fresh_spec : {M : Type 1} → statement M
 write_fresh_spec =
