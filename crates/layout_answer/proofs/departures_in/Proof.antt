@@ -33,8 +33,8 @@ loop-less c = omega arith
 
 loop-again : tie.Need-loop-output-preserved invariant-loop decreases-loop
 loop-again c =
-    let at = c.before.before.before.loop-output in
-    let read = c.before.read_u32 in
+    let at = c.loop-output in
+    let read = c.read_u32 in
     let sofar = at.invariant.2 in
     ⊎_elim
     (λ w. (omega arith, omega arith, w.1 ∙ ap (λ k. k + 1) sofar ∙ sent-next _ _ (λ z. w.0.taken (read.ensures ∙ z))))
@@ -43,9 +43,9 @@ loop-again c =
 
 returns : tie.Need-returns invariant-loop decreases-loop
 returns c =
-    let at = c.before.loop-output in
+    let at = c.loop-output in
     let e : at.output ≡ 16 = omega arith in
-    at.invariant.2 ∙ ap (λ n. sent_below n c.before.before.before.args.answer.now) e ∙ sent-all _
+    at.invariant.2 ∙ ap (λ n. sent_below n c.args.answer.now) e ∙ sent-all _
 
 pub departures_in_spec : {M : Type 1} → statement M
 departures_in_spec =
