@@ -12,6 +12,10 @@ use Rattle.slot_view.proofs.Window.{in_table-below}
 use Rattle.slot_loading.proofs.Buffers.{best-choose, picked-came}
 use Rattle.slot_loading.proofs.choose_cell.Statement.{statement}
 use Rattle.slot_loading.proofs.choose_cell.Tie as tie
+use mathlib.Core.Bool.{true, false}
+use mathlib.Core.Path.{◌≡◌}
+use mathlib.Core.Logic.{inl, inr}
+use Rattle.slot_loading.proofs.choose_cell.Lts.{then-first, else-first, then-first-2, else-first-2}
 
 readable : (t : tie.Start) → Readable t.args.table.now
 readable t = table-readable t.args.table.now t.requires.0
@@ -79,10 +83,22 @@ element-write-rivals c = column c.before.before.before.before.before.before.befo
 returns : tie.Need-returns
 returns c =
     let a = c.args in
-    best-choose a.table.now c.requires.0 a.k c.output_of-output.result (cell c.before.before.before.before.before.before.before.before.before.before) a.best.now
-    a.rivals.now c.requires.1.1 c.is_better-first.result c.if-first.best c.key_of-key.result
-    c.if-first-2.rivals c.is_better-first.ensures (picked-came (λ t. t.taken) (λ t. t.left) c.if-first.branch)
-    c.key_of-key.ensures (picked-came (λ t. t.taken) (λ t. t.left) c.if-first-2.branch)
+    let first = c.is_better-first.result in
+    best-choose a.table.now c.requires.0 a.k c.output_of-output.result
+    (cell c.before.before.before.before.before.before.before.before.before.before) a.best.now
+    a.rivals.now c.requires.1.1 first c.if-first.best c.key_of-key.result
+    c.if-first-2.rivals c.is_better-first.ensures
+    (picked-came {A = first ≡ true} {B = first ≡ false} (λ t. t) (λ t. t)
+    (elim c.if-first.branch [
+      | then-first w ↦ inl (w.if-first.true, w.best-is)
+      | else-first w ↦ inr (w.if-first.false, w.best-is)
+    ]))
+    c.key_of-key.ensures
+    (picked-came {A = first ≡ true} {B = first ≡ false} (λ t. t) (λ t. t)
+    (elim c.if-first-2.branch [
+      | then-first-2 w ↦ inl (w.if-first-2.true, w.rivals-is)
+      | else-first-2 w ↦ inr (w.if-first-2.false, w.rivals-is)
+    ]))
 
 pub choose_cell_spec : {M : Type 1} → statement M
 choose_cell_spec =

@@ -37,10 +37,10 @@ mul-cross c = omega (arith, small c.before.before, column c)
 mul-cross-2 : tie.Need-offset_bounds-cross-output
 mul-cross-2 c = omega (arith, small c.before.before, column c)
 
-index-1-cross : tie.Need-bounds-1-cross
+index-1-cross : tie.Need-bounds-cross-input
 index-1-cross c = omega (arith, small c.before.before, column c)
 
-index-2-cross : tie.Need-bounds-2-cross
+index-2-cross : tie.Need-bounds-cross-output
 index-2-cross c = omega (arith, small c.before.before, column c)
 
 key-of-requires : tie.Need-key_of-requires
@@ -52,10 +52,10 @@ mul-keys c = omega (arith, small c.before.before.before, column c.before)
 mul-keys-2 : tie.Need-offset_bounds-keys-input
 mul-keys-2 c = omega (arith, small c.before.before.before, column c.before)
 
-index-1-keys : tie.Need-bounds-1-keys
+index-1-keys : tie.Need-bounds-keys-output
 index-1-keys c = omega (arith, small c.before.before.before, column c.before)
 
-index-2-keys : tie.Need-bounds-2-keys
+index-2-keys : tie.Need-bounds-keys-input
 index-2-keys c = omega (arith, small c.before.before.before, column c.before)
 
 returns : tie.Need-returns

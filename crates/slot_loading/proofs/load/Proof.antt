@@ -58,13 +58,13 @@ element-copy-out-load-buffered c = low c.before.before.before.before.before.befo
 load-buffered-requires : tie.Need-load_buffered-requires invariant-loop decreases-loop
 load-buffered-requires c κs =
     let l = c.loop-input in
-    (c.requires.0, (port c.before.before.before.before.before.before.before.before.before, (c.requires.1.1.0 l.input (low c.before.before.before.before.before.before.before.before.before), l.inv.1.bests)))
+    (c.requires.0, (port c.before.before.before.before.before.before.before.before.before, (c.requires.1.1.0 l.input (low c.before.before.before.before.before.before.before.before.before), l.invariant.1.bests)))
 
 add-input : tie.Need-overflow_add-input invariant-loop decreases-loop
 add-input c = omega (arith, low c.before.before.before.before.before.before.before.before.before.before)
 
 loop-less : tie.Need-loop-input-smaller invariant-loop decreases-loop
-loop-less c = omega (arith, c.loop-input-test.taken)
+loop-less c = omega (arith, c.loop-input-test.true)
 
 loop-again : tie.Need-loop-input-preserved invariant-loop decreases-loop
 loop-again c =
