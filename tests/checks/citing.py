@@ -170,7 +170,7 @@ class Crates:
     """All files, with what their names mean."""
 
     def __init__(self):
-        self.order = re.findall(r'(?m)^(\w+):', (CRATES.parent / 'crates.txt').read_text())
+        self.order = re.findall(r'(?m)^(\w+)(?: staticlib)?:', (CRATES.parent / 'crates.txt').read_text())
         paths = [p for p in sorted(CRATES.rglob('*')) if p.suffix in ('.antt', '.rt')]
         self.files = {file.name: file for file in map(File, paths)}
         self.definitions = [d for file in self.files.values() for d in file.all]
