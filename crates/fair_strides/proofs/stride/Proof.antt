@@ -8,10 +8,10 @@ use Rattle.fair_strides.proofs.stride.Statement.{statement}
 use Rattle.fair_strides.proofs.stride.Tie as tie
 
 returns : tie.Need-returns-then-weight-lt1
-returns c = stride-out c.before.args.weight (λ low high. omega arith)
+returns c = stride-out c.args.weight (λ low high. omega arith)
 
 returns-2 : tie.Need-returns-then-weight-gt1024
-returns-2 c = stride-out c.before.before.args.weight (λ low high. omega arith)
+returns-2 c = stride-out c.args.weight (λ low high. omega arith)
 
 sub-result : tie.Need-overflow_sub-result
 sub-result c = search rules
@@ -19,12 +19,12 @@ sub-result c = search rules
 mul-result : tie.Need-offset_bounds-weight
 mul-result c = search rules
 
-array-read-result : tie.Need-array-read-result
+array-read-result : tie.Need-bounds-weight
 array-read-result c = omega arith
 
 returns-3 : tie.Need-returns
 unfolding numbers_from stride
-returns-3 c = stride-in c.before.before.args.weight (omega arith) (omega arith)
+returns-3 c = stride-in c.args.weight (omega arith) (omega arith)
 
 pub stride_spec : {M : Type 1} → statement M
 stride_spec = tie.close (tie.spec returns returns-2 sub-result mul-result array-read-result returns-3)

@@ -2,10 +2,10 @@
 use Prim.Native.Nat.{◌+◌, ◌-◌, ◌≤◌}
 use native.Mathlib.Omega.{arith}
 use mathlib.Core.Path.{◌≡◌, sym, ap, ◌∙◌}
-use mathlib.Core.Logic.{⊎_elim}
 use Rattle.layout_answer.proofs.Departures.{sent_below, sent-none, sent-next, sent-same, sent-all}
 use Rattle.layout_answer.proofs.departures_in.Statement.{statement}
 use Rattle.layout_answer.proofs.departures_in.Tie as tie
+use Rattle.layout_answer.proofs.departures_in.Lts.{then-read_u32-ne0, else-read_u32-ne0}
 
 abbrev invariant-loop : tie.invariant-loop-output
 invariant-loop answer count₀ output₀ count output = (output ≤ 16) × (count ≤ output) × (count ≡ sent_below output answer)
@@ -33,19 +33,23 @@ loop-less c = omega arith
 
 loop-again : tie.Need-loop-output-preserved invariant-loop decreases-loop
 loop-again c =
-    let at = c.before.before.before.loop-output in
-    let read = c.before.read_u32 in
+    let at = c.loop-output in
+    let read = c.read_u32 in
     let sofar = at.invariant.2 in
-    ⊎_elim
-    (λ w. (omega arith, omega arith, w.1 ∙ ap (λ k. k + 1) sofar ∙ sent-next _ _ (λ z. w.0.taken (read.ensures ∙ z))))
-    (λ w. (omega arith, omega arith, w.1 ∙ sofar ∙ sent-same _ _ (sym read.ensures ∙ w.0.left)))
-    c.if-read_u32-ne0.branch
+    elim c.if-read_u32-ne0.branch [
+      | then-read_u32-ne0 w ↦ (
+        omega arith,
+        omega arith,
+        w.count-is ∙ ap (λ k. k + 1) sofar ∙ sent-next _ _ (λ z. w.if-read_u32-ne0.true (read.ensures ∙ z)),
+      )
+      | else-read_u32-ne0 w ↦ (omega arith, omega arith, w.count-is ∙ sofar ∙ sent-same _ _ (sym read.ensures ∙ w.if-read_u32-ne0.false))
+    ]
 
 returns : tie.Need-returns invariant-loop decreases-loop
 returns c =
-    let at = c.before.loop-output in
+    let at = c.loop-output in
     let e : at.output ≡ 16 = omega arith in
-    at.invariant.2 ∙ ap (λ n. sent_below n c.before.before.before.args.answer.now) e ∙ sent-all _
+    at.invariant.2 ∙ ap (λ n. sent_below n c.args.answer.now) e ∙ sent-all _
 
 pub departures_in_spec : {M : Type 1} → statement M
 departures_in_spec =

@@ -23,7 +23,7 @@ decreases-loop answer₀ at held output₀ answer output = 16 - output
 loop-holds : tie.Need-loop-output-init invariant-loop decreases-loop
 unfolding words_bytes
 loop-holds c =
-    let a = c.before.args in
+    let a = c.args in
     (omega arith, refl, put-none a.at a.answer.now)
 
 mul-write-held : tie.Need-overflow_mul-output invariant-loop decreases-loop
@@ -40,8 +40,7 @@ element-copy-out-write-held c = search rules
 
 write-held-requires : tie.Need-write_held-requires invariant-loop decreases-loop
 write-held-requires c κs =
-    let at = c.before.before.before in
-    omega (arith, c.before.before.loop-output-test.true, at.loop-output.invariant.1, at.before.before.requires)
+    omega (arith, c.loop-output-test.true, c.loop-output.invariant.1, c.requires)
 
 add-output : tie.Need-overflow_add-output invariant-loop decreases-loop
 add-output c = search rules
@@ -51,29 +50,27 @@ loop-less c = search rules
 
 loop-again : tie.Need-loop-output-preserved invariant-loop decreases-loop
 loop-again c =
-    let test = c.before.before.before.before.before in
-    let loop = test.before.loop-output in
-    let start = test.before.before.before in
-    let a = start.args in
-    let one = c.before.before.write_held in
+    let loop = c.loop-output in
+    let a = c.args in
+    let one = c.write_held in
     let n : ℕ = 4 * loop.output in
     let next : n + 4 ≡ 4 * (loop.output + 1) = omega arith in
-    let room : a.at + (n + 4) ≤ length a.answer.now = omega (arith, test.loop-output-test.true, start.requires) in (
-      omega (arith, test.loop-output-test.true),
-      one.auto.0 ∙ loop.invariant.1,
+    let room : a.at + (n + 4) ≤ length a.answer.now = omega (arith, c.loop-output-test.true, c.requires) in (
+      omega (arith, c.loop-output-test.true),
+      one.auto.answer ∙ loop.invariant.1,
       put_next a.at n 4 (words_bytes loop.output a.held.now) (bytes_of 4 (get_or a.held.now loop.output 0))
-          a.answer.now loop.answer one.new.0 (length-words_bytes loop.output a.held.now)
+          a.answer.now loop.answer one.new.answer (length-words_bytes loop.output a.held.now)
           (length-bytes_of 4 _) room loop.invariant.2 one.ensures
           ∙ ap₂ (λ k bs. put a.at k bs a.answer.now) next (sym (words_bytes-more loop.output a.held.now)),
     )
 
 same_length : tie.Need-shape_of-answer invariant-loop decreases-loop
-same_length c = c.before.loop-output.invariant.1
+same_length c = c.loop-output.invariant.1
 
 returns : tie.Need-returns invariant-loop decreases-loop
 returns c =
-    let loop = c.before.loop-output in
-    let a = c.before.before.before.args in
+    let loop = c.loop-output in
+    let a = c.args in
     let last : loop.output ≡ 16 = omega (arith, c.loop-output-test.false, loop.invariant.0) in
     loop.invariant.2 ∙ ap (λ n. put a.at (4 * n) (words_bytes n a.held.now) a.answer.now) last
 

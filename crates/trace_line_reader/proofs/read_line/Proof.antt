@@ -14,25 +14,23 @@ key-text-requires : tie.Need-key_text-mark-requires
 key-text-requires c κs = search rules
 
 returns : tie.Need-returns-then-text-mark
-returns c = sym (line_of-none _ (read_line-short _ _ (omega (arith, c.before.before.key_text-mark.ensures.1.0))))
+returns c = sym (line_of-none _ (read_line-short _ _ (omega (arith, c.key_text-mark.ensures.1.0))))
 
 begins-requires : tie.Need-begins-requires
 begins-requires c κs = search rules
 
 returns-2 : tie.Need-returns-then-not-begins
-returns-2 c = sym (line_of-none _ (read_line-missing _ _ (sym c.before.begins.ensures ∙ not-true _ c.if-not-begins.true)))
+returns-2 c = sym (line_of-none _ (read_line-missing _ _ (sym c.begins.ensures ∙ c.if-not-begins.true)))
 
 read-number-requires : tie.Need-read_number-requires
 read-number-requires c κs = search rules
 
 returns-3 : tie.Need-returns
 returns-3 c =
-    let begins = c.before.before in
-    let key = begins.before.before.before in
-    let a = key.before.before.args in
+    let a = c.args in
     let t = a.text.now in
-    let b = read_line-before a.key t (sym begins.begins.ensures ∙ not-false _ c.before.if-not-begins.false) in
-    c.read_number.ensures ∙ ap (λ n. line_of t (read_body (drop n t))) key.key_text-mark.ensures.1.0 ∙ ap (line_of t) (sym b)
+    let b = read_line-before a.key t (sym c.begins.ensures ∙ c.if-not-begins.false) in
+    c.read_number.ensures ∙ ap (λ n. line_of t (read_body (drop n t))) c.key_text-mark.ensures.1.0 ∙ ap (line_of t) (sym b)
 
 pub read_line_spec : {M : Type 1} → statement M
 read_line_spec =

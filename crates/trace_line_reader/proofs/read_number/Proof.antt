@@ -37,13 +37,13 @@ is-digit-requires c κs = search rules
 
 returns-2 : tie.Need-returns-then-not-is_digit invariant-loop decreases-loop
 returns-2 c =
-    let d = sym c.before.is_digit.ensures ∙ not-true _ c.if-not-is_digit.true in
-    let f = drop_here _ _ c.before.before.before.if-text-start.false in
+    let d = sym c.is_digit.ensures ∙ c.if-not-is_digit.true in
+    let f = drop_here _ _ c.if-text-start.false in
     sym (line_of-none _ (ap read_body f ∙ read_body-stray _ _ d))
 
 first-digit : (c : tie.Else-not-is_digit invariant-loop decreases-loop)
-    → let a = c.before.before.before.before.before.args in is_digit (get_or a.text.now a.start 0) ≡ true
-first-digit c = sym c.before.is_digit.ensures ∙ not-false _ c.if-not-is_digit.false
+    → let a = c.args in is_digit (get_or a.text.now a.start 0) ≡ true
+first-digit c = sym c.is_digit.ensures ∙ c.if-not-is_digit.false
 
 sub-n : tie.Need-overflow_sub-n invariant-loop decreases-loop
 sub-n c = (is_digit-e _ (first-digit c)).0
@@ -59,7 +59,7 @@ loop-holds c =
     let d = first-digit c in (
       omega arith,
       omega (arith, is_digit-e _ d),
-      ap read_body (drop_here _ _ c.before.before.before.if-text-start.false) ∙ read_body-first _ _ d,
+      ap read_body (drop_here _ _ c.if-text-start.false) ∙ read_body-first _ _ d,
     )
 
 abbrev start : tie.In-loop-at invariant-loop decreases-loop → tie.Start invariant-loop decreases-loop
@@ -68,10 +68,10 @@ start c = c.before.before.before.before.before.before.before
 -- what is read, by the next byte
 here : (c : tie.In-loop-at invariant-loop decreases-loop)
     → let a = (start c).args in
-    let l = c.before.loop-at in
+    let l = c.loop-at in
     read_body (drop a.start a.text.now)
     ≡ continued l.n (get_or a.text.now l.at 0 ∷ drop (l.at + 1) a.text.now)
-here c = c.before.loop-at.invariant.2 ∙ ap (continued c.before.loop-at.n) (drop_here _ _ c.loop-at-test.true)
+here c = c.loop-at.invariant.2 ∙ ap (continued c.loop-at.n) (drop_here _ _ c.loop-at-test.true)
 
 shared-slice-read-b : tie.Need-bounds-text-at invariant-loop decreases-loop
 shared-slice-read-b c = search rules
@@ -85,17 +85,17 @@ add-t19 c = omega arith
 returns-3 : tie.Need-returns-then-b-eq10 invariant-loop decreases-loop
 returns-3 c =
     let turn = c.before.before.before.before in
-    sym (line_of-some _ (here turn ∙ continued-line-feed _ _ _ turn.before.loop-at.invariant.1 c.if-b-eq10.true) (omega arith))
+    sym (line_of-some _ (here turn ∙ continued-line-feed _ _ _ c.loop-at.invariant.1 c.if-b-eq10.true) (omega arith))
 
 returns-4 : tie.Need-returns-then-not-is_digit-2 invariant-loop decreases-loop
 returns-4 c =
-    let d = sym c.before.before.is_digit-in-loop-at.ensures ∙ not-true _ c.before.if-not-is_digit-2.true in
+    let d = sym c.is_digit-in-loop-at.ensures ∙ c.if-not-is_digit-2.true in
     sym (line_of-none _ (here c.before.before.before.before ∙ continued-stray _ _ _ c.if-b-eq10.false d))
 
 digit : (c : tie.Else-not-is_digit-2 invariant-loop decreases-loop)
     → let turn = c.before.before.before in
-    is_digit (get_or (start turn).args.text.now turn.before.loop-at.at 0) ≡ true
-digit c = sym c.before.is_digit-in-loop-at.ensures ∙ not-false _ c.if-not-is_digit-2.false
+    is_digit (get_or (start turn).args.text.now c.loop-at.at 0) ≡ true
+digit c = sym c.is_digit-in-loop-at.ensures ∙ c.if-not-is_digit-2.false
 
 returns-5 : tie.Need-returns-then-n-eq0 invariant-loop decreases-loop
 returns-5 c =
@@ -120,7 +120,7 @@ add-m c = omega (arith, is_digit-e _ (digit c.before))
 further : (c : tie.Else-n-eq0 invariant-loop decreases-loop)
     → let turn = c.before.before.before.before in
     let a = (start turn).args in
-    let l = turn.before.loop-at in
+    let l = c.loop-at in
     read_body (drop a.start a.text.now)
     ≡ continued (10 * l.n + (get_or a.text.now l.at 0 - 48)) (drop (l.at + 1) a.text.now)
 further c = here c.before.before.before.before ∙ continued-digit _ _ _ c.if-n-eq0.false (digit c.before)
@@ -143,7 +143,7 @@ loop-again c = (omega arith, c.if-m-gt4294967295.false, further c.before)
 
 returns-7 : tie.Need-returns invariant-loop decreases-loop
 returns-7 c =
-    let l = c.before.loop-at in
+    let l = c.loop-at in
     sym (line_of-none _ (l.invariant.2 ∙ ap (continued l.n) (drop_of_length-le _ c.loop-at-test.false) ∙ continued-nil _))
 
 pub read_number_spec : {M : Type 1} → statement M

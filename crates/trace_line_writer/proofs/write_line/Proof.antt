@@ -11,41 +11,37 @@ use Rattle.trace_line_writer.proofs.write_line.Statement.{statement}
 use Rattle.trace_line_writer.proofs.write_line.Tie as tie
 
 sub-feed : tie.Need-overflow_sub-feed
-sub-feed c = omega (arith, length-line c.before.args.key c.before.args.n)
+sub-feed c = omega (arith, length-line c.args.key c.args.n)
 
 slice-write-out : tie.Need-bounds-out-feed
-slice-write-out c = omega (arith, length-line c.before.args.key c.before.args.n)
+slice-write-out c = omega (arith, length-line c.args.key c.args.n)
 
 write-number-requires : tie.Need-write_number-number-requires
 write-number-requires c κs =
-    let s = c.before.before.args in
+    let s = c.args in
     simp length-set (omega (arith, length-line s.key s.n))
 
 write-key-requires : tie.Need-write_key-requires
 write-key-requires c κs =
-    let w = c.before.before.before in
-    let s = w.before.before.before.args in
+    let s = c.args in
     omega (
       arith,
       length-line s.key s.n,
-      w.write_number-number.ensures.starts,
-      w.write_number-number.auto.0,
+      c.write_number-number.ensures.starts,
+      c.write_number-number.auto.out,
       length-set s.out.now (s.end - 1) 10,
     )
 
 same_length : tie.Need-shape_of-out
 same_length c =
-    let w = c.before.before in
-    w.write_key.auto.0 ∙ w.before.before.before.before.write_number-number.auto.0 ∙ simp length-set
+    c.write_key.auto.out ∙ c.write_number-number.auto.out ∙ simp length-set
 
 returns : tie.Need-returns
 unfolding line
 returns c =
-    let w = c.before.before in
-    let v = w.before.before.before.before in
-    let s = v.before.before.before.args in
+    let s = c.args in
     let one : 1 ≤ s.end = omega (arith, length-line s.key s.n) in
-    written_then (written_then (written_byte _ _ 10 one) v.write_number-number.ensures) w.write_key.ensures
+    written_then (written_then (written_byte _ _ 10 one) c.write_number-number.ensures) c.write_key.ensures
 
 pub write_line_spec : {M : Type 1} → statement M
 write_line_spec =

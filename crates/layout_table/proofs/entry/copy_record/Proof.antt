@@ -34,19 +34,11 @@ same_length c = search rules
 
 returns : tie.Need-returns
 returns c =
-    let second = c.before.before in
-    let first = second.before.before.before.before in
-    let high = first.before.before in
-    let low = high.before.before in
-    let to = low.before.before in
-    let from = to.before in
-    let known = from.before in
-    let start = known.before in
-    record-copied start.args.from start.args.to from.start_of.result to.start-of2.result
-    low.read_u64.result high.read_u64-high.result start.args.bytes.now first.write_u64.new.bytes
-    second.write_u64-2.new.bytes (bytes?-i _ (λ i. (known.slice-known.given i).fits)) start.requires.0 start.requires.1
-    start.requires.2 from.start_of.ensures to.start-of2.ensures low.read_u64.ensures
-    high.read_u64-high.ensures first.write_u64.ensures second.write_u64-2.ensures
+    record-copied c.args.from c.args.to c.start_of-old.result c.start_of-new.result
+    c.read_u64-low.result c.read_u64-high.result c.args.bytes.now c.write_u64.new.bytes
+    c.write_u64-2.new.bytes (bytes?-i _ (λ i. (c.slice_known-1.given i).fits)) c.requires.0 c.requires.1
+    c.requires.2 c.start_of-old.ensures c.start_of-new.ensures c.read_u64-low.ensures
+    c.read_u64-high.ensures c.write_u64.ensures c.write_u64-2.ensures
 
 pub copy_record_spec : {M : Type 1} → statement M
 copy_record_spec =
