@@ -61,9 +61,10 @@ def declared_in_code(code):
 
 
 def crates():
-    """The crates by name, each with the crates and libraries that it names in crates.txt, in that order."""
+    """The crates by name, each with the crates and libraries that it names in crates.txt, in that order. Behind the name
+    of a static library stands that it is one."""
     lines = [line.split(":") for line in read("crates.txt").splitlines() if line and not line.startswith("#")]
-    return {crate: named.split() for crate, named in lines}
+    return {crate.split()[0]: named.split() for crate, named in lines}
 
 
 class Sources:
@@ -85,7 +86,7 @@ class Sources:
         self.names = set().union(*self.declared.values())
 
     def take(self, path):
-        if path.startswith(("docs/", "tests/checks")) or path.endswith((".md", ".edit")):
+        if path.startswith(("docs/", "tests/checks", "tools/")) or path.endswith((".md", ".edit")):
             return
         code = without_comments(path, read(path))
         self.code.append(code)
