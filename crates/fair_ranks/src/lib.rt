@@ -1,5 +1,6 @@
 // Fair ranks, on the bytes of a memory: the rank that a record gets, and what an accepted slot leaves in the memory.
 #![tactic(auto)]
+
 ghost use Rattle.std.specs.Prelude.{true, false, List, map, ◌≡◌, ◌≤◌, ◌<◌, length, get_or, take};
 ghost use Rattle.laws.specs.Lists.{all?};
 ghost use Rattle.cell.specs.Limits.{port_limit};

@@ -3,6 +3,7 @@
 // questions on a section's records are those of `slot_section`; the slots that may be the same are compared here. The
 // sets of positions that the check makes of a section are handed on.
 #![tactic(auto)]
+
 ghost use Rattle.std.specs.Prelude.{true, false, not, ◌||◌, ◌≡◌, ◌+◌, ◌-◌, ◌*◌, ◌/◌, ◌%◌, ◌<◌, ◌≤◌, length};
 ghost use Rattle.laws.specs.Lists.{some?, all?, pairwise, between};
 ghost use Rattle.cell.specs.Limits.{port_limit, section_room};

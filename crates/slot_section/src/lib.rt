@@ -2,6 +2,7 @@
 // records are zero, whether the others are entries, whether no two crossed ones go to one output, and whether the
 // listed ones of each flow stand together. What a pass learns on its way, the places and the heads, is handed on.
 #![tactic(auto)]
+
 ghost use Rattle.std.specs.Prelude.{true, ◌≡◌, ℕ, ◌+◌, ◌%◌, ◌≤◌, eqb, length};
 ghost use Rattle.laws.specs.Lists.{all?, pairwise, between};
 ghost use Rattle.cell.specs.Limits.{port_limit, section_room};

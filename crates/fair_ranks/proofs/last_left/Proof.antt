@@ -9,15 +9,15 @@ use Rattle.fair_ranks.proofs.Remembering.{length-left}
 use Rattle.fair_ranks.proofs.last_left.Statement.{statement}
 use Rattle.fair_ranks.proofs.last_left.Tie as tie
 
-left-of-requires : tie.Need-left-of-requires
+left-of-requires : tie.Need-left_of-requires
 left-of-requires c κs = search rules
 
-returns : tie.Need-returns
+returns : tie.Need-returns-then-output-lt-PORTS
 returns c = search rules
 
-returns-2 : tie.Need-returns-2
+returns-2 : tie.Need-returns
 returns-2 c =
-    let a = c.before.before.args in
+    let a = c.args in
     let left = (memory_of a.memory.now).left in
     let past : length left ≤ a.output = omega (arith, length-left a.memory.now) in
     sym (get_or-eq_default left 0 past)

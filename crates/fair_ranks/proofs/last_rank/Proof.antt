@@ -5,26 +5,24 @@ use Rattle.fair_ranks.specs.Code.{last_rank}
 use Rattle.fair_ranks.proofs.last_rank.Statement.{statement}
 use Rattle.fair_ranks.proofs.last_rank.Tie as tie
 
-last-given-requires : tie.Need-last-given-requires
+last-given-requires : tie.Need-last_given-given-requires
 last-given-requires c κs = search rules
 
-cast-last-left : tie.Need-overflow_cast-last-left
+cast-last-left : tie.Need-overflow_cast-a
 cast-last-left c = search rules
 
-last-left-requires : tie.Need-last-left-requires
+last-left-requires : tie.Need-last_left-left-requires
 last-left-requires c κs = search rules
 
-returns : tie.Need-returns
+returns : tie.Need-returns-then-given-left
 unfolding last_rank
 returns c =
-    let left = c.before in
-    omega (arith, left.last-left.ensures, left.before.before.last-given.ensures)
+    omega (arith, c.last_left-left.ensures, c.last_given-given.ensures)
 
-returns-2 : tie.Need-returns-2
+returns-2 : tie.Need-returns
 unfolding last_rank
 returns-2 c =
-    let left = c.before in
-    omega (arith, left.last-left.ensures, left.before.before.last-given.ensures)
+    omega (arith, c.last_left-left.ensures, c.last_given-given.ensures)
 
 pub last_rank_spec : {M : Type 1} → statement M
 last_rank_spec =

@@ -11,15 +11,15 @@ use Rattle.fair_ranks.proofs.Remembering.{departures-none, departures-next}
 use Rattle.fair_ranks.proofs.remember_departures.Statement.{statement}
 use Rattle.fair_ranks.proofs.remember_departures.Tie as tie
 
-abbrev invariant-loop : tie.invariant-loop
+abbrev invariant-loop : tie.invariant-loop-output
 invariant-loop memory₀ answer output₀ memory output =
     (output ≤ 16) × (length memory ≡ length memory₀)
     × (memory_of memory ≡ with_departures (memory_of memory₀) (departures_in output answer))
 
-abbrev decreases-loop : tie.decreases-loop
+abbrev decreases-loop : tie.decreases-loop-output
 decreases-loop memory₀ answer output₀ memory output = 16 - output
 
-loop-holds : tie.Need-loop-init invariant-loop decreases-loop
+loop-holds : tie.Need-loop-output-init invariant-loop decreases-loop
 loop-holds c =
     (omega arith, refl, departures-none _ _)
 
@@ -29,51 +29,44 @@ mul-start c = search rules
 add-end : tie.Need-overflow_add-end invariant-loop decreases-loop
 add-end c = search rules
 
-sub-remember-departure : tie.Need-overflow_sub-remember-departure invariant-loop decreases-loop
+sub-remember-departure : tie.Need-slice_bounds-remember_departure-count invariant-loop decreases-loop
 sub-remember-departure c = search rules
 
-part-remember-departure-start : tie.Need-slice-bounds-remember-departure-start invariant-loop decreases-loop
+part-remember-departure-start : tie.Need-slice_bounds-remember_departure-start invariant-loop decreases-loop
 part-remember-departure-start c = search rules
 
-part-remember-departure-end : tie.Need-slice-bounds-remember-departure-end invariant-loop decreases-loop
+part-remember-departure-end : tie.Need-slice_bounds-remember_departure-end invariant-loop decreases-loop
 part-remember-departure-end c = search rules
 
-remember-departure-requires : tie.Need-remember-departure-requires invariant-loop decreases-loop
+remember-departure-requires : tie.Need-remember_departure-requires invariant-loop decreases-loop
 remember-departure-requires c κs =
-    let at = c.before.before.before in
-    (at.loop.invariant.1 ∙ at.before.before.before.requires.0, omega arith, search rules)
+    (c.loop-output.invariant.1 ∙ c.requires.0, omega arith, search rules)
 
 add-output : tie.Need-overflow_add-output invariant-loop decreases-loop
 add-output c = omega arith
 
-loop-less : tie.Need-loop-smaller invariant-loop decreases-loop
+loop-less : tie.Need-loop-output-smaller invariant-loop decreases-loop
 loop-less c = omega arith
 
-loop-again : tie.Need-loop-preserved invariant-loop decreases-loop
+loop-again : tie.Need-loop-output-preserved invariant-loop decreases-loop
 loop-again c =
-    let put = c.before.before in
-    let turn = put.before.before.before in
-    let at = turn.before in
-    let start = at.before.before.before in
-    let wide : departure_size * at.loop.output + departure_size - departure_size * at.loop.output ≡ departure_size =
+    let wide : departure_size * c.loop-output.output + departure_size - departure_size * c.loop-output.output ≡ departure_size =
     omega arith in (
       omega arith,
-      put.remember-departure.auto.0 ∙ at.loop.invariant.1,
-      departures-next _ _ _ at.loop.output _ start.args.answer.now wide at.loop.invariant.2
-          put.remember-departure.ensures,
+      c.remember_departure.auto.memory ∙ c.loop-output.invariant.1,
+      departures-next _ _ _ c.loop-output.output _ c.args.answer.now wide c.loop-output.invariant.2
+          c.remember_departure.ensures,
     )
 
-same_length : tie.Need-same-length invariant-loop decreases-loop
+same_length : tie.Need-shape_of-memory invariant-loop decreases-loop
 same_length c =
-    c.before.loop.invariant.1
+    c.loop-output.invariant.1
 
 returns : tie.Need-returns invariant-loop decreases-loop
 returns c =
-    let at = c.before in
-    let start = at.before.before.before in
-    let end : at.loop.output ≡ 16 = omega arith in
-    at.loop.invariant.2
-    ∙ ap (λ k. with_departures (memory_of start.args.memory.now) (departures_in k start.args.answer.now)) end
+    let end : c.loop-output.output ≡ 16 = omega arith in
+    c.loop-output.invariant.2
+    ∙ ap (λ k. with_departures (memory_of c.args.memory.now) (departures_in k c.args.answer.now)) end
 
 pub remember_departures_spec : {M : Type 1} → statement M
 remember_departures_spec =

@@ -19,7 +19,7 @@ sub-result c = search rules
 mul-result : tie.Need-offset_bounds-weight
 mul-result c = search rules
 
-array-read-result : tie.Need-array-read-result
+array-read-result : tie.Need-bounds-weight
 array-read-result c = omega arith
 
 returns-3 : tie.Need-returns

@@ -2,10 +2,10 @@
 use Prim.Native.Nat.{◌+◌, ◌-◌, ◌≤◌}
 use native.Mathlib.Omega.{arith}
 use mathlib.Core.Path.{◌≡◌, sym, ap, ◌∙◌}
-use mathlib.Core.Logic.{⊎_elim}
 use Rattle.layout_answer.proofs.Departures.{sent_below, sent-none, sent-next, sent-same, sent-all}
 use Rattle.layout_answer.proofs.departures_in.Statement.{statement}
 use Rattle.layout_answer.proofs.departures_in.Tie as tie
+use Rattle.layout_answer.proofs.departures_in.Lts.{then-read_u32-ne0, else-read_u32-ne0}
 
 abbrev invariant-loop : tie.invariant-loop-output
 invariant-loop answer count₀ output₀ count output = (output ≤ 16) × (count ≤ output) × (count ≡ sent_below output answer)
@@ -36,10 +36,14 @@ loop-again c =
     let at = c.loop-output in
     let read = c.read_u32 in
     let sofar = at.invariant.2 in
-    ⊎_elim
-    (λ w. (omega arith, omega arith, w.1 ∙ ap (λ k. k + 1) sofar ∙ sent-next _ _ (λ z. w.0.taken (read.ensures ∙ z))))
-    (λ w. (omega arith, omega arith, w.1 ∙ sofar ∙ sent-same _ _ (sym read.ensures ∙ w.0.left)))
-    c.if-read_u32-ne0.branch
+    elim c.if-read_u32-ne0.branch [
+      | then-read_u32-ne0 w ↦ (
+        omega arith,
+        omega arith,
+        w.count-is ∙ ap (λ k. k + 1) sofar ∙ sent-next _ _ (λ z. w.if-read_u32-ne0.true (read.ensures ∙ z)),
+      )
+      | else-read_u32-ne0 w ↦ (omega arith, omega arith, w.count-is ∙ sofar ∙ sent-same _ _ (sym read.ensures ∙ w.if-read_u32-ne0.false))
+    ]
 
 returns : tie.Need-returns invariant-loop decreases-loop
 returns c =

@@ -57,9 +57,9 @@ loop-again c =
     let next : n + 4 ≡ 4 * (loop.output + 1) = omega arith in
     let room : a.at + (n + 4) ≤ length a.answer.now = omega (arith, c.loop-output-test.true, c.requires) in (
       omega (arith, c.loop-output-test.true),
-      one.auto.0 ∙ loop.invariant.1,
+      one.auto.answer ∙ loop.invariant.1,
       put_next a.at n 4 (words_bytes loop.output a.held.now) (bytes_of 4 (get_or a.held.now loop.output 0))
-          a.answer.now loop.answer one.new.0 (length-words_bytes loop.output a.held.now)
+          a.answer.now loop.answer one.new.answer (length-words_bytes loop.output a.held.now)
           (length-bytes_of 4 _) room loop.invariant.2 one.ensures
           ∙ ap₂ (λ k bs. put a.at k bs a.answer.now) next (sym (words_bytes-more loop.output a.held.now)),
     )

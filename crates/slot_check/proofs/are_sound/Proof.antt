@@ -15,162 +15,141 @@ use Rattle.slot_check.proofs.Sections.{Found, found, asked-if, unsound-entry, un
 use Rattle.slot_check.proofs.are_sound.Statement.{statement}
 use Rattle.slot_check.proofs.are_sound.Tie as tie
 
-abbrev start_of : tie.Else1 → tie.Start
+abbrev start_of : tie.Else-not-places → tie.Start
 start_of c = c.before.before.before.before.before
 
 -- the entries are right one by one, and what the pass over them found
-module _ (c : tie.Else1) where
-  entries : let a = (start_of c).args in
+module _ (c : tie.Else-not-places) where
+  entries : let a = c.args in
       all? (is_entry a.ports a.clock a.bytes.now) (between a.first a.end) ≡ true
   entries =
-      let pass = c.before.before.collect in
-      sym pass.ensures.0.entries ∙ not-false pass.result.good c.if1.false
+      let pass = c.collect-places in
+      sym pass.ensures.0.entries ∙ not-false pass.result.good c.if-not-places.false
 
-  found-there : let a = (start_of c).args in
-      let pass = c.before.before.collect.result in
+  found-there : let a = c.args in
+      let pass = c.collect-places.result in
       Found a.bytes.now a.first a.end pass.low pass.high
   found-there =
-      let pass = c.before.before.collect in
-      let known = c.before.before.before.before in
-      let start = known.before in
-      let a = start.args in
-      let pre = start.requires in
-      found a.ports a.clock a.bytes.now (known_bytes a.bytes.now known.shared-slice-known.given)
+      let pass = c.collect-places in
+      let a = c.args in
+      let pre = c.requires in
+      found a.ports a.clock a.bytes.now (known_bytes a.bytes.now c.shared_slice_known-1.given)
       pre.0.0 pre.0.1 a.first a.end pre.1.0.0 pre.1.1.0 pre.1.1.1 pass.result.good
       pass.result.again pass.result.low pass.result.high pass.ensures.0
-      (not-false pass.result.good c.if1.false)
+      (not-false pass.result.good c.if-not-places.false)
 
 -- no two entries have one slot
-slots : (c : tie.After-slots-differ)
-    → let a = (start_of c.before).args in
-    c.slots-differ.result ≡ pairwise other_slot (entries_between a.bytes.now a.first a.end)
+slots : (c : tie.After-slots_differ)
+    → let a = c.args in
+    c.slots_differ.result ≡ pairwise other_slot (entries_between a.bytes.now a.first a.end)
 slots c =
-    let pass = c.before.before.before.collect in
-    c.slots-differ.ensures
+    let pass = c.collect-places in
+    c.slots_differ.ensures
     ∙ asked-if pass.result.again _
-    (pass.ensures.0.slots (not-false pass.result.good c.before.if1.false))
+    (pass.ensures.0.slots (not-false pass.result.good c.if-not-places.false))
 
 -- no crosspoint holds two cells
-crosspoints : (c : tie.After-crosspoints-differ)
-    → let a = (start_of c.before.before.before.before).args in
-    c.crosspoints-differ.result ≡ pairwise other_crosspoint (entries_between a.bytes.now a.first a.end)
+crosspoints : (c : tie.After-crosspoints_differ)
+    → let a = c.args in
+    c.crosspoints_differ.result ≡ pairwise other_crosspoint (entries_between a.bytes.now a.first a.end)
 crosspoints c =
-    let else1 = c.before.before.before.before in
-    let a = (start_of else1).args in
-    c.crosspoints-differ.ensures
-    ∙ ap (λ s. pairwise other_output (entries_in a.bytes.now a.first s)) c.before.minus.ensures
-    ∙ (found-there else1).crossed
+    let a = c.args in
+    c.crosspoints_differ.ensures
+    ∙ ap (λ s. pairwise other_output (entries_in a.bytes.now a.first s)) c.minus-crossed.ensures
+    ∙ (found-there c.before.before.before.before).crossed
 
-collect-requires : tie.Need-collect-requires
+collect-requires : tie.Need-collect-places-requires
 collect-requires c κs = search rules
 
 unsound-requires : tie.Need-unsound-requires
 unsound-requires c κs = search rules
 
-returns : tie.Need-returns
+returns : tie.Need-returns-then-not-places
 returns c =
-    let then1 = c.before in
-    let pass = then1.before.before.collect in
-    let a = then1.before.before.before.before.before.args in (
+    let pass = c.collect-places in
+    let a = c.args in (
       c.unsound.ensures
           ∙ unsound-entry a.ports a.clock a.bytes.now a.first a.end
-          (sym pass.ensures.0.entries ∙ not-true pass.result.good then1.if1.true),
+          (sym pass.ensures.0.entries ∙ not-true pass.result.good c.if-not-places.true),
       (λ t. absurd (clash t c.unsound.ensures), below_more _ _ _ (omega arith) pass.ensures.1),
     )
 
-slots-differ-requires : tie.Need-slots-differ-requires
+slots-differ-requires : tie.Need-slots_differ-requires
 slots-differ-requires c κs = search rules
 
-unsound-requires-2 : tie.Need-unsound-requires-2
+unsound-requires-2 : tie.Need-unsound-requires-then-not-slots_differ
 unsound-requires-2 c κs = search rules
 
-returns-2 : tie.Need-returns-2
+returns-2 : tie.Need-returns-then-not-slots_differ
 returns-2 c =
-    let then2 = c.before in
-    let asked = then2.before in
-    let else1 = asked.before in
-    let a = (start_of else1).args in (
-      c.unsound2.ensures
+    let a = c.args in (
+      c.unsound-then-not-slots_differ.ensures
           ∙ unsound-slots a.ports a.clock a.bytes.now a.first a.end
-          (sym (slots asked) ∙ not-true asked.slots-differ.result then2.if2.true),
+          (sym (slots c.before.before) ∙ c.if-not-slots_differ.true),
       (
-        λ t. absurd (clash t c.unsound2.ensures),
-        below_more _ _ _ (omega arith) else1.before.before.collect.ensures.1,
+        λ t. absurd (clash t c.unsound-then-not-slots_differ.ensures),
+        below_more _ _ _ (omega arith) c.collect-places.ensures.1,
       ),
     )
 
-minus-requires : tie.Need-minus-requires
+minus-requires : tie.Need-minus-crossed-requires
 minus-requires c κs = search rules
 
-crosspoints-differ-requires : tie.Need-crosspoints-differ-requires
+crosspoints-differ-requires : tie.Need-crosspoints_differ-requires
 crosspoints-differ-requires c κs =
-    let else1 = c.before.before.before in
-    let pre = (start_of else1).requires in
-    ((pre.0.0, pre.1.0.0), rw c.minus.ensures (found-there else1).crossed-range)
+    let pre = c.requires in
+    ((pre.0.0, pre.1.0.0), rw c.minus-crossed.ensures (found-there c.before.before.before).crossed-range)
 
-unsound-requires-3 : tie.Need-unsound-requires-3
+unsound-requires-3 : tie.Need-unsound-requires-then-not-crosspoints_differ
 unsound-requires-3 c κs = search rules
 
-returns-3 : tie.Need-returns-3
+returns-3 : tie.Need-returns-then-not-crosspoints_differ
 returns-3 c =
-    let then3 = c.before in
-    let asked = then3.before in
-    let else1 = asked.before.before.before.before in
-    let a = (start_of else1).args in (
-      c.unsound3.ensures
+    let a = c.args in (
+      c.unsound-then-not-crosspoints_differ.ensures
           ∙ unsound-crosspoints a.ports a.clock a.bytes.now a.first a.end
-          (sym (crosspoints asked) ∙ not-true asked.crosspoints-differ.result then3.if3.true),
+          (sym (crosspoints c.before.before) ∙ c.if-not-crosspoints_differ.true),
       (
-        λ t. absurd (clash t c.unsound3.ensures),
-        below_more _ _ _ (omega arith) else1.before.before.collect.ensures.1,
+        λ t. absurd (clash t c.unsound-then-not-crosspoints_differ.ensures),
+        below_more _ _ _ (omega arith) c.collect-places.ensures.1,
       ),
     )
 
-minus-requires-2 : tie.Need-minus-requires-2
+minus-requires-2 : tie.Need-minus-listed-requires
 minus-requires-2 c κs = search rules
 
-add-flows-together : tie.Need-overflow_add-flows-together
+add-flows-together : tie.Need-overflow_add-mark
 add-flows-together c = search rules
 
-flows-together-requires : tie.Need-flows-together-requires
+flows-together-requires : tie.Need-flows_together-flows-requires
 flows-together-requires c κs =
-    let else2 = c.before.before.before.before.before in
-    let else1 = else2.before.before in
-    let pre = (start_of else1).requires in (
+    let pre = c.requires in (
       (pre.0.0, pre.1.0.0, pre.1.0.1),
-      (rw c.before.minus2.ensures (found-there else1).listed-range, else1.before.before.collect.ensures.1),
+      (rw c.minus-listed.ensures (found-there c.before.before.before.before.before.before.before).listed-range, c.collect-places.ensures.1),
     )
 
 both-requires : tie.Need-both-requires
 both-requires c κs = search rules
 
-returns-4 : tie.Need-returns-4
+returns-4 : tie.Need-returns
 returns-4 c =
-    let flows = c.before in
-    let listed = flows.before.before in
-    let else3 = listed.before in
-    let crossed = else3.before in
-    let else2 = crossed.before.before in
-    let asked = else2.before in
-    let else1 = asked.before in
-    let start = start_of else1 in
-    let a = start.args in (
-      flows.flows-together.ensures.0 a.ports
-          ∙ ap (λ s. together a.ports (entries_in a.bytes.now a.first s)) listed.minus2.ensures
-          ∙ ap (together a.ports) (found-there else1).listed
-          ∙ sound-flows a.ports a.clock a.bytes.now a.first a.end (entries else1)
-          (sym (slots asked) ∙ not-false asked.slots-differ.result else2.if2.false)
-          (sym (crosspoints crossed) ∙ not-false crossed.crosspoints-differ.result else3.if3.false),
+    let a = c.args in (
+      c.flows_together-flows.ensures.0 a.ports
+          ∙ ap (λ s. together a.ports (entries_in a.bytes.now a.first s)) c.minus-listed.ensures
+          ∙ ap (together a.ports) (found-there c.before.before.before.before.before.before.before.before.before).listed
+          ∙ sound-flows a.ports a.clock a.bytes.now a.first a.end (entries c.before.before.before.before.before.before.before.before.before)
+          (sym (slots c.before.before.before.before.before.before.before.before) ∙ c.if-not-slots_differ.false)
+          (sym (crosspoints c.before.before.before.before.before) ∙ c.if-not-crosspoints_differ.false),
       (
         λ _.
             rw (
-              flows.flows-together.ensures.1.0,
-              listed.minus2.ensures,
-              crossed.before.minus.ensures,
+              c.flows_together-flows.ensures.1.0,
+              c.minus-listed.ensures,
+              c.minus-crossed.ensures,
               c.both.ensures,
             )
-            ((found-there else1).sorts start.pre.1.0.1),
-        below_more _ _ _ (omega arith) flows.flows-together.ensures.1.1,
+            ((found-there c.before.before.before.before.before.before.before.before.before).sorts c.requires.1.0.1),
+        below_more _ _ _ (omega arith) c.flows_together-flows.ensures.1.1,
       ),
     )
 

@@ -12,102 +12,92 @@ use Rattle.slot_check.proofs.Slots.{Met, met_start, met-stop, met_next}
 use Rattle.slot_check.proofs.slots_differ.Statement.{statement}
 use Rattle.slot_check.proofs.slots_differ.Tie as tie
 
-abbrev invariant-loop : tie.invariant-loop
+abbrev invariant-loop : tie.invariant-loop-k
 invariant-loop bytes may first end met₀ k₀ met k = (k ≤ end) × Met bytes first k met
 
-abbrev decreases-loop : tie.decreases-loop
+abbrev decreases-loop : tie.decreases-loop-k
 decreases-loop bytes may first end met₀ k₀ met k = end - k
 
 -- two may have one slot: the answer is that of the walk
-asked : (c : tie.At-loop invariant-loop decreases-loop)
-    → let a = c.before.before.before.args in
+asked : (c : tie.At-loop-k invariant-loop decreases-loop)
+    → let a = c.args in
     pairwise other_slot (entries_between a.bytes.now a.first a.end)
     ≡ (not a.may || pairwise other_slot (entries_between a.bytes.now a.first a.end))
 asked c =
-    let a = c.before.before.before.args in
-    ap (λ b. b || pairwise other_slot (entries_between a.bytes.now a.first a.end)) (sym c.before.if1.false)
+    let a = c.args in
+    ap (λ b. b || pairwise other_slot (entries_between a.bytes.now a.first a.end)) (sym (ap not c.if-not-may.false))
 
 -- the byte of a slot is one of 256
-few : (c : tie.After-slot-byte-of invariant-loop decreases-loop) → c.slot-byte-of.result < 256
-few c = omega (arith, c.slot-byte-of.ensures)
+few : (c : tie.After-slot_byte_of-byte invariant-loop decreases-loop) → c.slot_byte_of-byte.result < 256
+few c = omega (arith, c.slot_byte_of-byte.ensures)
 
-returns : tie.Need-returns invariant-loop decreases-loop
+returns : tie.Need-returns-then-not-may invariant-loop decreases-loop
 returns c =
-    let a = c.before.before.args in
-    sym (or_l (not a.may) (pairwise other_slot (entries_between a.bytes.now a.first a.end)) c.if1.true)
+    let a = c.args in
+    sym (or_l (not a.may) (pairwise other_slot (entries_between a.bytes.now a.first a.end)) (ap not c.if-not-may.true))
 
-loop-holds : tie.Need-loop-init invariant-loop decreases-loop
+loop-holds : tie.Need-loop-k-init invariant-loop decreases-loop
 loop-holds c =
-    let start = c.before.before in
-    (start.requires.1.0, met_start start.args.bytes.now start.args.first)
+    (c.requires.1.0, met_start c.args.bytes.now c.args.first)
 
-slot-byte-of-requires : tie.Need-slot-byte-of-requires invariant-loop decreases-loop
+slot-byte-of-requires : tie.Need-slot_byte_of-byte-requires invariant-loop decreases-loop
 slot-byte-of-requires c κs = search rules
 
 cast-byte : tie.Need-overflow_cast-byte invariant-loop decreases-loop
 cast-byte c = search rules
 
-mul-others : tie.Need-overflow_mul-others invariant-loop decreases-loop
+mul-others : tie.Need-offset_bounds-met-byte invariant-loop decreases-loop
 mul-others c = search rules
 
-array-read-others : tie.Need-array-read-others invariant-loop decreases-loop
+array-read-others : tie.Need-bounds-met-byte invariant-loop decreases-loop
 array-read-others c = search rules
 
-shares-slot-requires : tie.Need-shares-slot-requires invariant-loop decreases-loop
+shares-slot-requires : tie.Need-shares_slot-requires invariant-loop decreases-loop
 shares-slot-requires c κs = search rules
 
-returns-2 : tie.Need-returns-2 invariant-loop decreases-loop
+returns-2 : tie.Need-returns-then-shares_slot invariant-loop decreases-loop
 returns-2 c =
-    let at = c.before.before in
-    let at-loop = at.before.before in
-    let l = at-loop.loop in
-    sym (met-stop _ _ l.invariant.1 at.slot-byte-of.result at.slot-byte-of.ensures (few at) _
-    at.before.loop-test.true (sym c.before.shares-slot.ensures ∙ c.if2.true))
-    ∙ asked at-loop
+    let l = c.loop-k in
+    sym (met-stop _ _ l.invariant.1 c.slot_byte_of-byte.result c.slot_byte_of-byte.ensures (few c.before.before) _
+    c.loop-k-test.true (sym c.shares_slot.ensures ∙ c.if-shares_slot.true))
+    ∙ asked c.before.before.before.before
 
-sub-with : tie.Need-overflow_sub-with invariant-loop decreases-loop
-sub-with c = let l = c.before.before.before.before.loop in omega (arith, l.invariant.1.low)
+sub-with : tie.Need-overflow_sub-k invariant-loop decreases-loop
+sub-with c = let l = c.loop-k in omega (arith, l.invariant.1.low)
 
 with-requires : tie.Need-with-requires invariant-loop decreases-loop
 with-requires c κs =
-    let at-loop = c.before.before.before.before in
-    let start = at-loop.before.before.before in
-    omega (arith, at-loop.loop.invariant.1.low, c.before.before.before.loop-test.true, start.requires.1.1)
+    omega (arith, c.loop-k.invariant.1.low, c.loop-k-test.true, c.requires.1.1)
 
-mul-met : tie.Need-overflow_mul-met invariant-loop decreases-loop
+mul-met : tie.Need-offset_bounds-met-byte-in-loop-k invariant-loop decreases-loop
 mul-met c = search rules
 
-array-write-met : tie.Need-array-write-met invariant-loop decreases-loop
+array-write-met : tie.Need-bounds-met-byte-in-loop-k invariant-loop decreases-loop
 array-write-met c = search rules
 
 add-k : tie.Need-overflow_add-k invariant-loop decreases-loop
 add-k c = omega arith
 
-loop-less : tie.Need-loop-smaller invariant-loop decreases-loop
+loop-less : tie.Need-loop-k-smaller invariant-loop decreases-loop
 loop-less c = omega arith
 
-loop-again : tie.Need-loop-preserved invariant-loop decreases-loop
+loop-again : tie.Need-loop-k-preserved invariant-loop decreases-loop
 loop-again c =
-    let else2 = c.before in
-    let at = else2.before.before in
-    let at-loop = at.before.before in
-    let start = at-loop.before.before.before in
-    let l = at-loop.loop in (
+    let l = c.loop-k in (
       omega arith,
       rw c.with.ensures
-          (met_next _ _ l.invariant.1 at.slot-byte-of.result at.slot-byte-of.ensures (few at)
-          (sym else2.before.shares-slot.ensures ∙ else2.if2.false)
-          (omega (arith, at.before.loop-test.true, start.requires.1.1))),
+          (met_next _ _ l.invariant.1 c.slot_byte_of-byte.result c.slot_byte_of-byte.ensures (few c.before.before.before)
+          (sym c.shares_slot.ensures ∙ c.if-shares_slot.false)
+          (omega (arith, c.loop-k-test.true, c.requires.1.1))),
     )
 
-returns-3 : tie.Need-returns-3 invariant-loop decreases-loop
+returns-3 : tie.Need-returns invariant-loop decreases-loop
 returns-3 c =
-    let at-loop = c.before in
-    let a = at-loop.before.before.before.args in
-    let l = at-loop.loop in
-    let all : l.k ≡ a.end = omega (arith, l.invariant.0, c.loop-test.false) in
+    let a = c.args in
+    let l = c.loop-k in
+    let all : l.k ≡ a.end = omega (arith, l.invariant.0, c.loop-k-test.false) in
     sym (ap (λ k. pairwise other_slot (entries_between a.bytes.now a.first k)) (sym all) ∙ l.invariant.1.apart)
-    ∙ asked at-loop
+    ∙ asked c.before
 
 pub slots_differ_spec : {M : Type 1} → statement M
 slots_differ_spec =

@@ -19,112 +19,99 @@ use Rattle.slot_section.proofs.Grouping.{Flows, Good, section-good, this-good, f
 use Rattle.slot_section.proofs.flows_together.Statement.{statement}
 use Rattle.slot_section.proofs.flows_together.Tie as tie
 
-abbrev invariant-loop : tie.invariant-loop
+abbrev invariant-loop : tie.invariant-loop-left
 invariant-loop bytes first listed mark marks₀ broken₀ heads₀ last₀ last-key₀ left₀ marks broken heads last last-key left =
     Flows bytes first listed mark marks broken heads last last-key left
 
-abbrev decreases-loop : tie.decreases-loop
+abbrev decreases-loop : tie.decreases-loop-left
 decreases-loop bytes first listed mark marks₀ broken₀ heads₀ last₀ last-key₀ left₀ marks broken heads last last-key left =
     left
 
 -- where a position is left: its record is one of the table, and its entry one of the section's
-module _ (c : tie.In-loop invariant-loop decreases-loop) where
-  some : 0 < c.before.loop.left
-  some = omega (arith, c.loop-test.true)
+module _ (c : tie.In-loop-left invariant-loop decreases-loop) where
+  some : 0 < c.loop-left.left
+  some = omega (arith, c.loop-left-test.true)
 
-  position : first_of c.before.loop.left < 64
-  position = first-position c.before.loop.left some c.before.loop.invariant.visited.fits
+  position : first_of c.loop-left.left < 64
+  position = first-position c.loop-left.left some c.loop-left.invariant.visited.fits
 
   good : (g : Entry)
-      → let a = c.before.before.before.args in
+      → let a = c.args in
       Memᴰ g (entries_in a.bytes.now a.first a.listed) → Good a.first g
   good =
-      let known = c.before.before in
-      let start = known.before in
-      let a = start.args in
-      section-good a.bytes.now (known_bytes a.bytes.now known.shared-slice-known.given) start.requires.0.0
-      a.first a.listed start.requires.0.1 start.requires.0.2 start.requires.1.0
+      let a = c.args in
+      section-good a.bytes.now (known_bytes a.bytes.now c.shared_slice_known-1.given) c.requires.0.0
+      a.first a.listed c.requires.0.1 c.requires.0.2 c.requires.1.0
 
-  this : let a = c.before.before.before.args in
-      Good a.first (entry_at a.bytes.now (a.first + first_of c.before.loop.left))
+  this : let a = c.args in
+      Good a.first (entry_at a.bytes.now (a.first + first_of c.loop-left.left))
   this =
-      let l = c.before.loop in
+      let l = c.loop-left in
       this-good _ _ _ _ _ _ _ _ _ _ l.invariant some good
 
-loop-holds : tie.Need-loop-init invariant-loop decreases-loop
+loop-holds : tie.Need-loop-left-init invariant-loop decreases-loop
 loop-holds c =
-    let start = c.before in
-    let a = start.args in
-    flows-start a.bytes.now a.first a.listed a.mark a.marks.now start.ranges.listed.fits
-    start.requires.1.1 0
+    let a = c.args in
+    flows-start a.bytes.now a.first a.listed a.mark a.marks.now c.ranges.listed.fits
+    c.requires.1.1 0
 
-first-requires : tie.Need-first-requires invariant-loop decreases-loop
+first-requires : tie.Need-first-position-requires invariant-loop decreases-loop
 first-requires c κs = search rules
 
 add-k : tie.Need-overflow_add-k invariant-loop decreases-loop
-add-k c = omega (arith, position c.before, c.first.ensures)
+add-k c = omega (arith, position c.before, c.first-position.ensures)
 
-flow-number-requires : tie.Need-flow-number-requires invariant-loop decreases-loop
+flow-number-requires : tie.Need-flow_number-flow-requires invariant-loop decreases-loop
 flow-number-requires c κs =
-    let start = c.before.before.before.before in
     let ranges = in_range-e _ (this c.before).range in (
-      (start.requires.0.0, omega (arith, position c.before, c.first.ensures)),
-      rw c.first.ensures ranges,
+      (c.requires.0.0, omega (arith, position c.before, c.first-position.ensures)),
+      rw c.first-position.ensures ranges,
     )
 
-key-of-requires : tie.Need-key-of-requires invariant-loop decreases-loop
+key-of-requires : tie.Need-key_of-key-requires invariant-loop decreases-loop
 key-of-requires c κs =
-    let start = c.before.before.before.before.before in
-    (start.requires.0.0, omega (arith, position c.before.before, c.before.first.ensures))
+    (c.requires.0.0, omega (arith, position c.before.before, c.first-position.ensures))
 
-element-copy-out-met : tie.Need-element-copy-out-met invariant-loop decreases-loop
-element-copy-out-met c = omega (arith, c.before.flow-number.ensures.1)
+element-copy-out-met : tie.Need-bounds-marks-flow invariant-loop decreases-loop
+element-copy-out-met c = omega (arith, c.flow_number-flow.ensures.1)
 
-breaks-flow-requires : tie.Need-breaks-flow-requires invariant-loop decreases-loop
+breaks-flow-requires : tie.Need-breaks_flow-broken-requires invariant-loop decreases-loop
 breaks-flow-requires c κs = search rules
 
-with-if-requires : tie.Need-with-if-requires invariant-loop decreases-loop
+with-if-requires : tie.Need-with_if-heads-requires invariant-loop decreases-loop
 with-if-requires c κs =
-    let at = c.before.before.before.before in
-    omega (arith, position at.before, at.first.ensures)
+    omega (arith, position c.before.before.before.before.before.before, c.first-position.ensures)
 
-element-write-marks : tie.Need-element-write-marks invariant-loop decreases-loop
-element-write-marks c = omega (arith, c.before.before.before.before.flow-number.ensures.1)
+element-write-marks : tie.Need-bounds-marks-flow-in-loop-left invariant-loop decreases-loop
+element-write-marks c = omega (arith, c.flow_number-flow.ensures.1)
 
-rest-requires : tie.Need-rest-requires invariant-loop decreases-loop
-rest-requires c κs = let keyed = c.before.before.before in some keyed.before.before.before
+rest-requires : tie.Need-rest-left-requires invariant-loop decreases-loop
+rest-requires c κs = some c.before.before.before.before.before.before.before
 
-loop-less : tie.Need-loop-smaller invariant-loop decreases-loop
+loop-less : tie.Need-loop-left-smaller invariant-loop decreases-loop
 loop-less c =
-    let keyed = c.before.before.before.before in
-    let in-loop = keyed.before.before.before in
-    let l = in-loop.before.loop in
-    omega (arith, c.rest.ensures, rest-less l.left (some in-loop) l.invariant.visited.fits)
+    let l = c.loop-left in
+    omega (arith, c.rest-left.ensures, rest-less l.left (some c.before.before.before.before.before.before.before.before) l.invariant.visited.fits)
 
-loop-again : tie.Need-loop-preserved invariant-loop decreases-loop
+loop-again : tie.Need-loop-left-preserved invariant-loop decreases-loop
 loop-again c =
-    let broken = c.before.before in
-    let keyed = broken.before.before in
-    let number = keyed.before in
-    let at = number.before in
-    let in-loop = at.before in
-    let a = in-loop.before.before.before.args in
-    let l = in-loop.before.loop in
-    let flow : number.flow-number.result ≡ flow_number (entry_at a.bytes.now (a.first + first_of l.left)) =
-    number.flow-number.ensures.0
-    ∙ ap (λ j. flow_number (entry_at a.bytes.now (a.first + j))) at.first.ensures in
-    let first : keyed.key_of.result ≡ key (entry_at a.bytes.now (a.first + first_of l.left)).cell =
-    keyed.key_of.ensures ∙ ap (λ j. key (entry_at a.bytes.now (a.first + j)).cell) at.first.ensures in
-    rw (broken.breaks-flow.ensures, c.before.with-if.ensures, at.first.ensures, c.rest.ensures)
-    (flows-next _ _ _ _ _ _ _ _ _ _ l.invariant (some in-loop) (good in-loop) number.flow-number.result
-    keyed.key_of.result flow number.flow-number.ensures.1 first)
+    let a = c.args in
+    let l = c.loop-left in
+    let flow : c.flow_number-flow.result ≡ flow_number (entry_at a.bytes.now (a.first + first_of l.left)) =
+    c.flow_number-flow.ensures.0
+    ∙ ap (λ j. flow_number (entry_at a.bytes.now (a.first + j))) c.first-position.ensures in
+    let first : c.key_of-key.result ≡ key (entry_at a.bytes.now (a.first + first_of l.left)).cell =
+    c.key_of-key.ensures ∙ ap (λ j. key (entry_at a.bytes.now (a.first + j)).cell) c.first-position.ensures in
+    rw (c.breaks_flow-broken.ensures, c.with_if-heads.ensures, c.first-position.ensures, c.rest-left.ensures)
+    (flows-next _ _ _ _ _ _ _ _ _ _ l.invariant (some c.before.before.before.before.before.before.before.before) (good c.before.before.before.before.before.before.before.before) c.flow_number-flow.result
+    c.key_of-key.result flow c.flow_number-flow.ensures.1 first)
 
 returns : tie.Need-returns invariant-loop decreases-loop
 returns c =
-    let l = c.before.loop in (
-      flows-end _ _ _ _ _ _ _ _ _ _ l.invariant c.loop-test.false,
+    let l = c.loop-left in (
+      flows-end _ _ _ _ _ _ _ _ _ _ l.invariant c.loop-left-test.false,
       (
-        flows-heads _ _ _ _ _ _ _ _ _ _ l.invariant c.loop-test.false,
+        flows-heads _ _ _ _ _ _ _ _ _ _ l.invariant c.loop-left-test.false,
         marked-below l.invariant.marked,
       ),
     )
