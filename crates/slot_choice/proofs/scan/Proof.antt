@@ -142,17 +142,21 @@ here-2 c =
     subst (CellAt c.args.table.now c.args.input) (sym c.first-position-in-loop-left-2.ensures)
     (walked-cell _ _ c.requires.0.known.readable c.requires.1.0 c.loop-left-2.invariant (some-2 c.before))
 
-first-requires-3 : tie.Need-first-position-requires-in-loop-left-2 invariant-loop decreases-loop invariant-loop2 decreases-loop2
+first-requires-3 : tie.Need-first-position-requires-in-loop-left-2
+    invariant-loop decreases-loop invariant-loop2 decreases-loop2
 first-requires-3 c κs = search rules
 
-rest-requires-2 : tie.Need-rest-left-requires-in-loop-left-2 invariant-loop decreases-loop invariant-loop2 decreases-loop2
+rest-requires-2 : tie.Need-rest-left-requires-in-loop-left-2
+    invariant-loop decreases-loop invariant-loop2 decreases-loop2
 rest-requires-2 c κs = some-2 c.before
 
-is-urgent-requires-2 : tie.Need-is_urgent-member-requires-in-loop-left-2 invariant-loop decreases-loop invariant-loop2 decreases-loop2
+is-urgent-requires-2 : tie.Need-is_urgent-member-requires-in-loop-left-2
+    invariant-loop decreases-loop invariant-loop2 decreases-loop2
 is-urgent-requires-2 c κs =
     (c.requires.0, here-2 c.before)
 
-with-if-requires-2 : tie.Need-with_if-urgent-requires-in-loop-left-2 invariant-loop decreases-loop invariant-loop2 decreases-loop2
+with-if-requires-2 : tie.Need-with_if-urgent-requires-in-loop-left-2
+    invariant-loop decreases-loop invariant-loop2 decreases-loop2
 with-if-requires-2 c κs = (here-2 c.before.before).small
 
 loop2-less : tie.Need-loop-left-2-smaller invariant-loop decreases-loop invariant-loop2 decreases-loop2
@@ -162,14 +166,16 @@ loop2-less c =
 loop2-again : tie.Need-loop-left-2-preserved invariant-loop decreases-loop invariant-loop2 decreases-loop2
 loop2-again c =
     let table = c.args.table.now in
-    rw (c.with_if-urgent-in-loop-left-2.ensures, c.first-position-in-loop-left-2.ensures, c.rest-left-in-loop-left-2.ensures)
-    (walked_next _ _ c.requires.0.known.readable c.requires.1.0 c.loop-left-2.invariant (some-2 c.before.before.before.before)
+    let left = some-2 c.before.before.before.before in
+    let position = c.first-position-in-loop-left-2.ensures in
+    rw (c.with_if-urgent-in-loop-left-2.ensures, position, c.rest-left-in-loop-left-2.ensures)
+    (walked_next _ _ c.requires.0.known.readable c.requires.1.0 c.loop-left-2.invariant left
     c.is_urgent-member-in-loop-left-2.result
     (c.is_urgent-member-in-loop-left-2.ensures
     ∙ ap (λ j. is_urgent (ports_in table) (crosspoints (waiting_in table))
     (scheduled_at table c.args.input c.first-scheduled.result) (cell_at table c.args.input j))
-    c.first-position-in-loop-left-2.ensures
-    ∙ walked-known _ _ c.requires.0.known.readable c.requires.1.0 c.loop-left-2.invariant (some-2 c.before.before.before.before) _
+    position
+    ∙ walked-known _ _ c.requires.0.known.readable c.requires.1.0 c.loop-left-2.invariant left _
     (scheduled c.before.before.before.before.before.before)))
 
 ------------------------------------------------------------------------

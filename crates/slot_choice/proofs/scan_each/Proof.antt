@@ -62,7 +62,8 @@ loop-again : tie.Need-loop-input-preserved invariant-loop decreases-loop
 loop-again c =
     let l = c.loop-input in
     let found = c.scan-found in
-    (omega arith, scanned-more _ l.input _ _ (below-ports c.before.before.before.before.before.before) found.ensures l.invariant.1)
+    let inside = below-ports c.before.before.before.before.before.before in
+    (omega arith, scanned-more _ l.input _ _ inside found.ensures l.invariant.1)
 
 returns : tie.Need-returns invariant-loop decreases-loop
 returns c =
