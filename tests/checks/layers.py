@@ -12,7 +12,7 @@ def layers():
             found.append((line[2:], []))
         elif line:
             crate, named = line.split(":")
-            found[-1][1].append((crate, named.strip()))
+            found[-1][1].append((crate.split()[0], named.strip()))
     return found
 
 

@@ -1,5 +1,6 @@
-// What bench/ times: proved functions under names that C can call.
+// What bench/ times: proved functions, to which `bench_reader_c` gives names that C can call.
 #![tactic(auto)]
+
 ghost use Rattle.std.specs.Prelude.{◌≡◌};
 ghost use Rattle.trace.specs.Reader.{read};
 ghost use Rattle.bench_reader.specs.Slots.{slots_or};
@@ -7,8 +8,7 @@ ghost use Rattle.bench_reader.specs.Slots.{slots_or};
 use trace_reader::Verdict;
 
 // The number of slots of a text that the grammar accepts, 4,294,967,296 for any other.
-#[unsafe(no_mangle)]
-pub extern "C" fn crossbar_trace_slots(text: &[u8]) -> u64
+pub fn crossbar_trace_slots(text: &[u8]) -> u64
     ensures { result ≡ slots_or 4294967296 (read text.now) }
 {
     match trace_reader::verify(text) {

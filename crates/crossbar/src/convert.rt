@@ -12,8 +12,7 @@ use layout::{FAIR_BYTES, FAIR_NUMBER};
 
 // Writes an older table in the new layout into the first bytes of the buffer, no output fair and all else kept: 0.
 // Refuses with 2 what is not an older table, then with 10 a buffer that is too short; a refusal writes nothing.
-#[unsafe(no_mangle)]
-pub extern "C" fn convert(old: &[u8], table: &mut [u8]) -> u32
+pub fn convert(old: &[u8], table: &mut [u8]) -> u32
     ensures value { result ≡ result_of (convert_call decode old.now table.old) }
     ensures table_after { table.new ≡ buffer_after fair_number table.old
         (convert_call decode old.now table.old) }

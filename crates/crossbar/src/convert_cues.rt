@@ -9,8 +9,7 @@ use layout::{STORE_BYTES, run};
 
 // Writes the cues of an older store, with no output fair and all else kept, into the first bytes of the buffer: 0. Refuses
 // with 2 bytes that are no older store, then with 10 a buffer that is too short. A refusal writes nothing.
-#[unsafe(no_mangle)]
-pub extern "C" fn convert_cues(old: &[u8], store: &mut [u8]) -> u32
+pub fn convert_cues(old: &[u8], store: &mut [u8]) -> u32
     ensures value { result ≡ result_of (convert_cues_call old.now store.old) }
     ensures store_after { store.new ≡ store_buffer store.old
         (convert_cues_call old.now store.old) }

@@ -14,8 +14,7 @@ use layout::{CUES, STORE_BYTES};
 
 // Writes a cue store in which no cue is held into the first bytes of the buffer: 0. Refuses with 10 a buffer that is too
 // short, and then writes nothing.
-#[unsafe(no_mangle)]
-pub extern "C" fn cue_start(store: &mut [u8]) -> u32
+pub fn cue_start(store: &mut [u8]) -> u32
     ensures value { result ≡ result_of (store_call store.old) }
     ensures store_after { store.new ≡ store_buffer store.old (store_call store.old) }
 {
@@ -27,8 +26,7 @@ pub extern "C" fn cue_start(store: &mut [u8]) -> u32
 }
 
 // Whether the bytes are a cue store: 0, or 2. Nothing is written.
-#[unsafe(no_mangle)]
-pub extern "C" fn cue_check(store: &[u8]) -> u32
+pub fn cue_check(store: &[u8]) -> u32
     ensures { result ≡ store_check_call store.now }
 {
     if is_store(store) {
@@ -40,8 +38,7 @@ pub extern "C" fn cue_check(store: &[u8]) -> u32
 // Sets a cue: it holds the lent switch, under the lent name, and a cue that had this name is replaced: 0. Refuses with 2
 // a table or a store that is broken, then with 11 a name that is not 1 to 8 lower-case letters, then with 12 a new name
 // where four cues are held. A refusal writes nothing.
-#[unsafe(no_mangle)]
-pub extern "C" fn cue_set(table: &[u8], store: &mut [u8], name: &[u8]) -> u32
+pub fn cue_set(table: &[u8], store: &mut [u8], name: &[u8]) -> u32
     ensures value { result ≡ result_of (set_call table.now store.old name.now) }
     ensures store_after { store.new ≡ store_after store.old
         (set_call table.now store.old name.now) }
@@ -66,8 +63,7 @@ pub extern "C" fn cue_set(table: &[u8], store: &mut [u8], name: &[u8]) -> u32
 
 // Drops a cue, and its place is free: 0. Refuses with 2 a store that is broken, then with 11 a name that is not 1 to 8
 // lower-case letters, then with 13 one that is not held. A refusal writes nothing.
-#[unsafe(no_mangle)]
-pub extern "C" fn cue_drop(store: &mut [u8], name: &[u8]) -> u32
+pub fn cue_drop(store: &mut [u8], name: &[u8]) -> u32
     ensures value { result ≡ result_of (drop_call store.old name.now) }
     ensures store_after { store.new ≡ store_after store.old
         (drop_call store.old name.now) }
@@ -90,8 +86,7 @@ pub extern "C" fn cue_drop(store: &mut [u8], name: &[u8]) -> u32
 // Returns to a cue: the lent table becomes that of the switch it holds, clock included, and the cue stays: 0. Refuses
 // with 2 a table or a store that is broken, then with 11 a name that is not 1 to 8 lower-case letters, then with 13 one
 // that is not held. A refusal writes nothing.
-#[unsafe(no_mangle)]
-pub extern "C" fn cue_return(table: &mut [u8], store: &[u8], name: &[u8]) -> u32
+pub fn cue_return(table: &mut [u8], store: &[u8], name: &[u8]) -> u32
     ensures value { result ≡ result_of (return_call table.old store.now name.now) }
     ensures table_after { table.new ≡ table_returned table.old
         (return_call table.old store.now name.now) }

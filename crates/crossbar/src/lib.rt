@@ -2,6 +2,7 @@
 // switch are here, those of its cues in `cues`, and those for older tables and cue stores in `convert` and
 // `convert_cues`.
 #![tactic(auto)]
+
 pub mod convert;
 pub mod convert_cues;
 pub mod cues;
@@ -19,8 +20,7 @@ use layout::{FAIR_NUMBER, TALLY_BYTES};
 // Writes the table of a fresh switch into the first bytes of the buffer: 0. Output o is fair if bit o of `fair` is 1.
 // Refuses with 1 a number of ports that is not 1 to 16, then with 4 a mark at an output that is not below it, then with
 // 10 a buffer that is too short; a refusal writes nothing.
-#[unsafe(no_mangle)]
-pub extern "C" fn start(ports: u32, first: u32, fair: u32, table: &mut [u8]) -> u32
+pub fn start(ports: u32, first: u32, fair: u32, table: &mut [u8]) -> u32
     ensures value { result ≡ result_of (start_call ports first fair table.old) }
     ensures table_after { table.new ≡ buffer_after fair_number table.old
         (start_call ports first fair table.old) }
@@ -29,8 +29,7 @@ pub extern "C" fn start(ports: u32, first: u32, fair: u32, table: &mut [u8]) -> 
 }
 
 // Whether the bytes are a table: 0, or 2. Nothing is written.
-#[unsafe(no_mangle)]
-pub extern "C" fn check(table: &[u8]) -> u32
+pub fn check(table: &[u8]) -> u32
     ensures { result ≡ check_call crossbar table.now }
 {
     if is_fair_table(table) {
@@ -46,13 +45,7 @@ pub extern "C" fn check(table: &[u8]) -> u32
 // 6, at a fair output 14 and 15, then 7 and 8. A refused slot has no departures and proposal counts 0, and nothing of
 // that is written: the answer's buffer keeps its bytes, and so does the table. The tally counts a refused slot; a tally
 // of another length is kept too.
-#[unsafe(no_mangle)]
-pub extern "C" fn slot(
-    table: &mut [u8],
-    arrivals: &[u8],
-    answer: &mut [u8],
-    tally: &mut [u8],
-) -> u64
+pub fn slot(table: &mut [u8], arrivals: &[u8], answer: &mut [u8], tally: &mut [u8]) -> u64
     ensures { CallLeaves crossbar
         (slot_call crossbar table.old arrivals.now answer.old tally.old)
         table.old arrivals.now answer.old tally.old

@@ -1,5 +1,6 @@
 // What a host calls of the output-queued switch: numbers and byte slices, no call with a condition on what it is lent.
 #![tactic(auto)]
+
 mod check;
 pub mod convert;
 mod slot;
@@ -19,8 +20,7 @@ use slot::{counted_by, take_slot};
 // Writes the table of a fresh switch into the first bytes of the buffer: 0. Output o is fair if bit o of `fair` is 1.
 // Refuses with 1 a number of ports that is not 1 to 16, then with 4 a mark at an output that is not below it, then with
 // 10 a buffer that is too short; a refusal writes nothing.
-#[unsafe(no_mangle)]
-pub extern "C" fn oq_start(ports: u32, first: u32, fair: u32, table: &mut [u8]) -> u32
+pub fn oq_start(ports: u32, first: u32, fair: u32, table: &mut [u8]) -> u32
     ensures value { result ≡ result_of (start_call ports first fair table.old) }
     ensures table_after { table.new ≡ buffer_after fair_number_oq table.old
         (start_call ports first fair table.old) }
@@ -29,8 +29,7 @@ pub extern "C" fn oq_start(ports: u32, first: u32, fair: u32, table: &mut [u8]) 
 }
 
 // Whether the bytes are a table: 0, or 2. Nothing is written.
-#[unsafe(no_mangle)]
-pub extern "C" fn oq_check(table: &[u8]) -> u32
+pub fn oq_check(table: &[u8]) -> u32
     ensures { result ≡ check_call oq table.now }
 {
     if is_fair_oq_table(table) {
@@ -46,13 +45,7 @@ pub extern "C" fn oq_check(table: &[u8]) -> u32
 // by record 4, 5, 6, 14, 15, 7, 8. A refused slot has no departures, and nothing of that is written: the answer's
 // buffer keeps its bytes, and so does the table, which remembers nothing of it. The tally counts a refused slot; a
 // tally of another length is kept too.
-#[unsafe(no_mangle)]
-pub extern "C" fn oq_slot(
-    table: &mut [u8],
-    arrivals: &[u8],
-    answer: &mut [u8],
-    tally: &mut [u8],
-) -> u64
+pub fn oq_slot(table: &mut [u8], arrivals: &[u8], answer: &mut [u8], tally: &mut [u8]) -> u64
     ensures { CallLeaves oq
         (slot_call oq table.old arrivals.now answer.old tally.old)
         table.old arrivals.now answer.old tally.old

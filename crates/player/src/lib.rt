@@ -1,13 +1,25 @@
 // The player as two programs, one for each switch: the arguments in, an exit status out. They answer --help and
 // --version, or play a trace from standard input to standard output, a window of text at a time.
 #![tactic(auto)]
+
 ghost use Rattle.std.specs.Prelude.{◌≡◌, ◌-◌, ◌≤◌, length};
 ghost use Rattle.player.specs.Program.{request_of, Answered, Told};
 ghost use Rattle.player.specs.CodeWindow.{moved, Filled};
 ghost use Rattle.player.specs.Code.{Finished, status_of};
 
-use libc::{STDERR_FILENO, STDIN_FILENO, STDOUT_FILENO};
 use player_turns::{Engine, Stage, take_turns};
+use std::io::{Read, Stderr, Stdin, Stdout};
+
+// The bytes that the window holds, and those that are gathered before they are written.
+const BUFFER_BYTES: usize = 65536;
+
+// Where the program reads, writes and complains. Each takes no bytes.
+#[derive(Clone, Copy)]
+struct Streams {
+    input: Stdin,
+    output: Stdout,
+    error: Stderr,
+}
 
 // What the arguments ask for.
 #[derive(Clone, Copy)]
@@ -26,33 +38,47 @@ struct Filling {
     failed: bool,
 }
 
-// The program on the crossbar: how many arguments there are, and the first of them, or no bytes. The result is the exit
-// status: 0, the trace was played to its end, or the help or the version was written; 1, it was refused; 2, reading or
-// writing failed, or the arguments are wrong.
-#[unsafe(no_mangle)]
-pub extern "C" fn crossbar_player(words: usize, word: &[u8]) -> u32
+// The program on the crossbar: the standard streams, how many arguments there are, and the first of them, or no bytes. The
+// result is the exit status: 0, the trace was played to its end, or the help or the version was written; 1, it was refused;
+// 2, reading or writing failed, or the arguments are wrong.
+pub fn crossbar_player(
+    input: Stdin,
+    output: Stdout,
+    error: Stderr,
+    words: usize,
+    word: &[u8],
+) -> u32
     ensures { Answered (request_of words word.now) result }
 {
-    answer(Engine::Crossbar, words, word)
+    let streams = Streams {
+        input,
+        output,
+        error,
+    };
+    answer(streams, Engine::Crossbar, words, word)
 }
 
 // The same on the output-queued switch.
-#[unsafe(no_mangle)]
-pub extern "C" fn oq_player(words: usize, word: &[u8]) -> u32
+pub fn oq_player(input: Stdin, output: Stdout, error: Stderr, words: usize, word: &[u8]) -> u32
     ensures { Answered (request_of words word.now) result }
 {
-    answer(Engine::Oq, words, word)
+    let streams = Streams {
+        input,
+        output,
+        error,
+    };
+    answer(streams, Engine::Oq, words, word)
 }
 
 // By what is asked for.
-fn answer(engine: Engine, words: usize, word: &[u8]) -> u32
+fn answer(streams: Streams, engine: Engine, words: usize, word: &[u8]) -> u32
     ensures { Answered (request_of words word.now) result }
 {
     match request_of(words, word) {
-        Request::Play => play(engine),
-        Request::Help => help(engine),
-        Request::Version => version(engine),
-        Request::Unknown => unknown(engine),
+        Request::Play => play(streams, engine),
+        Request::Help => help(streams, engine),
+        Request::Version => version(streams, engine),
+        Request::Unknown => unknown(streams, engine),
     }
 }
 
@@ -66,20 +92,21 @@ fn request_of(words: usize, word: &[u8]) -> Request
     if words > 1 {
         return Request::Unknown;
     }
-    if check::same(word, b"--help") {
+    if word == b"--help".as_slice() {
         return Request::Help;
     }
-    if check::same(word, b"--version") {
+    if word == b"--version".as_slice() {
         return Request::Version;
     }
     Request::Unknown
 }
 
-fn help(engine: Engine) -> u32
+fn help(streams: Streams, engine: Engine) -> u32
     ensures { Told result }
 {
     match engine {
         Engine::Crossbar => tell(
+            streams,
             engine,
             b"usage: crossbar-player < trace\n\
                \x20      crossbar-player --help | --version\n\
@@ -89,6 +116,7 @@ fn help(engine: Engine) -> u32
                The manual is crossbar-player(1).\n",
         ),
         Engine::Oq => tell(
+            streams,
             engine,
             b"usage: oq-player < trace\n\
                \x20      oq-player --help | --version\n\
@@ -100,77 +128,85 @@ fn help(engine: Engine) -> u32
     }
 }
 
-fn version(engine: Engine) -> u32
+fn version(streams: Streams, engine: Engine) -> u32
     ensures { Told result }
 {
     match engine {
-        Engine::Crossbar => tell(engine, b"crossbar-player 3.0.0\ntable layout 2\n"),
-        Engine::Oq => tell(engine, b"oq-player 3.0.0\noutput-queued table layout 102\n"),
+        Engine::Crossbar => tell(streams, engine, b"crossbar-player 3.0.0\ntable layout 2\n"),
+        Engine::Oq => tell(
+            streams,
+            engine,
+            b"oq-player 3.0.0\noutput-queued table layout 102\n",
+        ),
     }
 }
 
-fn unknown(engine: Engine) -> u32
+fn unknown(streams: Streams, engine: Engine) -> u32
     ensures { result ≡ 2 }
 {
-    fail(engine, b"unknown argument, or more than one: try --help\n")
+    fail(
+        streams,
+        engine,
+        b"unknown argument, or more than one: try --help\n",
+    )
 }
 
 // Writes a text on standard output.
-fn tell(engine: Engine, text: &[u8]) -> u32
+fn tell(streams: Streams, engine: Engine, text: &[u8]) -> u32
     ensures { Told result }
 {
-    if io::write_all(STDOUT_FILENO, text) {
+    if streams.output.write_all(text).is_ok() {
         return 0;
     }
-    cannot_write(engine)
+    cannot_write(streams, engine)
 }
 
-fn cannot_read(engine: Engine) -> u32
+fn cannot_read(streams: Streams, engine: Engine) -> u32
     ensures { result ≡ 2 }
 {
-    fail(engine, b"cannot read standard input\n")
+    fail(streams, engine, b"cannot read standard input\n")
 }
 
-fn cannot_write(engine: Engine) -> u32
+fn cannot_write(streams: Streams, engine: Engine) -> u32
     ensures { result ≡ 2 }
 {
-    fail(engine, b"cannot write standard output\n")
+    fail(streams, engine, b"cannot write standard output\n")
 }
 
-fn too_long(engine: Engine) -> u32
+fn too_long(streams: Streams, engine: Engine) -> u32
     ensures { result ≡ 2 }
 {
-    fail(engine, b"the trace is too long\n")
+    fail(streams, engine, b"the trace is too long\n")
 }
 
 // Writes a complaint on standard error, behind the program's name.
-fn fail(engine: Engine, complaint: &[u8]) -> u32
+fn fail(streams: Streams, engine: Engine, complaint: &[u8]) -> u32
     ensures { result ≡ 2 }
 {
-    name_program(engine);
-    io::write_all(STDERR_FILENO, complaint);
+    name_program(streams.error, engine);
+    let _ = streams.error.write_all(complaint);
     2
 }
 
-fn name_program(engine: Engine) {
+fn name_program(error: Stderr, engine: Engine) {
     match engine {
         Engine::Crossbar => {
-            io::write_all(STDERR_FILENO, b"crossbar-player: ");
+            let _ = error.write_all(b"crossbar-player: ");
         }
         Engine::Oq => {
-            io::write_all(STDERR_FILENO, b"oq-player: ");
+            let _ = error.write_all(b"oq-player: ");
         }
     }
 }
 
 // Plays standard input to standard output, by rounds: text is read behind that which is left, turns are taken on it,
 // and what they wrote is written out. A round that writes nothing ends it.
-fn play(engine: Engine) -> u32
+fn play(streams: Streams, engine: Engine) -> u32
     ensures { result ≤ 2 }
 {
     let mut table = [0u8; layout::TABLE_BYTES];
-    let mut window = io::large_buffer();
-    let mut out = io::large_buffer();
+    let mut window = [0u8; BUFFER_BYTES];
+    let mut out = [0u8; BUFFER_BYTES];
     let mut stage = Stage::Opening;
     let mut line = 1;
     let mut filled = 0;
@@ -179,9 +215,9 @@ fn play(engine: Engine) -> u32
     let mut rounds: u64 = 18446744073709551615;
     while rounds > 0 {
         rounds -= 1;
-        let filling = fill(&mut window, filled, last);
+        let filling = fill(streams.input, &mut window, filled, last);
         if filling.failed {
-            return cannot_read(engine);
+            return cannot_read(streams, engine);
         }
         filled = filling.filled;
         last = filling.last;
@@ -199,13 +235,13 @@ fn play(engine: Engine) -> u32
         if turn.written == 0 {
             return status_of(stage);
         }
-        if !io::write_all(STDOUT_FILENO, &out[..turn.written]) {
-            return cannot_write(engine);
+        if streams.output.write_all(&out[..turn.written]).is_err() {
+            return cannot_write(streams, engine);
         }
         close_up(&mut window, turn.used, filled);
         filled -= turn.used;
     }
-    too_long(engine)
+    too_long(streams, engine)
 }
 
 // The status of a trace that was played, by where the player stands at the end.
@@ -220,10 +256,11 @@ fn status_of(stage: Stage) -> u32
 }
 
 // Reads behind the text that is there until the window is full, the input ends or a read fails; after the end nothing.
-fn fill(window: &mut [u8], filled: usize, last: bool) -> Filling
+fn fill(input: Stdin, window: &mut [u8], filled: usize, last: bool) -> Filling
     requires { filled ≤ length window.old }
     ensures { Filled window.old filled window.new result.filled result.last result.failed }
 {
+    let mut input = input;
     let mut filled = filled;
     if last {
         return Filling {
@@ -233,23 +270,23 @@ fn fill(window: &mut [u8], filled: usize, last: bool) -> Filling
         };
     }
     while filled < window.len() {
-        let got = libc::read(STDIN_FILENO, &mut window[filled..]);
-        if got < 0 {
-            return Filling {
-                filled,
-                last: false,
-                failed: true,
-            };
+        match input.read(&mut window[filled..]) {
+            Err(_) => {
+                return Filling {
+                    filled,
+                    last: false,
+                    failed: true,
+                };
+            }
+            Ok(0) => {
+                return Filling {
+                    filled,
+                    last: true,
+                    failed: false,
+                };
+            }
+            Ok(count) => filled += count,
         }
-        let count = io::count(got, &window[filled..]);
-        if count == 0 {
-            return Filling {
-                filled,
-                last: true,
-                failed: false,
-            };
-        }
-        filled += count;
     }
     Filling {
         filled,

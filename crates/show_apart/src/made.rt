@@ -2,20 +2,29 @@
 ghost use Rattle.std.specs.Prelude.{◌<◌};
 
 use crate::stage::show_fair;
+use std::io::Stdout;
 
 // Rows for 200 calls of eight arrivals. Those that are not filled name a call that never comes.
 type Rows = [[u32; 6]; 1600];
 
 const NEVER: u32 = 4294967295;
 
-pub(crate) fn show_all() {
+pub(crate) fn show_all(out: Stdout) {
     let mut rows = [[NEVER; 6]; 1600];
     crowd_rows(&mut rows);
-    show_made(b"64th cell: ", 2, 0, 64, &rows);
-    show_made(b"65th cell: ", 2, 0, 133, &rows);
+    show_made(out, b"64th cell: ", 2, 0, 64, &rows);
+    show_made(out, b"65th cell: ", 2, 0, 133, &rows);
     equal_rows(&mut rows);
-    show_made(b"40 slots of equal ranks at 16 ports: ", 16, 0, 200, &rows);
     show_made(
+        out,
+        b"40 slots of equal ranks at 16 ports: ",
+        16,
+        0,
+        200,
+        &rows,
+    );
+    show_made(
+        out,
         b"40 slots of equal weights at 16 ports: ",
         16,
         65535,
@@ -23,8 +32,9 @@ pub(crate) fn show_all() {
         &rows,
     );
     load_rows(&mut rows);
-    show_made(b"200 slots at 16 ports: ", 16, 0, 400, &rows);
+    show_made(out, b"200 slots at 16 ports: ", 16, 0, 400, &rows);
     show_made(
+        out,
         b"200 slots at 16 ports, 8 outputs fair: ",
         16,
         21845,
@@ -121,6 +131,6 @@ pub(crate) fn draw(seed: &mut u32) -> u32 {
     next
 }
 
-fn show_made(name: &[u8], ports: u32, fair: u32, calls: u32, rows: &Rows) {
-    show_fair(name, ports, 0, fair, calls, rows, false);
+fn show_made(out: Stdout, name: &[u8], ports: u32, fair: u32, calls: u32, rows: &Rows) {
+    show_fair(out, name, ports, 0, fair, calls, rows, false);
 }

@@ -3,6 +3,7 @@
 // is turned back has its number and the record's place (0 where no record is at fault), a call of cues its number
 // alone, and the calls after it go on as if it had not been.
 #![tactic(auto)]
+
 mod made;
 mod rehearsal;
 mod say;
@@ -14,46 +15,61 @@ mod wrong;
 use layout::{ANSWER_BYTES, ARRIVAL_BYTES, FAIR_BYTES, TALLY_BYTES};
 use say::{say, tell};
 use stage::{show, show_fair};
+use std::io::Stdout;
 use trace_reader::Verdict;
 
-fn main() {
-    bad_line();
-    starts();
-    lent();
-    clock_end();
-    records();
-    ranks();
-    matchings();
-    weights();
-    made::show_all();
-    rehearsal::show_all();
+fn main(rt: HostRuntime) {
+    let out = rt.stdout();
+    bad_line(out);
+    starts(out);
+    lent(out);
+    clock_end(out);
+    records(out);
+    ranks(out);
+    matchings(out);
+    weights(out);
+    made::show_all(out);
+    rehearsal::show_all(out);
 }
 
 // `rank=05` gives 9, by the reader.
-fn bad_line() {
+fn bad_line(out: Stdout) {
     match trace_reader::verify(b"ports=2\nfirst=0\nslot=0\nin=0\nout=1\nflow=0\nrank=05\n") {
-        Verdict::Accepted(_) => say(b"rank=05: DIFFERS\n"),
+        Verdict::Accepted(_) => say(out, b"rank=05: DIFFERS\n"),
         Verdict::Refused(refusal, line) => {
-            tell(b"rank=05: ", refusal.number() as u64);
-            tell(b" at line ", line as u64);
-            say(b"\n");
+            tell(out, b"rank=05: ", refusal.number() as u64);
+            tell(out, b" at line ", line as u64);
+            say(out, b"\n");
         }
     }
 }
 
 // 1 comes before 4, and 4 before 10.
-fn starts() {
-    wrong::show_start(b"start with 0 ports: ", 0, 1, FAIR_BYTES);
-    wrong::show_start(b"start with 17 ports: ", 17, 0, FAIR_BYTES - 1);
-    wrong::show_start(b"start with output 2 of 2 fair: ", 2, 4, FAIR_BYTES - 1);
-    wrong::show_start(b"start with a mark at 31: ", 16, 2147483648, FAIR_BYTES);
-    wrong::show_start(b"start in 24679 bytes: ", 2, 3, FAIR_BYTES - 1);
+fn starts(out: Stdout) {
+    wrong::show_start(out, b"start with 0 ports: ", 0, 1, FAIR_BYTES);
+    wrong::show_start(out, b"start with 17 ports: ", 17, 0, FAIR_BYTES - 1);
+    wrong::show_start(
+        out,
+        b"start with output 2 of 2 fair: ",
+        2,
+        4,
+        FAIR_BYTES - 1,
+    );
+    wrong::show_start(
+        out,
+        b"start with a mark at 31: ",
+        16,
+        2147483648,
+        FAIR_BYTES,
+    );
+    wrong::show_start(out, b"start in 24679 bytes: ", 2, 3, FAIR_BYTES - 1);
 }
 
 // 2 comes before 10.
-fn lent() {
-    wrong::show_slot(b"table of 0 ports: ", 0, 0, ANSWER_BYTES, TALLY_BYTES);
+fn lent(out: Stdout) {
+    wrong::show_slot(out, b"table of 0 ports: ", 0, 0, ANSWER_BYTES, TALLY_BYTES);
     wrong::show_slot(
+        out,
         b"arrivals of 19 bytes: ",
         2,
         ARRIVAL_BYTES - 1,
@@ -61,6 +77,7 @@ fn lent() {
         TALLY_BYTES,
     );
     wrong::show_slot(
+        out,
         b"tally of 31 bytes: ",
         2,
         0,
@@ -68,6 +85,7 @@ fn lent() {
         TALLY_BYTES - 1,
     );
     wrong::show_slot(
+        out,
         b"answer of 583 bytes: ",
         2,
         0,
@@ -77,53 +95,87 @@ fn lent() {
 }
 
 // 3, in the first slot and after the last.
-fn clock_end() {
+fn clock_end(out: Stdout) {
     let rows = [[0, 0, 1, 0, 5, 1], [1, 1, 1, 0, 5, 2]];
-    show(b"first slot 4294967295: ", 2, 4294967295, 2, &rows, true);
-    show(b"first slot 4294967294: ", 2, 4294967294, 3, &rows, true);
+    show(
+        out,
+        b"first slot 4294967295: ",
+        2,
+        4294967295,
+        2,
+        &rows,
+        true,
+    );
+    show(
+        out,
+        b"first slot 4294967294: ",
+        2,
+        4294967294,
+        3,
+        &rows,
+        true,
+    );
 }
 
 // 4, 5 and 6. The first record at fault is named.
-fn records() {
+fn records(out: Stdout) {
     turned_back(
+        out,
         b"input 2 of 2 ports: ",
         [1, 0, 1, 0, 1, 3],
         [1, 2, 0, 0, 1, 4],
     );
     turned_back(
+        out,
         b"output 2 of 2 ports: ",
         [1, 0, 2, 8, 1, 3],
         [1, 1, 0, 0, 1, 4],
     );
-    turned_back(b"flow 8: ", [1, 0, 1, 8, 1, 3], [1, 2, 1, 0, 1, 4]);
-    turned_back(b"input 1 twice: ", [1, 1, 1, 0, 1, 3], [1, 1, 1, 1, 1, 4]);
+    turned_back(out, b"flow 8: ", [1, 0, 1, 8, 1, 3], [1, 2, 1, 0, 1, 4]);
+    turned_back(
+        out,
+        b"input 1 twice: ",
+        [1, 1, 1, 0, 1, 3],
+        [1, 1, 1, 1, 1, 4],
+    );
 }
 
 // 7: rank 5 of input 0 waits.
-fn ranks() {
-    turned_back(b"rank 4 after 5: ", [1, 0, 0, 0, 4, 3], [1, 1, 1, 0, 1, 4]);
-    turned_back(b"rank 5 after 5: ", [1, 0, 0, 0, 5, 3], [1, 1, 1, 0, 1, 4]);
+fn ranks(out: Stdout) {
+    turned_back(
+        out,
+        b"rank 4 after 5: ",
+        [1, 0, 0, 0, 4, 3],
+        [1, 1, 1, 0, 1, 4],
+    );
+    turned_back(
+        out,
+        b"rank 5 after 5: ",
+        [1, 0, 0, 0, 5, 3],
+        [1, 1, 1, 0, 1, 4],
+    );
 }
 
 // Rank 5 of input 0 and rank 3 of input 1 come for output 0, then the two given records in call 1, then a cell for
 // output 1.
-fn turned_back(name: &[u8], first: [u32; 6], second: [u32; 6]) {
+fn turned_back(out: Stdout, name: &[u8], first: [u32; 6], second: [u32; 6]) {
     let before = [0, 0, 0, 0, 5, 1];
     let with = [0, 1, 0, 0, 3, 2];
     let after = [2, 0, 1, 0, 6, 5];
     let rows = [before, with, first, second, after];
-    show(name, 2, 0, 5, &rows, true);
+    show(out, name, 2, 0, 5, &rows, true);
 }
 
 // Matchings, and the order of equal ranks.
-fn matchings() {
-    show(b"several proposals: ", 3, 0, 6, &SEVERAL, true);
-    show(b"two urgent cells of a pair: ", 4, 0, 10, &PAIR, true);
-    show(b"scheduled over urgent: ", 3, 0, 7, &SCHEDULED, true);
-    show(b"equal ranks: ", 3, 0, 6, &EQUAL, true);
-    show(b"three inputs in turn: ", 3, 0, 27, &TURNS, true);
-    show(b"input 15 in slot 15: ", 16, 15, 5, &LAST_INPUT, true);
+fn matchings(out: Stdout) {
+    show(out, b"several proposals: ", 3, 0, 6, &SEVERAL, true);
+    show(out, b"two urgent cells of a pair: ", 4, 0, 10, &PAIR, true);
+    show(out, b"scheduled over urgent: ", 3, 0, 7, &SCHEDULED, true);
+    show(out, b"equal ranks: ", 3, 0, 6, &EQUAL, true);
+    show(out, b"three inputs in turn: ", 3, 0, 27, &TURNS, true);
+    show(out, b"input 15 in slot 15: ", 16, 15, 5, &LAST_INPUT, true);
     show(
+        out,
         b"equal ranks in the last slots: ",
         3,
         4294967292,
@@ -134,9 +186,10 @@ fn matchings() {
 }
 
 // Weights at fair outputs, ranks at the others; 14, and in which order it comes.
-fn weights() {
-    show_fair(b"ranks made of weights: ", 2, 0, 1, 7, &WEIGHTS, true);
+fn weights(out: Stdout) {
+    show_fair(out, b"ranks made of weights: ", 2, 0, 1, 7, &WEIGHTS, true);
     show_fair(
+        out,
         b"output 1 fair, output 0 not: ",
         2,
         0,
@@ -145,7 +198,7 @@ fn weights() {
         &ONE_FAIR,
         true,
     );
-    show_fair(b"no weights: ", 2, 0, 1, 8, &NO_WEIGHTS, true);
+    show_fair(out, b"no weights: ", 2, 0, 1, 8, &NO_WEIGHTS, true);
 }
 
 // Input 0 goes on from its own last rank or from the one that left, whichever is larger; so does its flow 1.

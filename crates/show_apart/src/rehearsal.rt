@@ -12,6 +12,7 @@ use layout::word::read_u32;
 use layout::{
     CUES, FAIR_BYTES, NAME_BYTES, PLACE_BYTES, STORE_BYTES, STORE_HEADER_BYTES, TALLY_BYTES,
 };
+use std::io::Stdout;
 
 // The bytes of a cue store.
 type Store = [u8; STORE_BYTES];
@@ -19,9 +20,10 @@ type Store = [u8; STORE_BYTES];
 // The bytes of its names.
 const NAMES_BYTES: usize = CUES * NAME_BYTES;
 
-pub(crate) fn show_all() {
+pub(crate) fn show_all(out: Stdout) {
     // Three slots are played twice: the cells that leave are more than those that came.
     rehearse(
+        out,
         b"a rehearsal: ",
         3,
         0,
@@ -31,6 +33,7 @@ pub(crate) fn show_all() {
     );
     // e has no place before a is dropped, and b is as it was set the second time.
     rehearse(
+        out,
         b"four cues: ",
         3,
         0,
@@ -41,6 +44,7 @@ pub(crate) fn show_all() {
     );
     // Bytes next to a and z among them. A bad name is told from a fifth cue, and a name from its beginning.
     rehearse(
+        out,
         b"names of cues: ",
         3,
         0,
@@ -52,6 +56,7 @@ pub(crate) fn show_all() {
     );
     // The clock goes back too.
     rehearse(
+        out,
         b"a return after the clock's end: ",
         2,
         4294967294,
@@ -61,6 +66,7 @@ pub(crate) fn show_all() {
     );
     // A return winds back what was remembered too.
     rehearse(
+        out,
         b"a rehearsal of weights: ",
         3,
         0,
@@ -68,8 +74,8 @@ pub(crate) fn show_all() {
         b"slot 1,set a,slot 2,slot 3,slot 0,set b,return a,slot 2,slot 3,slot 0,return b,slot 3,return a,slot 3",
         &TWICE,
     );
-    show_made(b"a rehearsal of 200 calls at 16 ports: ", 0);
-    show_made(b"a rehearsal of 200 calls at 16 fair ports: ", 65535);
+    show_made(out, b"a rehearsal of 200 calls at 16 ports: ", 0);
+    show_made(out, b"a rehearsal of 200 calls at 16 fair ports: ", 65535);
 }
 
 // The cue holds ranks 2 and 9 of output 0, rank 9 at its crosspoint. In slot 2 that one blocks rank 4, which is urgent.
@@ -101,17 +107,26 @@ const LAST: [[u32; 6]; 2] = [[1, 0, 1, 0, 5, 1], [1, 1, 1, 0, 6, 2]];
 // A rehearsal on a fresh switch, told aloud. The calls are a text, with a comma between two: `set`, `drop` or `return`
 // with a name, or `slot` with a digit. A slot has the arrivals of the rows that begin with its digit, and none does
 // with 0.
-fn rehearse(name: &[u8], ports: u32, first: u32, fair: u32, calls: &[u8], rows: &[[u32; 6]]) {
+fn rehearse(
+    out: Stdout,
+    name: &[u8],
+    ports: u32,
+    first: u32,
+    fair: u32,
+    calls: &[u8],
+    rows: &[[u32; 6]],
+) {
     let mut table = [0u8; FAIR_BYTES];
     let mut store = [0u8; STORE_BYTES];
     let mut tally = [0u8; TALLY_BYTES];
     let mut shadow = shadow::fresh(ports, first, fair);
     let mut names = [[0u8; 8]; 4];
     let mut held = [shadow; 4];
-    say(name);
+    say(out, name);
     crossbar::start(ports, first, fair, &mut table);
     crossbar::cues::cue_start(&mut store);
     let same = play(
+        out,
         &mut table,
         &mut store,
         &mut tally,
@@ -121,15 +136,23 @@ fn rehearse(name: &[u8], ports: u32, first: u32, fair: u32, calls: &[u8], rows: 
         calls,
         rows,
     );
-    finish(same, &table, &store, &tally, &shadow, &names);
+    finish(out, same, &table, &store, &tally, &shadow, &names);
 }
 
 // The end of a line. The two agree if they do so in every call, in the clock and in which name is at which place.
-fn finish(same: bool, table: &Table, store: &Store, tally: &Tally, shadow: &Shadow, names: &Names) {
-    say_cells(tally);
+fn finish(
+    out: Stdout,
+    same: bool,
+    table: &Table,
+    store: &Store,
+    tally: &Tally,
+    shadow: &Shadow,
+    names: &Names,
+) {
+    say_cells(out, tally);
     let clocks = read_u32(table, 12) == shadow::clock(shadow);
     let cues = crossbar::cues::cue_check(store) == 0 && same_names(store, names);
-    say_verdict(same && clocks && cues, b"as the shadow says\n");
+    say_verdict(out, same && clocks && cues, b"as the shadow says\n");
 }
 
 // Whether the places of a store have the shadow's names.
@@ -147,6 +170,7 @@ fn same_names(store: &Store, names: &Names) -> bool {
 
 // The calls of a text. Whether the two agree in all.
 fn play(
+    out: Stdout,
     table: &mut Table,
     store: &mut Store,
     tally: &mut Tally,
@@ -161,6 +185,7 @@ fn play(
     while at < calls.len() {
         let end = comma(calls, at);
         same = take_call(
+            out,
             table,
             store,
             tally,
@@ -192,6 +217,7 @@ fn comma(text: &[u8], at: usize) -> usize
 
 // A call of a text to both, told. Whether they agree.
 fn take_call(
+    out: Stdout,
     table: &mut Table,
     store: &mut Store,
     tally: &mut Tally,
@@ -202,11 +228,11 @@ fn take_call(
     rows: &[[u32; 6]],
 ) -> bool {
     if begins(call, b"slot ") {
-        return slot(table, tally, shadow, digit(after(call, 5)), rows);
+        return slot(out, table, tally, shadow, digit(after(call, 5)), rows);
     }
     let mut same = true;
     let result = cue(table, store, shadow, names, held, call, &mut same);
-    say_call(call, result);
+    say_call(out, call, result);
     same
 }
 
@@ -243,6 +269,7 @@ fn digit(text: &[u8]) -> u32 {
 
 // A slot call to both, with the rows that begin with the number.
 fn slot(
+    out: Stdout,
     table: &mut Table,
     tally: &mut Tally,
     shadow: &mut Shadow,
@@ -251,7 +278,7 @@ fn slot(
 ) -> bool {
     let start = start_of(rows, number);
     let end = end_of(rows, start, number);
-    step(table, tally, shadow, &rows[start..end], true)
+    step(out, table, tally, shadow, &rows[start..end], true)
 }
 
 // A call of cues to both. The result is the proved switch's, as it is below.
@@ -318,7 +345,7 @@ fn compare(res: u32, right: u32, same: &mut bool) -> u32 {
 
 // A rehearsal of 200 calls at 16 ports that are made by rule. It tells the slots that are turned back, and at the end
 // how many returns were done.
-fn show_made(name: &[u8], fair: u32) {
+fn show_made(out: Stdout, name: &[u8], fair: u32) {
     let mut table = [0u8; FAIR_BYTES];
     let mut store = [0u8; STORE_BYTES];
     let mut tally = [0u8; TALLY_BYTES];
@@ -326,10 +353,11 @@ fn show_made(name: &[u8], fair: u32) {
     let mut names = [[0u8; 8]; 4];
     let mut held = [shadow; 4];
     let mut same = true;
-    say(name);
+    say(out, name);
     crossbar::start(16, 0, fair, &mut table);
     crossbar::cues::cue_start(&mut store);
     let returns = play_made(
+        out,
         &mut table,
         &mut store,
         &mut tally,
@@ -338,13 +366,14 @@ fn show_made(name: &[u8], fair: u32) {
         &mut held,
         &mut same,
     );
-    tell(b"returns ", returns as u64);
-    say(b", ");
-    finish(same, &table, &store, &tally, &shadow, &names);
+    tell(out, b"returns ", returns as u64);
+    say(out, b", ");
+    finish(out, same, &table, &store, &tally, &shadow, &names);
 }
 
 // The calls made by rule. How many returns were done.
 fn play_made(
+    out: Stdout,
     table: &mut Table,
     store: &mut Store,
     tally: &mut Tally,
@@ -358,7 +387,7 @@ fn play_made(
     let mut call = 0;
     while call < 200 {
         returns += made_call(
-            table, store, tally, shadow, names, held, call, &mut seed, same,
+            out, table, store, tally, shadow, names, held, call, &mut seed, same,
         );
         call += 1;
     }
@@ -368,6 +397,7 @@ fn play_made(
 // Of sixteen calls eight are slots of eight arrivals, four set a cue, one drops one and three return, by one of five
 // names: so that some have no free place, and some no such cue. 1 for a return that is done, else 0.
 fn made_call(
+    out: Stdout,
     table: &mut Table,
     store: &mut Store,
     tally: &mut Tally,
@@ -385,7 +415,7 @@ fn made_call(
     let kind = drawn % 16;
     let name = [b'a' + (drawn / 16 % 5) as u8];
     if kind < 8 {
-        if !step(table, tally, shadow, &load(seed, call), false) {
+        if !step(out, table, tally, shadow, &load(seed, call), false) {
             *same = false;
         }
         return 0;

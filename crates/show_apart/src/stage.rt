@@ -6,6 +6,7 @@ use crate::shadow;
 use crate::shadow::Shadow;
 use layout::word::read_u32;
 use layout::{ANSWER_BYTES, ARRIVAL_BYTES, DEPARTURES_BYTES, FAIR_BYTES, PORTS, TALLY_BYTES};
+use std::io::Stdout;
 
 // The bytes of a table, a tally and an answer, and of the arrivals of a show's call.
 pub(crate) type Table = [u8; FAIR_BYTES];
@@ -26,6 +27,7 @@ const SENT: usize = DEPARTURES_BYTES / 4;
 // counted from 0, then input, output, flow, rank and tag. A show that is not told aloud tells its refusals, and its
 // cells at the end.
 pub(crate) fn show(
+    out: Stdout,
     name: &[u8],
     ports: u32,
     first: u32,
@@ -33,11 +35,12 @@ pub(crate) fn show(
     rows: &[[u32; 6]],
     aloud: bool,
 ) {
-    show_fair(name, ports, first, 0, calls, rows, aloud);
+    show_fair(out, name, ports, first, 0, calls, rows, aloud);
 }
 
 // The same with fair outputs, by their marks.
 pub(crate) fn show_fair(
+    out: Stdout,
     name: &[u8],
     ports: u32,
     first: u32,
@@ -49,17 +52,18 @@ pub(crate) fn show_fair(
     let mut table = [0u8; FAIR_BYTES];
     let mut tally = [0u8; TALLY_BYTES];
     let mut shadow = shadow::fresh(ports, first, fair);
-    say(name);
+    say(out, name);
     crossbar::start(ports, first, fair, &mut table);
-    let same = play(&mut table, &mut tally, &mut shadow, calls, rows, aloud);
+    let same = play(out, &mut table, &mut tally, &mut shadow, calls, rows, aloud);
     if !aloud {
-        say_cells(&tally);
+        say_cells(out, &tally);
     }
-    say_verdict(same, b"as the shadow says\n");
+    say_verdict(out, same, b"as the shadow says\n");
 }
 
 // So many calls. Whether the two switches agree.
 pub(crate) fn play(
+    out: Stdout,
     table: &mut Table,
     tally: &mut Tally,
     shadow: &mut Shadow,
@@ -72,7 +76,7 @@ pub(crate) fn play(
     let mut call = 0;
     while call < calls {
         let end = end_of(rows, at, call);
-        same = step(table, tally, shadow, &rows[at..end], aloud) && same;
+        same = step(out, table, tally, shadow, &rows[at..end], aloud) && same;
         at = end;
         call += 1;
     }
@@ -110,6 +114,7 @@ pub(crate) fn end_of(rows: &[[u32; 6]], at: usize, call: u32) -> usize
 
 // A slot call to both switches, told. Whether they agree in its result and its departures.
 pub(crate) fn step(
+    out: Stdout,
     table: &mut Table,
     tally: &mut Tally,
     shadow: &mut Shadow,
@@ -123,9 +128,9 @@ pub(crate) fn step(
     let result = slot_with(table, &arrivals, length, &mut answer, tally);
     let right = shadow::slot(shadow, records, &mut sent);
     if result != 0 {
-        say_refusal(result);
+        say_refusal(out, result);
     } else if aloud {
-        say_answer(&answer);
+        say_answer(out, &answer);
     }
     result % 256 + 16 * (result / 256) == right && same_departures(&answer, &sent)
 }

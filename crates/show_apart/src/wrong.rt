@@ -9,15 +9,19 @@ use crate::say::{say, say_refusal, say_verdict};
 use crate::shadow;
 use crate::stage::{Table, play};
 use layout::{ANSWER_BYTES, ARRIVAL_BYTES, FAIR_BYTES, TALLY_BYTES};
+use std::io::Stdout;
 
 // A start that is turned back keeps the buffer.
-pub(crate) fn show_start(name: &[u8], ports: u32, fair: u32, length: usize)
+pub(crate) fn show_start(out: Stdout, name: &[u8], ports: u32, fair: u32, length: usize)
     requires { length ≤ fair_size }
 {
     let mut buffer = [7u8; FAIR_BYTES];
-    say(name);
-    say_refusal(crossbar::start(ports, 0, fair, &mut buffer[0..length]) as u64);
-    say_verdict(untouched(&buffer), b"buffer kept\n");
+    say(out, name);
+    say_refusal(
+        out,
+        crossbar::start(ports, 0, fair, &mut buffer[0..length]) as u64,
+    );
+    say_verdict(out, untouched(&buffer), b"buffer kept\n");
 }
 
 fn untouched(buffer: &Table) -> bool {
@@ -33,7 +37,14 @@ fn untouched(buffer: &Table) -> bool {
 
 // A slot call that is turned back between good ones: with `ports` in the table where 2 is right, and so many bytes of
 // arrivals, answer and tally.
-pub(crate) fn show_slot(name: &[u8], ports: u8, arrivals: usize, answer: usize, tally: usize)
+pub(crate) fn show_slot(
+    out: Stdout,
+    name: &[u8],
+    ports: u8,
+    arrivals: usize,
+    answer: usize,
+    tally: usize,
+)
     requires arrivals_le_arrival_size { arrivals ≤ arrival_size }
     requires answer_le_answer_size { answer ≤ answer_size }
     requires tally_le_tally_size { tally ≤ tally_size }
@@ -43,15 +54,22 @@ pub(crate) fn show_slot(name: &[u8], ports: u8, arrivals: usize, answer: usize, 
     let mut table = [0u8; FAIR_BYTES];
     let mut counts = [0u8; TALLY_BYTES];
     let mut shadow = shadow::fresh(2, 0, 0);
-    say(name);
+    say(out, name);
     crossbar::start(2, 0, 0, &mut table);
-    let before = play(&mut table, &mut counts, &mut shadow, 1, &first, true);
-    wrong_slot(&mut table, ports, arrivals, answer, tally);
-    let after = play(&mut table, &mut counts, &mut shadow, 2, &second, true);
-    say_verdict(before && after, b"as the shadow says\n");
+    let before = play(out, &mut table, &mut counts, &mut shadow, 1, &first, true);
+    wrong_slot(out, &mut table, ports, arrivals, answer, tally);
+    let after = play(out, &mut table, &mut counts, &mut shadow, 2, &second, true);
+    say_verdict(out, before && after, b"as the shadow says\n");
 }
 
-fn wrong_slot(table: &mut Table, ports: u8, arrivals: usize, answer: usize, tally: usize)
+fn wrong_slot(
+    out: Stdout,
+    table: &mut Table,
+    ports: u8,
+    arrivals: usize,
+    answer: usize,
+    tally: usize,
+)
     requires arrivals_le_arrival_size { arrivals ≤ arrival_size }
     requires answer_le_answer_size { answer ≤ answer_size }
     requires tally_le_tally_size { tally ≤ tally_size }
@@ -67,5 +85,5 @@ fn wrong_slot(table: &mut Table, ports: u8, arrivals: usize, answer: usize, tall
         &mut counts[0..tally],
     );
     table[8] = 2;
-    say_refusal(result);
+    say_refusal(out, result);
 }

@@ -1,17 +1,18 @@
 // Prints the strides of the weights, one a line, from w = 1. It divides: the constant table of `fair_strides` is
 // compared with what is printed.
 #![tactic(auto)]
+
 ghost use Rattle.std.specs.Prelude.{◌≡◌};
 ghost use Rattle.strides.specs.Text.{strides_text};
 
-use libc::STDOUT_FILENO;
+use std::io;
 
 // The bytes of all lines.
 const BYTES: usize = 5235;
 
-fn main() {
+fn main(rt: HostRuntime) -> io::Result<()> {
     let lines = text();
-    io::write_all(STDOUT_FILENO, &lines);
+    rt.stdout().write_all(&lines)
 }
 
 // The lines, written from the last to the first.
