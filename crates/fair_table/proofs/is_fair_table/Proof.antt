@@ -3,7 +3,6 @@
 use native.Mathlib.Omega.{arith}
 use mathlib.Core.Path.{sym, ◌∙◌}
 use borrow.Author.Rules.{rules}
-use borrow.Author.Tests.{not-true, not-false}
 use Rattle.layout.proofs.Fair.{framed-size}
 use Rattle.layout_table.proofs.Places.{known_bytes}
 use Rattle.fair_table.proofs.Frame.{other-frame, by-core}

@@ -2,7 +2,6 @@
 -- Assumes nothing.
 use mathlib.Core.Path.{sym, ap, ap₂, ◌∙◌}
 use borrow.Author.Rules.{rules}
-use borrow.Author.Tests.{not-true, not-false}
 use Rattle.cell.specs.Limits.{ports_in_range}
 use Rattle.model.specs.Fair.{marks_in_range}
 use Rattle.fair_table.proofs.Frame.{few-ports, other-size, other-number, other-ports, by-marks}

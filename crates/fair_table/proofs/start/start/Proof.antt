@@ -2,7 +2,6 @@
 -- Assumes nothing.
 use mathlib.Core.Path.{sym, ◌∙◌}
 use borrow.Author.Rules.{rules}
-use borrow.Author.Tests.{not-true, not-false}
 use Rattle.cell.specs.declared.Refusal.TheVariants.{BadSize, NoSuchPort, ShortBuffer}
 use Rattle.layout.proofs.Engine.{start_call-size, start_call-marks, start_call-short, start_call-done}
 use Rattle.fair_table.proofs.Calls.{refuses, writes}
