@@ -90,7 +90,7 @@ def functions(text):
     lines, owner = text.split('\n'), ''
     for i, line in enumerate(lines):
         if line and not line.startswith((' ', '}')):
-            owner = ''.join(re.findall(r'^impl (\w+)', line))
+            owner = ''.join(re.findall(r'^impl(?:<[^>]*>)? (?:\S+ for )?(\w+)', line))
         if head := FUNCTION.match(line):
             end = next(j for j in range(i, len(lines)) if BODY.match(lines[j]))
             parameters, _, contract = re.sub(r'\n *(?=ensures|requires)', '\0', '\n'.join(lines[i:end])).partition('\0')
