@@ -12,7 +12,9 @@ ENGINE ?= crossbar
 PREFIX ?= /usr/local
 PLACE = $(DESTDIR)$(PREFIX)
 ENGINES = crossbar oq
-SOURCES = $(shell find crates -name '*.rt' -o -name '*.antt')
+SOURCES = $(shell find crates -name out -prune -o \( -name '*.rt' -o -name '*.antt' \) -print)
+ # what the toolchain's library calls in C where a program reads and writes: the number of the last error
+SUPPORT = $(dir $(shell rt doc))c/libos_c.a
 VERSION = $(shell sed -n 's/^.define CROSSBAR_VERSION "\(.*\)"/\1/p' include/crossbar.h)
 .PHONY: help view play player library test bench plot install format clean
 
@@ -33,10 +35,11 @@ library: $(ENGINES:%=target/staticlib/lib%.a)
 
 target/bin/%-player: program/main.c target/staticlib/libplayer.a
 	@mkdir -p target/bin
-	cc -std=c11 -O2 -Wall -Wextra -Werror -DPLAYER=$*_player $^ -o $@
+	cc -std=c11 -O2 -Wall -Wextra -Werror -DPLAYER=$*_player $^ $(SUPPORT) -o $@
 
 target/staticlib/lib%.a: crates.txt $(SOURCES)
-	rt staticlib $*
+	cd crates/$*_c && rt lib
+	install -D -m 644 crates/$*_c/out/lib$*_c.a $@
 
 test:
 	.ci/run
@@ -58,7 +61,7 @@ install: player library
 	done
 
 format:
-	rt fmt
+	for crate in crates/*/; do (cd $$crate && rt fmt) || exit 1; done
 
 clean:
 	rm -rf target host/target

@@ -1,4 +1,4 @@
-// Links target/staticlib/libcrossbar.a and liboq.a, which `rt staticlib crossbar` and `rt staticlib oq` write.
+// Links target/staticlib/libcrossbar.a and liboq.a, which `make library` writes.
 fn main() {
     let here = std::env::var("CARGO_MANIFEST_DIR").unwrap();
     println!("cargo:rustc-link-search=native={here}/../target/staticlib");

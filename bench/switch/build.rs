@@ -1,4 +1,4 @@
-// Links libcrossbar.a and liboq.a, which `rt staticlib` writes, into the benchmark alone; the switches and their tests do
+// Links libcrossbar.a and liboq.a, which `make library` writes, into the benchmark alone; the switches and their tests do
 // without. CROSSBAR_LIBRARY in the environment names another folder to take them from.
 fn main() {
     let here = std::env::var("CARGO_MANIFEST_DIR").unwrap();

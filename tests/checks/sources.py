@@ -58,8 +58,8 @@ def declared_in_code(code):
 
 
 def crates():
-    """The crates by name, each with the crates and libraries that it names in crates.txt, in that order. Behind the name
-    of a static library stands that it is one."""
+    """The crates by name, each with the crates and libraries that it names in crates.txt, in that order. A static library has
+    `staticlib` behind its name."""
     lines = [line.split(":") for line in read("crates.txt").splitlines() if line and not line.startswith("#")]
     return {crate.split()[0]: named.split() for crate, named in lines}
 

@@ -8,7 +8,7 @@ ghost use Rattle.player.specs.CodeWindow.{moved, Filled};
 ghost use Rattle.player.specs.Code.{Finished, status_of};
 
 use player_turns::{Engine, Stage, take_turns};
-use std::io::{Stderr, Stdin, Stdout};
+use std::io::{Read, Stderr, Stdin, Stdout};
 
 // The bytes that the window holds, and those that are gathered before they are written.
 const BUFFER_BYTES: usize = 65536;
@@ -92,10 +92,10 @@ fn request_of(words: usize, word: &[u8]) -> Request
     if words > 1 {
         return Request::Unknown;
     }
-    if word == b"--help" {
+    if word == b"--help".as_slice() {
         return Request::Help;
     }
-    if word == b"--version" {
+    if word == b"--version".as_slice() {
         return Request::Version;
     }
     Request::Unknown

@@ -1,5 +1,6 @@
 // Scope 6, refusals 3 to 8: what turns a slot back, looked for in its table and its records before anything of it runs.
 #![tactic(auto)]
+
 pub mod checks;
 
 ghost use Rattle.std.specs.Prelude.{◌≡◌, ◌+◌, ◌≤◌, ◌<◌, take};

@@ -1,5 +1,6 @@
 // What the steps of a slot share: the choice of a phase, and in specs/ the view of a table.
 #![tactic(auto)]
+
 use layout::PORTS;
 
 // Above the key of every cell.

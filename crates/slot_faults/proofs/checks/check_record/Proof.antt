@@ -7,32 +7,28 @@ use Rattle.slot_faults.proofs.Faults.{port-clear, port-found, port-passed}
 use Rattle.slot_faults.proofs.checks.check_record.Statement.{statement}
 use Rattle.slot_faults.proofs.checks.check_record.Tie as tie
 
-port-fault-requires : tie.Need-port-fault-requires
+port-fault-requires : tie.Need-port_fault-found-requires
 port-fault-requires c κs = search rules
 
-enum_told : tie.Need-enum-told
+enum_told : tie.Need-enum_told-1
 enum_told c = search rules
 
-enum-told-2 : tie.Need-enum-told-2
+enum-told-2 : tie.Need-enum_told-in_default
 enum-told-2 c = search rules
 
-returns : tie.Need-returns
+returns : tie.Need-returns-in_default
 returns c =
-    let check = c.before.before in
-    port-found _ _ _ _ _ _ check.port-fault.ensures c.enum-told2.given.1
+    port-found _ _ _ _ _ _ c.port_fault-found.ensures c.in_default.is
 
-waiting-fault-requires : tie.Need-waiting-fault-requires
+waiting-fault-requires : tie.Need-waiting_fault-requires
 waiting-fault-requires c κs =
-    let check = c.before.before in
-    (check.before.before.requires, port-clear _ [] _ _ _ _ check.port-fault.ensures c.enum_told.given.1)
+    (c.requires, port-clear _ [] _ _ _ _ c.port_fault-found.ensures c.in-Clear.is)
 
-returns-2 : tie.Need-returns-2
+returns-2 : tie.Need-returns
 returns-2 c =
-    let told = c.before in
-    let check = told.before.before in
     λ before e.
-    c.waiting-fault.ensures
-    ∙ ap (fault_at _) (sym (port-passed _ _ _ _ _ _ check.port-fault.ensures told.enum_told.given.1 before e))
+    c.waiting_fault.ensures
+    ∙ ap (fault_at _) (sym (port-passed _ _ _ _ _ _ c.port_fault-found.ensures c.in-Clear.is before e))
 
 pub check_record_spec : {M : Type 1} → statement M
 check_record_spec =

@@ -6,67 +6,57 @@ use Rattle.slot_faults.proofs.Faults.{Fallen, fallen-start, fallen-next, fallen-
 use Rattle.slot_faults.proofs.checks.falling_rank.Statement.{statement}
 use Rattle.slot_faults.proofs.checks.falling_rank.Tie as tie
 
-abbrev invariant-loop : tie.invariant-loop
+abbrev invariant-loop : tie.invariant-loop-k
 invariant-loop table c input end flow falling₀ k₀ falling k = Fallen table c k falling
 
-abbrev decreases-loop : tie.decreases-loop
+abbrev decreases-loop : tie.decreases-loop-k
 decreases-loop table c input end flow falling₀ k₀ falling k = end - k
 
 cast-input : tie.Need-overflow_cast-input invariant-loop decreases-loop
-cast-input c = omega (arith, ports-below _ c.before.before.requires.0)
+cast-input c = omega (arith, ports-below _ c.requires.0)
 
-end-of-requires : tie.Need-end-of-requires invariant-loop decreases-loop
+end-of-requires : tie.Need-end_of-end-requires invariant-loop decreases-loop
 end-of-requires c κs =
-    (table-length _ c.before.before.requires.0, omega (arith, ports-below _ c.before.before.requires.0))
+    (table-length _ c.requires.0, omega (arith, ports-below _ c.requires.0))
 
-flow-word-requires : tie.Need-flow-word-requires invariant-loop decreases-loop
-flow-word-requires c κs = c.before.before.before.requires.1.1
+flow-word-requires : tie.Need-flow_word-flow-requires invariant-loop decreases-loop
+flow-word-requires c κs = c.requires.1.1
 
 mul-k : tie.Need-overflow_mul-k invariant-loop decreases-loop
 mul-k c =
-    let start = c.before.before.before.before in
-    omega (arith, start.requires.1.0, ports-below _ start.requires.0)
+    omega (arith, c.requires.1.0, ports-below _ c.requires.0)
 
-loop-holds : tie.Need-loop-init invariant-loop decreases-loop
-loop-holds c = let start = c.before.before.before.before in fallen-start _ start.requires.0 _ start.requires.1.0
+loop-holds : tie.Need-loop-k-init invariant-loop decreases-loop
+loop-holds c = fallen-start _ c.requires.0 _ c.requires.1.0
 
-outranked-requires : tie.Need-outranked-requires invariant-loop decreases-loop
+outranked-requires : tie.Need-outranked-falling-requires invariant-loop decreases-loop
 outranked-requires c κs =
-    let at = c.before in
-    let flow = at.before in
-    let start = flow.before.before.before.before in
-    let ports = ports-below _ start.requires.0 in
-    let few = count-below _ start.requires.0 _ start.requires.1.0 in
-    let end = flow.before.end_of_lem.ensures in
-    let low = at.loop.invariant.start in (
-      (table-length _ start.requires.0, omega (arith, start.requires.1.0, end)),
-      (omega (arith, start.requires.1.0, end), flow.flow-word.ensures, start.requires.1.1.0),
+    let ports = ports-below _ c.requires.0 in
+    let few = count-below _ c.requires.0 _ c.requires.1.0 in
+    let end = c.end_of-end.ensures in
+    let low = c.loop-k.invariant.start in (
+      (table-length _ c.requires.0, omega (arith, c.requires.1.0, end)),
+      (omega (arith, c.requires.1.0, end), c.flow_word-flow.ensures, c.requires.1.1.0),
     )
 
 add-k : tie.Need-overflow_add-k invariant-loop decreases-loop
 add-k c =
-    let at = c.before.before in
-    let start = at.before.before.before.before.before in
-    let ports = ports-below _ start.requires.0 in
-    let few = count-below _ start.requires.0 _ start.requires.1.0 in
-    omega (arith, start.requires.1.0, at.before.before.end_of_lem.ensures)
+    let ports = ports-below _ c.requires.0 in
+    let few = count-below _ c.requires.0 _ c.requires.1.0 in
+    omega (arith, c.requires.1.0, c.end_of-end.ensures)
 
-loop-less : tie.Need-loop-smaller invariant-loop decreases-loop
+loop-less : tie.Need-loop-k-smaller invariant-loop decreases-loop
 loop-less c = omega arith
 
-loop-again : tie.Need-loop-preserved invariant-loop decreases-loop
+loop-again : tie.Need-loop-k-preserved invariant-loop decreases-loop
 loop-again c =
-    let at = c.before.before in
-    let start = at.before.before.before.before.before in
-    fallen-next _ start.requires.0 _ start.requires.1.0 at.loop.k at.loop.falling c.outranked.result
-    (omega (arith, at.before.before.end_of_lem.ensures)) c.outranked.ensures at.loop.invariant
+    fallen-next _ c.requires.0 _ c.requires.1.0 c.loop-k.k c.loop-k.falling c.outranked-falling.result
+    (omega (arith, c.end_of-end.ensures)) c.outranked-falling.ensures c.loop-k.invariant
 
 returns : tie.Need-returns invariant-loop decreases-loop
 returns c =
-    let at = c.before in
-    let start = at.before.before.before.before.before in
-    fallen-end _ start.requires.0 _ start.requires.1.0 at.loop.k at.loop.falling
-    (omega (arith, at.before.before.end_of_lem.ensures)) at.loop.invariant
+    fallen-end _ c.requires.0 _ c.requires.1.0 c.loop-k.k c.loop-k.falling
+    (omega (arith, c.end_of-end.ensures)) c.loop-k.invariant
 
 pub falling_rank_spec : {M : Type 1} → statement M
 falling_rank_spec =

@@ -8,28 +8,25 @@ use Rattle.slot_faults.proofs.Faults.{full-count}
 use Rattle.slot_faults.proofs.checks.input_full.Statement.{statement}
 use Rattle.slot_faults.proofs.checks.input_full.Tie as tie
 
-cast-count-of : tie.Need-overflow_cast-count-of
+cast-count-of : tie.Need-overflow_cast-c
 cast-count-of c = search rules
 
-count-of-requires : tie.Need-count-of-requires
+count-of-requires : tie.Need-count_of-requires
 count-of-requires c κs =
-    let start = c.before.before in
-    (table-length _ start.requires.0, omega (arith, start.requires.1, ports-below _ start.requires.0))
+    (table-length _ c.requires.0, omega (arith, c.requires.1, ports-below _ c.requires.0))
 
-cast-input-full : tie.Need-overflow_cast-input-full
+cast-input-full : tie.Need-overflow_cast-count_of
 cast-input-full c =
-    let start = c.before.before.before in
-    omega (arith, c.count_of.ensures, count-below _ start.requires.0 _ start.requires.1)
+    omega (arith, c.count_of.ensures, count-below _ c.requires.0 _ c.requires.1)
 
-input-full-requires : tie.Need-input-full-requires
+input-full-requires : tie.Need-input_full-requires
 input-full-requires c κs = search rules
 
 returns : tie.Need-returns
 returns c =
-    let start = c.before.before.before.before in
-    c.input-full.ensures
-    ∙ ap input_full c.before.count_of.ensures
-    ∙ sym (full-count _ start.requires.0 _ start.requires.1)
+    c.input_full.ensures
+    ∙ ap input_full c.count_of.ensures
+    ∙ sym (full-count _ c.requires.0 _ c.requires.1)
 
 pub input_full_spec : {M : Type 1} → statement M
 input_full_spec =

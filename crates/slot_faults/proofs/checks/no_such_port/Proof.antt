@@ -5,20 +5,20 @@ use Rattle.slot_faults.proofs.Faults.{port-by-input, port-by-output}
 use Rattle.slot_faults.proofs.checks.no_such_port.Statement.{statement}
 use Rattle.slot_faults.proofs.checks.no_such_port.Tie as tie
 
-ports-of-requires : tie.Need-ports-of-requires
-ports-of-requires c κs = table-length _ c.before.requires
+ports-of-requires : tie.Need-ports_of-ports-requires
+ports-of-requires c κs = table-length _ c.requires
 
-cast-if1 : tie.Need-overflow_cast-if1
+cast-if1 : tie.Need-overflow_cast-c
 cast-if1 c = search rules
 
-returns : tie.Need-returns
-returns c = port-by-input _ _ _ c.before.before.ports-of.ensures c.if1.true
+returns : tie.Need-returns-then-ports-c
+returns c = port-by-input _ _ _ c.ports_of-ports.ensures c.if-ports-c.true
 
 cast-result : tie.Need-overflow_cast-result
 cast-result c = search rules
 
-returns-2 : tie.Need-returns-2
-returns-2 c = port-by-output _ _ _ c.before.before.before.ports-of.ensures c.before.if1.false
+returns-2 : tie.Need-returns
+returns-2 c = port-by-output _ _ _ c.ports_of-ports.ensures c.if-ports-c.false
 
 pub no_such_port_spec : {M : Type 1} → statement M
 no_such_port_spec = tie.close (tie.spec ports-of-requires cast-if1 returns cast-result returns-2)

@@ -6,7 +6,7 @@ use Rattle.slot_faults.proofs.checks.out_of_turn.Statement.{statement}
 use Rattle.slot_faults.proofs.checks.out_of_turn.Tie as tie
 
 returns : tie.Need-returns
-returns c = λ before e. ap (ltb c.before.args.c.input) (sym e) ∙ turn-after before c.before.args.c
+returns c = λ before e. ap (ltb c.args.c.input) (sym e) ∙ turn-after before c.args.c
 
 pub out_of_turn_spec : {M : Type 1} → statement M
 out_of_turn_spec = tie.close (tie.spec returns)
