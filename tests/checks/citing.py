@@ -90,7 +90,7 @@ def functions(text):
     lines, owner = text.split('\n'), ''
     for i, line in enumerate(lines):
         if line and not line.startswith((' ', '}')):
-            owner = ''.join(re.findall(r'^impl (\w+)', line))
+            owner = ''.join(re.findall(r'^impl(?:<[^>]*>)? (?:\S+ for )?(\w+)', line))
         if head := FUNCTION.match(line):
             end = next(j for j in range(i, len(lines)) if BODY.match(lines[j]))
             parameters, _, contract = re.sub(r'\n *(?=ensures|requires)', '\0', '\n'.join(lines[i:end])).partition('\0')
@@ -171,14 +171,9 @@ class Crates:
     """All files, with what their names mean."""
 
     def __init__(self):
-<<<<<<< HEAD
-        self.order = re.findall(r'(?m)^(\w+)(?: staticlib)?:', (CRATES.parent / 'crates.txt').read_text())
-        paths = [p for p in sorted(CRATES.rglob('*')) if p.suffix in ('.antt', '.rt')]
-=======
         self.order = re.findall(r'(?m)^(\w+)[^:#\n]*:', (CRATES.parent / 'crates.txt').read_text())
         folders = [CRATES / crate / part for crate in self.order for part in ('src', 'specs', 'proofs')]
         paths = sorted(p for folder in folders for p in folder.rglob('*') if p.suffix in ('.antt', '.rt'))
->>>>>>> 1bc3e759f32cf1f682992183a89729bd9623dd7b
         self.files = {file.name: file for file in map(File, paths)}
         self.definitions = [d for file in self.files.values() for d in file.all]
         self.specs = [d for d in self.definitions if d.file.part == 'specs']
