@@ -5,7 +5,7 @@ from functools import cache
 from pathlib import Path
 
 CRATES = Path(__file__).resolve().parent.parent.parent / 'crates'
-TOKEN = re.compile(r'[^\s(){}\[\];,⌜⌝]+|\[\]|[(){}\[\];,]')
+TOKEN = re.compile(r'[^\s(){}\[\];,]+|\[\]|[(){}\[\];,]')
 USE = re.compile(r'(?:pub |ghost )?use ([^\s;{]+?)(?:\.\{([^}]*)\})?(?: as (\S+?))?;?$')
 NAMES = r'((?:(?!= )[^\s(){}:]+ )+):(?= |$)'
 FUNCTION = re.compile(r' *(pub )?(?:pub\(\w+\) )?(?:extern "C" )?fn (\w+)')
@@ -26,7 +26,7 @@ def tokens(text):
 
 def spoken(name):
     """What stands in a text where a name is used: of an operator, the parts between its arguments."""
-    return [part for part in name.split('_') if part]
+    return [part for part in name.split('◌') if part]
 
 
 def bound(text):
@@ -86,16 +86,17 @@ def items(text):
 
 
 def functions(text):
-    """Of each function: whether it is public, its name, its parameters, and its contract."""
+    """Of each function: whether it is public, its name, what it is given and answers, and its contract."""
     lines, owner = text.split('\n'), ''
     for i, line in enumerate(lines):
         if line and not line.startswith((' ', '}')):
-            owner = ''.join(re.findall(r'^impl (\w+)', line))
+            owner = ''.join(re.findall(r'^impl(?:<[^>]*>)? (?:\S+ for )?(\w+)', line))
         if head := FUNCTION.match(line):
             end = next(j for j in range(i, len(lines)) if BODY.match(lines[j]))
             parameters, _, contract = re.sub(r'\n *(?=ensures|requires)', '\0', '\n'.join(lines[i:end])).partition('\0')
             name = f'{owner}::{head[2]}' if owner else head[2]
-            yield bool(head[1]), name, {'self', *re.findall(r'(\w+):(?!:)', parameters)}, contract.replace('\0', '\n')
+            given = {'self', 'result', *re.findall(r'(\w+):(?!:)', parameters)}
+            yield bool(head[1]), name, given, contract.replace('\0', '\n')
 
 
 class File:
@@ -140,18 +141,18 @@ class File:
         d.hidden = bound('\n'.join(d.around) + (text.partition(' : Type')[0] if d.kind else ''))
 
     def meant(self, crates, word):
-        """The definitions that a word may stand for: none for a field `.name`."""
-        module, _, name = word.partition('.')
-        if module in self.modules and name:
-            return crates.found(self.modules[module], name)
-        return self.names.get(word.rstrip('.'), []) if module else []
+        """The definitions that a word may stand for: `first` of `first.field`, and none for a field `.name`."""
+        first, _, name = word.partition('.')
+        if first in self.modules and name:
+            return crates.found(self.modules[first], name.split('.')[0])
+        return self.names.get(first, []) if first else []
 
     def cited(self, crates, text, hidden=frozenset()):
         """The definitions that a text cites. In `record { name = .. }` and `pub name : ..` a name is that of a field."""
         words, result = tokens(text), set()
         for before, word, after in zip([''] + words, words, words[1:] + ['']):
             field = before == 'pub' or before in ('{', ';') and after == '='
-            if not field and word not in hidden:
+            if not field and word not in hidden and word.split('.')[0] not in hidden:
                 result |= set(self.meant(crates, word))
         return result
 
@@ -170,8 +171,9 @@ class Crates:
     """All files, with what their names mean."""
 
     def __init__(self):
-        self.order = re.findall(r'(?m)^(\w+)(?: staticlib)?:', (CRATES.parent / 'crates.txt').read_text())
-        paths = [p for p in sorted(CRATES.rglob('*')) if p.suffix in ('.antt', '.rt')]
+        self.order = re.findall(r'(?m)^(\w+)[^:#\n]*:', (CRATES.parent / 'crates.txt').read_text())
+        folders = [CRATES / crate / part for crate in self.order for part in ('src', 'specs', 'proofs')]
+        paths = sorted(p for folder in folders for p in folder.rglob('*') if p.suffix in ('.antt', '.rt'))
         self.files = {file.name: file for file in map(File, paths)}
         self.definitions = [d for file in self.files.values() for d in file.all]
         self.specs = [d for d in self.definitions if d.file.part == 'specs']
@@ -179,7 +181,7 @@ class Crates:
             self.bring(file)
 
     def file(self, path):
-        at = re.match(r'Rattle·([^.·]+)(?:·\w+)?\.(.+)', path)
+        at = re.match(r'Rattle\.(\w+)\.(.+)', path)
         return at and self.files.get(f'{at[1]}/{at[2].replace(".", "/")}.antt')
 
     def found(self, file, name):
@@ -197,7 +199,7 @@ class Crates:
             elif self.file(path):
                 file.modules[new] = self.file(path)
         for name, there in known:
-            for word in {name, *(spoken(name) if '_' in name else ())}:
+            for word in {name, *(spoken(name) if '◌' in name else ())}:
                 file.names[word] += there
 
     def cited(self, d, parts):

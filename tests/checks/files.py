@@ -15,9 +15,9 @@ def write(path, text):
 
 
 def all_files():
-    """The paths of the repository's files, but for what is built."""
+    """The paths of the repository's files, but for what is built or proved into a folder of its own."""
     for folder, folders, names in os.walk(ROOT):
-        folders[:] = [f for f in folders if f not in (".git", "target", "__pycache__")]
+        folders[:] = [f for f in folders if f not in (".git", "target", "out", "__pycache__")]
         for name in names:
             yield os.path.relpath(os.path.join(folder, name), ROOT)
 

@@ -7,13 +7,13 @@ from checks.files import all_files, parents, read
 # Words of the language, and what the toolchain takes, prints or refuses: no source here declares them.
 TOOLCHAIN = {
     "--allow-holes",
-    ".before",
-    "..-read-..",
     "F-requires",
+    "Invariants.antt",
+    "L-init",
+    "L-preserved",
     "N passed, 0 failed",
-    "Need-..",
-    "add-..",
-    "c .F .ensures",
+    "c.F.ensures",
+    "c.if-x-y.true",
     'extern "C" { fn exit(status: i32); }',
     "fn CRATE::F: proved",
     "fn main() -> i32 { 2 }",
@@ -21,17 +21,14 @@ TOOLCHAIN = {
     "help:",
     "invalid-entry-signature",
     "logic=proved",
-    "loop-again",
-    "loop-holds",
-    "no proof: .. search does not close NEED",
-    "rattle-kit-5b-plain logic 097e4c862dff5811",
+    "proofs/F/",
+    "rattle-kit-13f logic dac8208d650f15bf",
+    "rattle-kit-5b-plain",
     "requires",
     "return",
     "returns",
     "returns-2",
     "sum=",
-    "target/must-fail/CRATE/LABEL/.log",
-    "tie.spec",
     "unfoldable",
 }
 
@@ -86,7 +83,7 @@ class Sources:
         self.names = set().union(*self.declared.values())
 
     def take(self, path):
-        if path.startswith(("docs/", "tests/checks")) or path.endswith((".md", ".edit")):
+        if path.startswith(("docs/", "tests/checks", "tools/")) or path.endswith((".md", ".edit")):
             return
         code = without_comments(path, read(path))
         self.code.append(code)

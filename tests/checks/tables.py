@@ -23,7 +23,7 @@ SIZES = """# Sizes of the crates
 
 All lines of the files in `src`, `specs` and `proofs`, blank lines and comments included, and the number of must-fail edits. A change
 in a crate, be it of a proof alone, rechecks it and every crate above it in `crates.txt`: the last column has their number, itself
-included, and the sum of their seconds in {seconds}. `tests/docs --write` makes this page.
+included, and the sum of their seconds in {seconds}, which are of the older kit. `tests/docs --write` makes this page.
 
 | crate | code | definitions | laws and proofs | edits | a change rechecks |
 |---|---|---|---|---|---|
@@ -109,9 +109,9 @@ def sizes_of(sources, crate):
 
 
 def seconds_of_checks():
-    """The seconds that each crate's check took, as the page that has them says."""
-    rows = re.findall(r"^\| `(\w+)` \| ([\d,]+) \| [\d,]+ \|$", read(SECONDS), re.M)
-    return {crate: int(seconds.replace(",", "")) for crate, seconds in rows}
+    """The seconds that each crate's check took, as the page that has them says; none where it has a dash."""
+    rows = re.findall(r"^\| `(\w+)` \| ([\d,]+|–) \| (?:[\d,]+|–) \|$", read(SECONDS), re.M)
+    return {crate: int(seconds.replace(",", "").replace("–", "0")) for crate, seconds in rows}
 
 
 def rechecked(crate, seconds):

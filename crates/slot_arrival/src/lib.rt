@@ -1,5 +1,6 @@
 // Scope 3.1, arrival: the cell that a record becomes enters the list of its input, on the bytes of the table in place.
 #![tactic(auto)]
+
 ghost use Rattle.std.specs.Prelude.{◌≡◌, ◌+◌, ◌-◌, ◌*◌, ◌/◌, ◌^◌, ◌≤◌, ◌<◌, true, false, eqb, length, get_or};
 ghost use Rattle.cell.specs.Cell.{accepted};
 ghost use Rattle.cell.specs.Limits.{clock_end, section_room, port_limit};

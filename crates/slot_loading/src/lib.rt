@@ -3,6 +3,7 @@
 // What is asked of each place is a loop over its set. The check hands the sets on; for a table that was not checked
 // one pass over each input's entries makes them.
 #![tactic(auto)]
+
 ghost use Rattle.std.specs.Prelude.{cond, ◌≡◌, ℕ, ◌+◌, ◌*◌, ◌<◌, get_or};
 ghost use Rattle.cell.specs.Order.{key as cell_key};
 ghost use Rattle.cell.specs.Limits.{section_room, port_limit};

@@ -2,6 +2,7 @@
 // the other, each in the order of its list, and an output keeps the best proposal so far; the input whose cell is
 // refused goes on. In whatever order they are asked, the matching is the same.
 #![tactic(auto)]
+
 ghost use Rattle.std.specs.Prelude.{◌≡◌, ◌<◌, length};
 ghost use Rattle.cell.specs.Limits.{port_limit};
 ghost use Rattle.layout.specs.Table.{table_size};

@@ -2,6 +2,7 @@
 // none, and a function moves that cell: its place is written into the table at once, and the view of the table follows
 // it.
 #![tactic(auto)]
+
 ghost use Rattle.std.specs.Prelude.{◌≡◌, ◌<◌, length};
 ghost use Rattle.cell.specs.Limits.{port_limit};
 ghost use Rattle.layout.specs.Entry.{entry_at};

@@ -79,8 +79,8 @@ header-line t {n} {first} {d} h = go (number Ports (from 1 t)) refl
     go (got m c) p = in_range m c p (ports_in_range m) refl (number First c) refl
 
 module _ (last : Bool) (t : List ℕ) {o : Opening} (e : o ≡ opening_of t (header_in last t)) where
-  opened : (x : Piece Header) → header_in last t ≡ x → o ≡ opening_of t x
-  opened x h = e ∙ ap (opening_of t) h
+  opening-at : (x : Piece Header) → header_in last t ≡ x → o ≡ opening_of t x
+  opening-at x h = e ∙ ap (opening_of t) h
 
   pub opening-open-e : {n first i : ℕ} → o ≡ Open n first i
       → (header t ≡ opened n first (from 3 (drop i t))) × (i ≤ length t)
@@ -89,10 +89,10 @@ module _ (last : Bool) (t : List ℕ) {o : Opening} (e : o ≡ opening_of t (hea
     where
       go : (x : Piece Header) → header_in last t ≡ x
           → (header t ≡ opened n first (from 3 (drop i t))) × (i ≤ length t)
-      go more p = never (cc (opened more p))
-      go (known (refused_at r l)) p = never (cc (opened (known (refused_at r l)) p))
+      go more p = never (cc (opening-at more p))
+      go (known (refused_at r l)) p = never (cc (opening-at (known (refused_at r l)) p))
       go (known (opened m f d)) p =
-          let g : Open m f (length t - length d.text) ≡ Open n first i = sym (opened (known (opened m f d)) p) ∙ h in
+          let g : Open m f (length t - length d.text) ≡ Open n first i = sym (opening-at (known (opened m f d)) p) ∙ h in
           let x : length t - length d.text ≡ i = cc in
           let y : m ≡ n = cc in
           let z : f ≡ first = cc in
@@ -108,11 +108,11 @@ module _ (last : Bool) (t : List ℕ) {o : Opening} (e : o ≡ opening_of t (hea
   opening-refused-e {r} {l} h = go (header_in last t) refl
     where
       go : (x : Piece Header) → header_in last t ≡ x → header t ≡ refused_at r l
-      go more p = cc (opened more p)
-      go (known (opened m f d)) p = cc (opened (known (opened m f d)) p)
+      go more p = cc (opening-at more p)
+      go (known (opened m f d)) p = cc (opening-at (known (opened m f d)) p)
       go (known (refused_at s k)) p =
-          let x : s ≡ r = cc (opened (known (refused_at s k)) p) in
-          let y : k ≡ l = cc (opened (known (refused_at s k)) p) in
+          let x : s ≡ r = cc (opening-at (known (refused_at s k)) p) in
+          let y : k ≡ l = cc (opening-at (known (refused_at s k)) p) in
           header_in-read last t p ∙ ap (λ z. refused_at z k) x ∙ ap (refused_at r) y
 
   pub opening-short-e : o ≡ Short → decided last t ≡ false
@@ -121,8 +121,8 @@ module _ (last : Bool) (t : List ℕ) {o : Opening} (e : o ≡ opening_of t (hea
     where
       go : (x : Piece Header) → header_in last t ≡ x → decided last t ≡ false
       go more p = header_in-unread last t p
-      go (known (opened m f d)) p = cc (opened (known (opened m f d)) p)
-      go (known (refused_at r l)) p = cc (opened (known (refused_at r l)) p)
+      go (known (opened m f d)) p = cc (opening-at (known (opened m f d)) p)
+      go (known (refused_at r l)) p = cc (opening-at (known (refused_at r l)) p)
 
 -- a block
 

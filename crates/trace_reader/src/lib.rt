@@ -2,6 +2,7 @@
 // only read; what was read is handed on with its length, and the next reader gets the slice from there.
 // No public function has a `requires`.
 #![tactic(auto)]
+
 ghost use Rattle.std.specs.Prelude.{true, false, [], ◌∷◌, ◌≡◌, ◌*◌, ◌≤◌, ◌<◌, length, drop};
 ghost use Rattle.std.proofs.lemmas.List.Edits.{sets};
 ghost use Rattle.trace.specs.declared.Key.TheVariants.{End};

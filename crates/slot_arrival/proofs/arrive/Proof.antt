@@ -14,81 +14,75 @@ use Rattle.slot_arrival.proofs.arrive.Statement.{statement}
 use Rattle.slot_arrival.proofs.arrive.Tie as tie
 
 -- the cell that enters
-cell-is : (c : tie.After-cell-of)
-    → let a = c.before.before.before.before.before.args in
-    c.cell-of.result ≡ accepted (clock_in a.table.now - 1) a.a
+cell-is : (c : tie.After-cell_of)
+    → let a = c.args in
+    c.cell_of.result ≡ accepted (clock_in a.table.now - 1) a.a
 cell-is c =
-    let read = c.before.before in
-    c.cell-of.ensures ∙ ap (λ k. accepted (k - 1) read.before.before.before.args.a) read.clock-of.ensures
+    c.cell_of.ensures ∙ ap (λ k. accepted (k - 1) c.args.a) c.clock_of-clock.ensures
 
 -- it has entered, from where its sets are opened, and the start before that
-abbrev entering : tie.After-open-sets-arg4 → tie.After-enter
-entering c = let given_back = c.before.before.before.before.before in given_back.before.before
+abbrev entering : tie.After-open_sets-arg-4-1 → tie.After-enter-at
+entering c = c.before.before.before.before.before.before.before
 
-abbrev start_of : tie.After-enter → tie.Start
-start_of c = let cell = c.before in cell.before.before.before.before.before
+abbrev start_of : tie.After-enter-at → tie.Start
+start_of c = c.before.before.before.before.before
 
 -- its number
-at : (c : tie.After-open-sets-arg4)
-    → let entered = entering c in
-    let a = (start_of entered).args in
-    entered.enter.result
+at : (c : tie.After-open_sets-arg-4-1)
+    →
+    let a = c.args in
+    c.enter-at.result
     ≡ 64 * a.a.input + enter_place (accepted (clock_in a.table.now - 1) a.a) (section_in a.table.now a.a.input)
 unfolding accepted
 at c =
-    let entered = entering c in
-    let a = (start_of entered).args in
-    entered.enter.ensures.1
-    ∙ ap (λ d. 64 * d.input + enter_place d (section_in a.table.now d.input)) (cell-is entered.before)
+    let a = c.args in
+    c.enter-at.ensures.1
+    ∙ ap (λ d. 64 * d.input + enter_place d (section_in a.table.now d.input)) (cell-is c.before.before.before.before.before.before.before.before)
 
-clock-of-requires : tie.Need-clock-of-requires
-clock-of-requires c κs = table-length _ c.before.before.requires.0.sound
+clock-of-requires : tie.Need-clock_of-clock-requires
+clock-of-requires c κs = table-length _ c.requires.0.sound
 
-sub-cell-of : tie.Need-overflow_sub-cell-of
+sub-cell-of : tie.Need-overflow_sub-clock
 sub-cell-of c = search rules
 
-cell-of-requires : tie.Need-cell-of-requires
+cell-of-requires : tie.Need-cell_of-requires
 cell-of-requires c κs = search rules
 
-enter-requires : tie.Need-enter-requires
+enter-requires : tie.Need-enter-at-requires
 unfolding accepted
 enter-requires c κs =
-    let may = c.before.before.before.before.before.requires.0 in
-    rw c.cell-of.ensures (may.sound, ((may.input, may.room), (may.output, may.flow)))
+    let may = c.requires.0 in
+    rw c.cell_of.ensures (may.sound, ((may.input, may.room), (may.output, may.flow)))
 
 cast-input : tie.Need-overflow_cast-input
 cast-input c = search rules
 
-mul-open-sets : tie.Need-overflow_mul-open-sets
+mul-open-sets : tie.Need-overflow_mul-input
 mul-open-sets c = search rules
 
-sub-open-sets : tie.Need-overflow_sub-open-sets
+sub-open-sets : tie.Need-overflow_sub-at
 sub-open-sets c = omega (arith, at c)
 
-open-sets-requires : tie.Need-open-sets-requires
+open-sets-requires : tie.Need-open_sets-requires
 open-sets-requires c κs =
-    let start = start_of (entering c) in
-    let a = start.args in
-    let may = start.pre.0 in
+    let a = c.args in
+    let may = c.requires.0 in
     let few = place-room a.table.now a.a may in (
       (input-low a.table.now a.a may, omega (arith, at c)),
-      sets-room _ _ may _ _ _ _ start.pre.1,
+      sets-room _ _ may _ _ _ _ c.requires.1,
     )
 
-same_length : tie.Need-same-length
+same_length : tie.Need-shape_of-table
 same_length c = search rules
 
 returns : tie.Need-returns
 returns c =
-    let args = c.before in
-    let entered = entering args in
-    let start = start_of entered in
-    let a = start.args in
-    let opened = c.open-sets.ensures in
-    let new = entered.enter.ensures.0
-    ∙ ap (λ d. encode (entered_by d (state_of a.table.now))) (cell-is entered.before) in (
+    let a = c.args in
+    let opened = c.open_sets.ensures in
+    let new = c.enter-at.ensures.0
+    ∙ ap (λ d. encode (entered_by d (state_of a.table.now))) (cell-is c.before.before.before.before.before.before.before.before.before) in (
       new,
-      sets-arrived _ _ start.pre.0 _ _ _ _ start.pre.1 _ new _ (omega (arith, at args)) _ _ _ _ opened.0
+      sets-arrived _ _ c.requires.0 _ _ _ _ c.requires.1 _ new _ (omega (arith, at c.before)) _ _ _ _ opened.0
           opened.1.0 opened.1.1.0 opened.1.1.1,
     )
 

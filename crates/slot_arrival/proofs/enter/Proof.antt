@@ -10,84 +10,63 @@ use Rattle.slot_arrival.proofs.enter.Tie as tie
 cast-input : tie.Need-overflow_cast-input
 cast-input c = search rules
 
-count-of-requires : tie.Need-count-of-requires
+count-of-requires : tie.Need-count_of-count-requires
 count-of-requires c κs =
-    let start = c.before.before.before in
-    (table-length _ start.requires.0, omega (arith, start.requires.1.0.0, ports-below _ start.requires.0))
+    (table-length _ c.requires.0, omega (arith, c.requires.1.0.0, ports-below _ c.requires.0))
 
-new-place-requires : tie.Need-new-place-requires
+new-place-requires : tie.Need-new_place-at-requires
 new-place-requires c κs = search rules
 
-mul-move-up : tie.Need-overflow_mul-move-up
+mul-move-up : tie.Need-overflow_mul-input
 mul-move-up c = search rules
 
-add-move-up : tie.Need-overflow_add-move-up
+add-move-up : tie.Need-overflow_add-input
 add-move-up c = search rules
 
-move-up-requires : tie.Need-move-up-requires
+move-up-requires : tie.Need-move_up-requires
 move-up-requires c κs =
-    let at = c.before in
-    let count = at.before.before in
-    let start = count.before.before.before.before in
-    let input = start.requires.1.0 in
-    let below = place-within _ start.requires.0 start.args.c input.0 input.1 in
-    let ports = ports-below _ start.requires.0 in (
-      table-length _ start.requires.0,
-      omega (arith, count.count_of.ensures, at.new-place.ensures),
-      omega (arith, count.count_of.ensures),
+    let input = c.requires.1.0 in
+    let below = place-within _ c.requires.0 c.args.c input.0 input.1 in
+    let ports = ports-below _ c.requires.0 in (
+      table-length _ c.requires.0,
+      omega (arith, c.count_of-count.ensures, c.new_place-at.ensures),
+      omega (arith, c.count_of-count.ensures),
     )
 
-write-entry-requires : tie.Need-write-entry-requires
+write-entry-requires : tie.Need-write_entry-requires
 write-entry-requires c κs =
-    let moved = c.before.before.before in
-    let at = moved.before.before in
-    let counted = at.before.before in
-    let start = counted.before.before.before.before in
-    let input = start.requires.1.0 in
-    let below = place-within _ start.requires.0 start.args.c input.0 input.1 in
-    let ports = ports-below _ start.requires.0 in
-    let fits = start.requires.1.1 in (
-      (moved.move_up.auto.0 ∙ table-length _ start.requires.0, omega (arith, at.new-place.ensures)),
+    let input = c.requires.1.0 in
+    let below = place-within _ c.requires.0 c.args.c input.0 input.1 in
+    let ports = ports-below _ c.requires.0 in
+    let fits = c.requires.1.1 in (
+      (c.move_up.auto.table ∙ table-length _ c.requires.0, omega (arith, c.new_place-at.ensures)),
       (fits.0, fits.1, omega arith, omega arith),
     )
 
-add-write-count : tie.Need-overflow_add-write-count
+add-write-count : tie.Need-overflow_add-count
 add-write-count c = search rules
 
-write-count-requires : tie.Need-write-count-requires
+write-count-requires : tie.Need-write_count-requires
 write-count-requires c κs =
-    let new = c.before.before.before in
-    let moved = new.before.before.before.before in
-    let count = moved.before.before.before.before in
-    let start = count.before.before.before.before in
-    let ports = ports-below _ start.requires.0 in (
-      new.write-entry.auto.0 ∙ moved.move_up.auto.0 ∙ table-length _ start.requires.0,
-      omega (arith, start.requires.1.0.0),
-      omega (arith, count.count_of.ensures, start.requires.1.0.1),
+    let ports = ports-below _ c.requires.0 in (
+      c.write_entry.auto.bytes ∙ c.move_up.auto.table ∙ table-length _ c.requires.0,
+      omega (arith, c.requires.1.0.0),
+      omega (arith, c.count_of-count.ensures, c.requires.1.0.1),
     )
 
-same_length : tie.Need-same-length
+same_length : tie.Need-shape_of-table
 same_length c =
-    let written = c.before.before in
-    let new = written.before.before.before.before in
-    let moved = new.before.before.before.before in
-    written.write-count.auto.0 ∙ new.write-entry.auto.0 ∙ moved.move_up.auto.0
+    c.write_count.auto.bytes ∙ c.write_entry.auto.bytes ∙ c.move_up.auto.table
 
 returns : tie.Need-returns
-returns c =
-    let written = c.before.before in
-    let new = written.before.before.before.before in
-    let moved = new.before.before.before.before in
-    let at = moved.before.before in
-    let count = at.before.before in
-    let start = count.before.before.before.before in (
-      written.write-count.ensures
-          ∙ entered-bytes _ start.requires.0 _ start.requires.1.0.0 start.requires.1.0.1 at.new-place.result
-          count.count_of.result moved.move_up.new.0 new.write-entry.new.0 at.new-place.ensures
-          count.count_of.ensures moved.move_up.ensures
-          (new.write-entry.ensures ∙ new-written at.new-place.result start.args.c moved.move_up.new.0),
-      at.new-place.ensures,
-    )
+returns c = (
+  c.write_count.ensures
+      ∙ entered-bytes _ c.requires.0 _ c.requires.1.0.0 c.requires.1.0.1 c.new_place-at.result
+      c.count_of-count.result c.move_up.new.table c.write_entry.new.bytes c.new_place-at.ensures
+      c.count_of-count.ensures c.move_up.ensures
+      (c.write_entry.ensures ∙ new-written c.new_place-at.result c.args.c c.move_up.new.table),
+  c.new_place-at.ensures,
+)
 
 pub enter_spec : {M : Type 1} → statement M
 enter_spec =

@@ -14,10 +14,10 @@ use Rattle.slot_arrival.proofs.Arriving.{in-list-word}
 use Rattle.slot_arrival.proofs.in_list.Statement.{statement}
 use Rattle.slot_arrival.proofs.in_list.Tie as tie
 
-start-of-requires : tie.Need-start-of-requires
+start-of-requires : tie.Need-start_of-requires
 start-of-requires c κs = search rules
 
-read-u32-requires : tie.Need-read-u32-requires
+read-u32-requires : tie.Need-read_u32-requires
 read-u32-requires c κs = search rules
 
 add-result : tie.Need-overflow_add-result
@@ -25,20 +25,18 @@ add-result c = search rules
 
 returns : tie.Need-returns
 returns c =
-    let known = c.before.before in
-    let start = known.before in
-    let a = start.args in
+    let a = c.args in
     let bs = a.table.now in
-    let own = start.requires.1.1 in
+    let own = c.requires.1.1 in
     let e = entry_at bs a.k in
     let output : e.cell.output < 256 =
-    omega (arith, entry_at-output bs a.k, known.shared-slice-known.given (record_start a.k)) in
+    omega (arith, entry_at-output bs a.k, c.shared_slice_known-1.given (record_start a.k)) in
     let flow : e.cell.flow < 256 =
-    omega (arith, entry_at-flow bs a.k, known.shared-slice-known.given (record_start a.k + 1)) in
+    omega (arith, entry_at-flow bs a.k, c.shared_slice_known-1.given (record_start a.k + 1)) in
     let first : c.read_u32.result ≡ flow_word e.cell + 65536 * place_byte_at bs a.k =
     c.read_u32.ensures
-    ∙ ap (word bs) c.before.start_of.ensures
-    ∙ head-word bs a.k (omega (arith, start.requires.0)) start.requires.1.0 in
+    ∙ ap (word bs) c.start_of.ensures
+    ∙ head-word bs a.k (omega (arith, c.requires.0)) c.requires.1.0 in
     in-list-word a.c e (place_byte_at bs a.k) c.read_u32.result a.flow (sym (entry_at-place bs a.k)) first
     (omega arith) (omega arith) (own-flow bs a.k a.c _ _ own.0 own.2 output refl own.1)
 

@@ -10,56 +10,51 @@ use Rattle.slot_arrival.proofs.Insert.{moved_up-none, moved_up-more}
 use Rattle.slot_arrival.proofs.move_up.Statement.{statement}
 use Rattle.slot_arrival.proofs.move_up.Tie as tie
 
-abbrev invariant-loop : tie.invariant-loop
+abbrev invariant-loop : tie.invariant-loop-k
 invariant-loop table₀ at end k₀ table k =
     (at ≤ k) × (k ≤ end) × (length table ≡ length table₀)
     × (table ≡ moved_up (record_start k) (record_start end) entry_size table₀)
 
-abbrev decreases-loop : tie.decreases-loop
+abbrev decreases-loop : tie.decreases-loop-k
 decreases-loop table₀ at end k₀ table k = k
 
-loop-holds : tie.Need-loop-init invariant-loop decreases-loop
+loop-holds : tie.Need-loop-k-init invariant-loop decreases-loop
 loop-holds c = (omega arith, omega arith, refl, moved_up-none _ entry_size _)
 
 sub-k : tie.Need-overflow_sub-k invariant-loop decreases-loop
 sub-k c = omega arith
 
-add-copy-record : tie.Need-overflow_add-copy-record invariant-loop decreases-loop
+add-copy-record : tie.Need-overflow_add-k invariant-loop decreases-loop
 add-copy-record c = omega arith
 
-copy-record-requires : tie.Need-copy-record-requires invariant-loop decreases-loop
+copy-record-requires : tie.Need-copy_record-requires invariant-loop decreases-loop
 copy-record-requires c κs = (omega arith, omega arith, omega arith)
 
-loop-less : tie.Need-loop-smaller invariant-loop decreases-loop
+loop-less : tie.Need-loop-k-smaller invariant-loop decreases-loop
 loop-less c = omega arith
 
-loop-again : tie.Need-loop-preserved invariant-loop decreases-loop
+loop-again : tie.Need-loop-k-preserved invariant-loop decreases-loop
 unfolding record_at
 loop-again c =
-    let copy = c.before.before in
-    let at = copy.before.before.before in
-    let start = at.before.before in
-    let back : at.loop.k ≡ at.loop.k - 1 + 1 = omega arith in
-    let next = ap (λ n. moved_up (record_start n) (record_start start.args.end) entry_size start.args.table.now) back in (
+    let back : c.loop-k.k ≡ c.loop-k.k - 1 + 1 = omega arith in
+    let next = ap (λ n. moved_up (record_start n) (record_start c.args.end) entry_size c.args.table.now) back in (
       omega arith,
       omega arith,
-      omega (arith, copy.copy-record.auto.0),
-      copy.copy-record.ensures
-          ∙ moved_up-more (record_start (at.loop.k - 1)) (record_start (at.loop.k - 1 + 1)) (record_start start.args.end)
-          entry_size start.args.table.now at.loop.table (omega arith) (omega arith) (omega arith)
-          (at.loop.invariant.3 ∙ next),
+      omega (arith, c.copy_record.auto.bytes),
+      c.copy_record.ensures
+          ∙ moved_up-more (record_start (c.loop-k.k - 1)) (record_start (c.loop-k.k - 1 + 1)) (record_start c.args.end)
+          entry_size c.args.table.now c.loop-k.table (omega arith) (omega arith) (omega arith)
+          (c.loop-k.invariant.3 ∙ next),
     )
 
-same_length : tie.Need-same-length invariant-loop decreases-loop
-same_length c = c.before.loop.invariant.2
+same_length : tie.Need-shape_of-table invariant-loop decreases-loop
+same_length c = c.loop-k.invariant.2
 
 returns : tie.Need-returns invariant-loop decreases-loop
 returns c =
-    let at = c.before in
-    let start = at.before.before in
-    let end : at.loop.k ≡ start.args.at = omega arith in
-    at.loop.invariant.3
-    ∙ ap (λ n. moved_up (record_start n) (record_start start.args.end) entry_size start.args.table.now) end
+    let end : c.loop-k.k ≡ c.args.at = omega arith in
+    c.loop-k.invariant.3
+    ∙ ap (λ n. moved_up (record_start n) (record_start c.args.end) entry_size c.args.table.now) end
 
 pub move_up_spec : {M : Type 1} → statement M
 move_up_spec =

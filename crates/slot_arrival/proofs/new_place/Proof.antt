@@ -11,75 +11,69 @@ use Rattle.slot_faults.proofs.Stored.{table-length, ports-below, count-below}
 use Rattle.slot_arrival.proofs.new_place.Statement.{statement}
 use Rattle.slot_arrival.proofs.new_place.Tie as tie
 
-abbrev invariant-loop : tie.invariant-loop
+abbrev invariant-loop : tie.invariant-loop-k
 invariant-loop table c input first end flow k₀ k =
     (64 * c.input ≤ k) × (k ≤ 64 * c.input + count_in table c.input)
     × ((j : ℕ) → k ≤ j → j < 64 * c.input + count_in table c.input → in_list_of c (entry_at table j) ≡ false)
 
-abbrev decreases-loop : tie.decreases-loop
+abbrev decreases-loop : tie.decreases-loop-k
 decreases-loop table c input first end flow k₀ k = k
 
 cast-input : tie.Need-overflow_cast-input invariant-loop decreases-loop
-cast-input c = omega (arith, ports-below _ c.before.before.requires.0)
+cast-input c = omega (arith, ports-below _ c.requires.0)
 
 mul-first : tie.Need-overflow_mul-first invariant-loop decreases-loop
-mul-first c = omega (arith, ports-below _ c.before.before.requires.0)
+mul-first c = omega (arith, ports-below _ c.requires.0)
 
-end-of-requires : tie.Need-end-of-requires invariant-loop decreases-loop
+end-of-requires : tie.Need-end_of-end-requires invariant-loop decreases-loop
 end-of-requires c κs =
-    (table-length _ c.before.before.requires.0, omega (arith, ports-below _ c.before.before.requires.0))
+    (table-length _ c.requires.0, omega (arith, ports-below _ c.requires.0))
 
-flow-word-requires : tie.Need-flow-word-requires invariant-loop decreases-loop
-flow-word-requires c κs = c.before.before.before.requires.1.1
+flow-word-requires : tie.Need-flow_word-flow-requires invariant-loop decreases-loop
+flow-word-requires c κs = c.requires.1.1
 
-loop-holds : tie.Need-loop-init invariant-loop decreases-loop
+loop-holds : tie.Need-loop-k-init invariant-loop decreases-loop
 loop-holds c =
-    let end = c.before.end_of_lem.ensures in
+    let end = c.end_of-end.ensures in
     (omega arith, omega (arith, end), λ j a b. absurd (omega (arith, end)))
 
-sub-in-list : tie.Need-overflow_sub-in-list invariant-loop decreases-loop
+sub-in-list : tie.Need-overflow_sub-k invariant-loop decreases-loop
 sub-in-list c = omega arith
 
-in-list-requires : tie.Need-in-list-requires invariant-loop decreases-loop
+in-list-requires : tie.Need-in_list-requires invariant-loop decreases-loop
 in-list-requires c κs =
-    let flow = c.before.before in
-    let start = flow.before.before.before.before in
-    let ports = ports-below _ start.requires.0 in
-    let few = count-below _ start.requires.0 _ start.requires.1.0 in (
-      (table-length _ start.requires.0, omega (arith, start.requires.1.0)),
+    let ports = ports-below _ c.requires.0 in
+    let few = count-below _ c.requires.0 _ c.requires.1.0 in (
+      (table-length _ c.requires.0, omega (arith, c.requires.1.0)),
       (
-        decode-record _ _ start.requires.0 _
-            (in_table-number _ _ start.requires.0 _ _ start.requires.1.0 (omega arith) (omega (arith, c.before.loop.invariant.1))),
-        (omega (arith, start.requires.1.0), flow.flow-word.ensures, start.requires.1.1.0),
+        decode-record _ _ c.requires.0 _
+            (in_table-number _ _ c.requires.0 _ _ c.requires.1.0 (omega arith) (omega (arith, c.loop-k.invariant.1))),
+        (omega (arith, c.requires.1.0), c.flow_word-flow.ensures, c.requires.1.1.0),
       ),
     )
 
-returns : tie.Need-returns invariant-loop decreases-loop
+returns : tie.Need-returns-then-in_list invariant-loop decreases-loop
 returns c =
-    let at = c.before.before.before in
-    let start = at.before.before.before.before.before in
-    place_found _ start.requires.0 _ start.requires.1.0 at.loop.k c.before.before.loop-test.true at.loop.invariant.1
-    (sym c.before.in_list.ensures ∙ c.if1.true) at.loop.invariant.2
+    place_found _ c.requires.0 _ c.requires.1.0 c.loop-k.k c.loop-k-test.true c.loop-k.invariant.1
+    (sym c.in_list.ensures ∙ c.if-in_list.true) c.loop-k.invariant.2
 
-sub-k : tie.Need-overflow_sub-k invariant-loop decreases-loop
+sub-k : tie.Need-overflow_sub-k-in-loop-k invariant-loop decreases-loop
 sub-k c = omega arith
 
-loop-less : tie.Need-loop-smaller invariant-loop decreases-loop
+loop-less : tie.Need-loop-k-smaller invariant-loop decreases-loop
 loop-less c = omega arith
 
-loop-again : tie.Need-loop-preserved invariant-loop decreases-loop
+loop-again : tie.Need-loop-k-preserved invariant-loop decreases-loop
 loop-again c =
-    let at = c.before.before.before.loop in (
+    let at = c.loop-k in (
       omega arith,
       omega arith,
-      above_more _ at.k (omega arith) (λ b. sym c.before.in_list.ensures ∙ c.if1.false) at.invariant.2,
+      above_more _ at.k (omega arith) (λ b. sym c.in_list.ensures ∙ c.if-in_list.false) at.invariant.2,
     )
 
-returns-2 : tie.Need-returns-2 invariant-loop decreases-loop
+returns-2 : tie.Need-returns invariant-loop decreases-loop
 returns-2 c =
-    let at = c.before in
-    let start = at.before.before.before.before.before in
-    place_none _ start.requires.0 _ start.requires.1.0 (λ j a b. at.loop.invariant.2 j (omega arith) b)
+    place_none _ c.requires.0 _ c.requires.1.0 (λ j a b. c.loop-k.invariant.2 j (omega arith) b)
 
 pub new_place_spec : {M : Type 1} → statement M
 new_place_spec =

@@ -10,10 +10,10 @@ use Rattle.sets.specs.Code.{with_one}
 use Rattle.slot_arrival.proofs.open_sets.Statement.{statement}
 use Rattle.slot_arrival.proofs.open_sets.Tie as tie
 
-mul-open : tie.Need-overflow_mul-open
+mul-open : tie.Need-offset_bounds-listed-input
 mul-open c = search rules
 
-element-copy-out-open : tie.Need-element-copy-out-open
+element-copy-out-open : tie.Need-bounds-listed-input
 element-copy-out-open c = search rules
 
 open-requires : tie.Need-open-requires
@@ -22,77 +22,70 @@ open-requires c κs = search rules
 with-requires : tie.Need-with-requires
 with-requires c κs = search rules
 
-mul-listed : tie.Need-overflow_mul-listed
+mul-listed : tie.Need-offset_bounds-listed-input-2
 mul-listed c = search rules
 
-element-write-listed : tie.Need-element-write-listed
+element-write-listed : tie.Need-bounds-listed-input-2
 element-write-listed c = search rules
 
-mul-open-2 : tie.Need-overflow_mul-open-2
+mul-open-2 : tie.Need-offset_bounds-heads-input
 mul-open-2 c = search rules
 
-element-copy-out-open-2 : tie.Need-element-copy-out-open-2
+element-copy-out-open-2 : tie.Need-bounds-heads-input
 element-copy-out-open-2 c = search rules
 
 open-requires-2 : tie.Need-open-requires-2
 open-requires-2 c κs = search rules
 
-with-if-requires : tie.Need-with-if-requires
+with-if-requires : tie.Need-with_if-requires
 with-if-requires c κs = search rules
 
-mul-heads : tie.Need-overflow_mul-heads
+mul-heads : tie.Need-offset_bounds-heads-input-2
 mul-heads c = search rules
 
-element-write-heads : tie.Need-element-write-heads
+element-write-heads : tie.Need-bounds-heads-input-2
 element-write-heads c = search rules
 
-mul-open-3 : tie.Need-overflow_mul-open-3
+mul-open-3 : tie.Need-offset_bounds-crossed-input
 mul-open-3 c = search rules
 
-element-copy-out-open-3 : tie.Need-element-copy-out-open-3
+element-copy-out-open-3 : tie.Need-bounds-crossed-input
 element-copy-out-open-3 c = search rules
 
 open-requires-3 : tie.Need-open-requires-3
 open-requires-3 c κs = search rules
 
-mul-crossed : tie.Need-overflow_mul-crossed
+mul-crossed : tie.Need-offset_bounds-crossed-input-2
 mul-crossed c = search rules
 
-element-write-crossed : tie.Need-element-write-crossed
+element-write-crossed : tie.Need-bounds-crossed-input-2
 element-write-crossed c = search rules
 
-mul-open-4 : tie.Need-overflow_mul-open-4
+mul-open-4 : tie.Need-offset_bounds-buffered-input
 mul-open-4 c = search rules
 
-element-copy-out-open-4 : tie.Need-element-copy-out-open-4
+element-copy-out-open-4 : tie.Need-bounds-buffered-input
 element-copy-out-open-4 c = search rules
 
 open-requires-4 : tie.Need-open-requires-4
 open-requires-4 c κs = search rules
 
-mul-buffered : tie.Need-overflow_mul-buffered
+mul-buffered : tie.Need-offset_bounds-buffered-input-2
 mul-buffered c = search rules
 
-element-write-buffered : tie.Need-element-write-buffered
+element-write-buffered : tie.Need-bounds-buffered-input-2
 element-write-buffered c = search rules
 
 returns : tie.Need-returns
 returns c =
-    let fourth = c in
-    let third = fourth.before.before in
-    let maybe = third.before.before in
-    let second = maybe.before in
-    let one = second.before.before in
-    let first = one.before in
-    let start = first.before.before in
-    let a = start.args in
+    let a = c.args in
     let put : List ℕ → ℕ → List ℕ = λ l s. set l a.input s in (
-      ap (put a.listed.now) (one.with.ensures ∙ ap (λ s. with_one s a.position) first.open.ensures),
+      ap (put a.listed.now) (c.with.ensures ∙ ap (λ s. with_one s a.position) c.open.ensures),
       (
         ap (put a.heads.now)
-            (maybe.with-if.ensures
-            ∙ ap (λ s. cond (eqb a.position 0) (with_one s a.position) s) second.open2.ensures),
-        (ap (put a.crossed.now) third.open3.ensures, ap (put a.buffered.now) fourth.open4.ensures),
+            (c.with_if.ensures
+            ∙ ap (λ s. cond (eqb a.position 0) (with_one s a.position) s) c.open-2.ensures),
+        (ap (put a.crossed.now) c.open-3.ensures, ap (put a.buffered.now) c.open-4.ensures),
       ),
     )
 

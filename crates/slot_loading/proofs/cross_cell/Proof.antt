@@ -17,13 +17,12 @@ readable t = table-readable t.args.table.now t.requires.0
 small : (t : tie.Start) → t.args.k < entry_limit
 small t = in_table-below (readable t) t.requires.1.0.entry
 
-column : (c : tie.After-output-of) → c.output-of.result < 16
+column : (c : tie.After-output_of-output) → c.output_of-output.result < 16
 column c =
-    let start = c.before.before in
-    let r = readable start in
-    omega (arith, c.output-of.ensures, r.outputs start.args.k start.requires.1.0.entry, r.ports)
+    let r = readable c.before.before in
+    omega (arith, c.output_of-output.ensures, r.outputs c.args.k c.requires.1.0.entry, r.ports)
 
-output-of-requires : tie.Need-output-of-requires
+output-of-requires : tie.Need-output_of-output-requires
 output-of-requires c κs = ((readable c.before).size, small c.before)
 
 cast-output : tie.Need-overflow_cast-output
@@ -32,41 +31,40 @@ cast-output c = search rules
 cast-cross : tie.Need-overflow_cast-cross
 cast-cross c = omega (arith, small c.before.before)
 
-mul-cross : tie.Need-overflow_mul-cross
+mul-cross : tie.Need-offset_bounds-cross-input
 mul-cross c = omega (arith, small c.before.before, column c)
 
-mul-cross-2 : tie.Need-overflow_mul-cross-2
+mul-cross-2 : tie.Need-offset_bounds-cross-output
 mul-cross-2 c = omega (arith, small c.before.before, column c)
 
-index-1-cross : tie.Need-bounds-1-cross
+index-1-cross : tie.Need-bounds-cross-input
 index-1-cross c = omega (arith, small c.before.before, column c)
 
-index-2-cross : tie.Need-bounds-2-cross
+index-2-cross : tie.Need-bounds-cross-output
 index-2-cross c = omega (arith, small c.before.before, column c)
 
-key-of-requires : tie.Need-key-of-requires
+key-of-requires : tie.Need-key_of-requires
 key-of-requires c κs = ((readable c.before.before).size, small c.before.before)
 
-mul-keys : tie.Need-overflow_mul-keys
+mul-keys : tie.Need-offset_bounds-keys-output
 mul-keys c = omega (arith, small c.before.before.before, column c.before)
 
-mul-keys-2 : tie.Need-overflow_mul-keys-2
+mul-keys-2 : tie.Need-offset_bounds-keys-input
 mul-keys-2 c = omega (arith, small c.before.before.before, column c.before)
 
-index-1-keys : tie.Need-bounds-1-keys
+index-1-keys : tie.Need-bounds-keys-output
 index-1-keys c = omega (arith, small c.before.before.before, column c.before)
 
-index-2-keys : tie.Need-bounds-2-keys
+index-2-keys : tie.Need-bounds-keys-input
 index-2-keys c = omega (arith, small c.before.before.before, column c.before)
 
 returns : tie.Need-returns
 unfolding cross_with
 returns c =
-    let output = c.before.output-of in
-    let start = c.before.before.before in
-    let a = start.args in
-    crossed-put a.table.now start.requires.0 a.k output.result c.key_of.result start.requires.1.0
-    output.ensures c.key_of.ensures a.cross.now a.keys.now start.requires.1.1
+    let output = c.output_of-output in
+    let a = c.args in
+    crossed-put a.table.now c.requires.0 a.k output.result c.key_of.result c.requires.1.0
+    output.ensures c.key_of.ensures a.cross.now a.keys.now c.requires.1.1
 
 pub cross_cell_spec : {M : Type 1} → statement M
 cross_cell_spec =

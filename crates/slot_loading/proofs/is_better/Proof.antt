@@ -11,38 +11,34 @@ use Rattle.slot_loading.proofs.Buffers.{key-held, better-order, better-key}
 use Rattle.slot_loading.proofs.is_better.Statement.{statement}
 use Rattle.slot_loading.proofs.is_better.Tie as tie
 
-returns : tie.Need-returns
+returns : tie.Need-returns-then-key-rival
 returns c =
-    let start = c.before.before in
-    let a = start.args in
-    let pre = start.requires in
+    let a = c.args in
+    let pre = c.requires in
     better-key a.table.now pre.0 a.k a.held pre.1.0
-    (λ e. c.if1.true (pre.1.1.0 ∙ e ∙ sym pre.1.1.1))
+    (λ e. c.if-key-rival.true (pre.1.1.0 ∙ e ∙ sym pre.1.1.1))
     ∙ ap (λ b. cond b a.k a.held) (sym (ap₂ ltb pre.1.1.0 pre.1.1.1))
 
 -- the other is a cell
-held_below : (c : tie.Else1) → c.before.before.args.held < entry_limit
+held_below : (c : tie.Else-key-rival) → c.args.held < entry_limit
 held_below c =
-    let start = c.before.before in
-    let a = start.args in
-    let pre = start.requires in
-    key-held a.table.now pre.0 a.k a.held pre.1.0 (sym pre.1.1.0 ∙ c.if1.false ∙ pre.1.1.1)
+    let a = c.args in
+    let pre = c.requires in
+    key-held a.table.now pre.0 a.k a.held pre.1.0 (sym pre.1.1.0 ∙ c.if-key-rival.false ∙ pre.1.1.1)
 
-goes-first-requires : tie.Need-goes-first-requires
+goes-first-requires : tie.Need-goes_first-requires
 goes-first-requires c κs =
-    let start = c.before.before in
-    let a = start.args in
-    let pre = start.requires in
+    let a = c.args in
+    let pre = c.requires in
     let readable = table-readable a.table.now pre.0 in (
       (readable.size, in_table-below readable pre.1.0, held_below c),
       (pre.1.1.0, pre.1.1.1 ∙ key_at-cell a.table.now a.held (held_below c)),
     )
 
-returns-2 : tie.Need-returns-2
+returns-2 : tie.Need-returns
 returns-2 c =
-    let start = c.before.before.before in
-    let a = start.args in
-    let pre = start.requires in
+    let a = c.args in
+    let pre = c.requires in
     better-order a.table.now pre.0 a.k a.held pre.1.0 (held_below c.before) c.goes_first.result
     c.goes_first.ensures
 

@@ -9,82 +9,73 @@ use Rattle.slot_loading.proofs.Loaded.{loaded-start, loaded-end}
 use Rattle.slot_loading.proofs.load.Statement.{statement}
 use Rattle.slot_loading.proofs.load.Tie as tie
 
-abbrev invariant-loop : tie.invariant-loop
+abbrev invariant-loop : tie.invariant-loop-input
 invariant-loop table crossed buffered cross₀ keys₀ best₀ rivals₀ ports input₀ cross keys best rivals input =
     (input ≤ ports_in table) × LoadedBelow table input cross keys best rivals
 
-abbrev decreases-loop : tie.decreases-loop
+abbrev decreases-loop : tie.decreases-loop-input
 decreases-loop table crossed buffered cross₀ keys₀ best₀ rivals₀ ports input₀ cross keys best rivals input =
     ports - input
 
 -- the turn, from behind its first call
-abbrev turn : tie.After-load-crossed invariant-loop decreases-loop → tie.In-loop invariant-loop decreases-loop
-turn c = c.before.before.before.before
+abbrev turn : tie.After-load_crossed invariant-loop decreases-loop → tie.In-loop-input invariant-loop decreases-loop
+turn c = c.before.before.before.before.before
 
 -- the input of a turn is one of the switch's
-port : (c : tie.In-loop invariant-loop decreases-loop)
-    → c.before.loop.input < ports_in c.before.before.before.before.args.table.now
-port c = omega (arith, c.loop-test.true, c.before.before.ports-of.ensures)
+port : (c : tie.In-loop-input invariant-loop decreases-loop)
+    → c.loop-input.input < ports_in c.args.table.now
+port c = omega (arith, c.loop-input-test.true, c.ports_of-ports.ensures)
 
-low : (c : tie.In-loop invariant-loop decreases-loop) → c.before.loop.input < 16
+low : (c : tie.In-loop-input invariant-loop decreases-loop) → c.loop-input.input < 16
 low c =
-    let start = c.before.before.before.before in
-    omega (arith, port c, (table-readable start.args.table.now start.requires.0).ports)
+    omega (arith, port c, (table-readable c.args.table.now c.requires.0).ports)
 
-ports-of-requires : tie.Need-ports-of-requires invariant-loop decreases-loop
-ports-of-requires c κs = (table-readable _ c.before.requires.0).size
+ports-of-requires : tie.Need-ports_of-ports-requires invariant-loop decreases-loop
+ports-of-requires c κs = (table-readable _ c.requires.0).size
 
-loop-holds : tie.Need-loop-init invariant-loop decreases-loop
+loop-holds : tie.Need-loop-input-init invariant-loop decreases-loop
 loop-holds c =
-    let start = c.before.before in
-    let a = start.args in
-    (omega arith, loaded-start a.table.now a.cross.now a.keys.now a.best.now start.requires.1.1.1)
+    let a = c.args in
+    (omega arith, loaded-start a.table.now a.cross.now a.keys.now a.best.now c.requires.1.1.1)
 
-mul-load-crossed : tie.Need-overflow_mul-load-crossed invariant-loop decreases-loop
+mul-load-crossed : tie.Need-offset_bounds-crossed-input invariant-loop decreases-loop
 mul-load-crossed c = omega (arith, low c)
 
-element-copy-out-load-crossed : tie.Need-element-copy-out-load-crossed invariant-loop decreases-loop
-element-copy-out-load-crossed c = low c
+element-copy-out-load-crossed : tie.Need-bounds-crossed-input invariant-loop decreases-loop
+element-copy-out-load-crossed c = low c.before
 
-load-crossed-requires : tie.Need-load-crossed-requires invariant-loop decreases-loop
+load-crossed-requires : tie.Need-load_crossed-requires invariant-loop decreases-loop
 load-crossed-requires c κs =
-    let in-loop = c.before.before.before in
-    let l = in-loop.before.loop in
-    let start = in-loop.before.before.before.before in
-    (start.requires.0, (port in-loop, (start.requires.1.0 l.input (low in-loop), l.invariant.1.crossed)))
+    let l = c.loop-input in
+    (c.requires.0, (port c.before.before.before.before, (c.requires.1.0 l.input (low c.before.before.before.before), l.invariant.1.crossed)))
 
-mul-load-buffered : tie.Need-overflow_mul-load-buffered invariant-loop decreases-loop
-mul-load-buffered c = omega (arith, low (turn c))
+mul-load-buffered : tie.Need-offset_bounds-buffered-input invariant-loop decreases-loop
+mul-load-buffered c = omega (arith, low c.before.before.before.before.before)
 
-element-copy-out-load-buffered : tie.Need-element-copy-out-load-buffered invariant-loop decreases-loop
-element-copy-out-load-buffered c = low (turn c)
+element-copy-out-load-buffered : tie.Need-bounds-buffered-input invariant-loop decreases-loop
+element-copy-out-load-buffered c = low c.before.before.before.before.before.before
 
-load-buffered-requires : tie.Need-load-buffered-requires invariant-loop decreases-loop
+load-buffered-requires : tie.Need-load_buffered-requires invariant-loop decreases-loop
 load-buffered-requires c κs =
-    let in-loop = turn c.before.before.before in
-    let l = in-loop.before.loop in
-    let start = in-loop.before.before.before.before in
-    (start.pre.0, (port in-loop, (start.pre.1.1.0 l.input (low in-loop), l.inv.1.bests)))
+    let l = c.loop-input in
+    (c.requires.0, (port c.before.before.before.before.before.before.before.before.before, (c.requires.1.1.0 l.input (low c.before.before.before.before.before.before.before.before.before), l.invariant.1.bests)))
 
 add-input : tie.Need-overflow_add-input invariant-loop decreases-loop
-add-input c = omega (arith, low (turn c.before.before.before.before))
+add-input c = omega (arith, low c.before.before.before.before.before.before.before.before.before.before)
 
-loop-less : tie.Need-loop-smaller invariant-loop decreases-loop
-loop-less c = omega (arith, (turn c.before.before.before.before).loop-test.taken)
+loop-less : tie.Need-loop-input-smaller invariant-loop decreases-loop
+loop-less c = omega (arith, c.loop-input-test.true)
 
-loop-again : tie.Need-loop-preserved invariant-loop decreases-loop
+loop-again : tie.Need-loop-input-preserved invariant-loop decreases-loop
 loop-again c =
-    let crossed = c.before.before.before.before in
-    let in-loop = turn crossed in
-    (omega (arith, port in-loop), record { crossed = crossed.load-crossed.ensures; bests = c.load-buffered.ensures })
+    (omega (arith, port c.before.before.before.before.before.before.before.before.before.before), record { crossed = c.load_crossed.ensures; bests = c.load_buffered.ensures })
 
 returns : tie.Need-returns invariant-loop decreases-loop
 returns c =
-    let start = c.before.before.before.before in
-    let table = start.args.table.now in
-    let l = c.before.loop in
-    let all : l.input ≡ ports_in table = omega (arith, c.loop-test.false, c.before.before.ports-of.ensures, l.invariant.0) in
-    loaded-end table start.requires.0 l.cross l.keys l.best l.rivals
+    let table = c.args.table.now in
+    let l = c.loop-input in
+    let all : l.input ≡ ports_in table = omega (arith, c.loop-input-test.false, c.ports_of-ports.ensures, l.invariant.0) in
+    loaded-end table c.requires.0 l.cross l.keys l.best l.rivals
     (subst (λ n. LoadedBelow table n l.cross l.keys l.best l.rivals) all l.invariant.1)
 
 pub load_spec : {M : Type 1} → statement M

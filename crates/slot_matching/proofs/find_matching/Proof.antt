@@ -15,100 +15,90 @@ use Rattle.slot_matching.proofs.Found.{found}
 use Rattle.slot_matching.proofs.find_matching.Statement.{statement}
 use Rattle.slot_matching.proofs.find_matching.Tie as tie
 
-abbrev invariant-loop2 : tie.invariant-loop2
+abbrev invariant-loop2 : tie.invariant-loop-asked
 invariant-loop2 table left₀ held₀ proposals₀ input asked₀ left held proposals asked =
     (candidates : List ℕ) → ToOutputs table (numbers_of candidates)
     → Asking table candidates left₀ held₀ (input + 1) asked₀ proposals₀
     → Asking table candidates left held (input + 1) asked proposals
 
-abbrev decreases-loop2 : tie.decreases-loop2
+abbrev decreases-loop2 : tie.decreases-loop-asked
 decreases-loop2 table left₀ held₀ proposals₀ input asked₀ left held proposals asked = entry_limit - proposals
 
 -- nobody is to propose
-abbrev invariant-loop : tie.invariant-loop
+abbrev invariant-loop : tie.invariant-loop-input
 invariant-loop table candidates held₀ proposals₀ input₀ left held proposals input =
     ((k : ℕ) × Asking table candidates left held input k proposals × (nowhere ≤ k)) × (input ≤ 16)
 
-abbrev decreases-loop : tie.decreases-loop
+abbrev decreases-loop : tie.decreases-loop-input
 decreases-loop table candidates held₀ proposals₀ input₀ left held proposals input = 16 - input
 
 abbrev At-loop2 : Type 0
-At-loop2 = tie.At-loop2 invariant-loop2 decreases-loop2 invariant-loop decreases-loop
-
-abbrev In-loop2 : Type 0
-In-loop2 = tie.In-loop2 invariant-loop2 decreases-loop2 invariant-loop decreases-loop
-
-abbrev start : At-loop2 → tie.Start invariant-loop2 decreases-loop2 invariant-loop decreases-loop
-start c = c.before.before.before.before.before
+At-loop2 = tie.At-loop-asked invariant-loop2 decreases-loop2 invariant-loop decreases-loop
 
 -- what holds at the head of the inner loop
 asking : (c : At-loop2)
-    → Asking (start c).args.table.now (start c).args.candidates c.loop2.left c.loop2.held
-    (c.before.before.before.loop.input + 1) c.loop2.asked c.loop2.proposals
+    → Asking c.args.table.now c.args.candidates c.loop-asked.left c.loop-asked.held
+    (c.loop-input.input + 1) c.loop-asked.asked c.loop-asked.proposals
 asking c =
-    let l = c.before.before.before.loop in
-    let more : l.input < 16 = omega (arith, c.before.before.loop-test.true) in
-    c.loop2.invariant _ (start c).requires.1
-    (rw c.before.next-in.ensures
-    (asking-next _ _ (start c).requires.1 _ _ _ _ _ l.invariant.0.1 l.invariant.0.2 more))
+    let l = c.loop-input in
+    let more : l.input < 16 = omega (arith, c.loop-input-test.true) in
+    c.loop-asked.invariant _ c.requires.1
+    (rw c.next_in-asked.ensures
+    (asking-next _ _ c.requires.1 _ _ _ _ _ l.invariant.0.1 l.invariant.0.2 more))
 
-loop-holds : tie.Need-loop-init invariant-loop2 decreases-loop2 invariant-loop decreases-loop
+loop-holds : tie.Need-loop-input-init invariant-loop2 decreases-loop2 invariant-loop decreases-loop
 loop-holds c =
-    ((entry_limit, asking-start _ _ c.before.requires.1 c.before.well-formed.1.0.1.0.1, omega arith), omega arith)
+    ((entry_limit, asking-start _ _ c.requires.1 c.well_formed.1.0.1.0.1, omega arith), omega arith)
 
-mul-next-in : tie.Need-overflow_mul-next-in invariant-loop2 decreases-loop2 invariant-loop decreases-loop
+mul-next-in : tie.Need-offset_bounds-left-input invariant-loop2 decreases-loop2 invariant-loop decreases-loop
 mul-next-in c = search rules
 
-array-read-next-in : tie.Need-array-read-next-in invariant-loop2 decreases-loop2 invariant-loop decreases-loop
+array-read-next-in : tie.Need-bounds-left-input invariant-loop2 decreases-loop2 invariant-loop decreases-loop
 array-read-next-in c = search rules
 
-next-in-requires : tie.Need-next-in-requires invariant-loop2 decreases-loop2 invariant-loop decreases-loop
+next-in-requires : tie.Need-next_in-asked-requires invariant-loop2 decreases-loop2 invariant-loop decreases-loop
 next-in-requires c κs = search rules
 
-loop2-holds : tie.Need-loop2-init invariant-loop2 decreases-loop2 invariant-loop decreases-loop
+loop2-holds : tie.Need-loop-asked-init invariant-loop2 decreases-loop2 invariant-loop decreases-loop
 loop2-holds c = λ candidates to a. a
 
-propose-requires : tie.Need-propose-requires invariant-loop2 decreases-loop2 invariant-loop decreases-loop
+propose-requires : tie.Need-propose-asked-requires invariant-loop2 decreases-loop2 invariant-loop decreases-loop
 propose-requires c κs =
-    let l : In-loop2 = c.before.before in
-    let to = (start l.before).pre in (
-      to.0,
-      l.loop2-test.true,
-      asked-output _ _ to.1 _ _ _ _ _ (asking l.before) l.loop2-test.true,
-    )
+    let at : At-loop2 = c.before.before.before in
+    let asks = c.loop-asked-test.true in
+    (c.requires.0, asks, asked-output _ _ c.requires.1 _ _ _ _ _ (asking at) asks)
 
 add-proposals : tie.Need-overflow_add-proposals invariant-loop2 decreases-loop2 invariant-loop decreases-loop
 add-proposals c =
     let l : At-loop2 = c.before.before.before.before in
-    record { fits = omega (arith, asking-few _ _ (start l).requires.1 _ _ _ _ _ (asking l)) }
+    record { fits = omega (arith, asking-few _ _ c.requires.1 _ _ _ _ _ (asking l)) }
 
-loop2-less : tie.Need-loop2-smaller invariant-loop2 decreases-loop2 invariant-loop decreases-loop
+loop2-less : tie.Need-loop-asked-smaller invariant-loop2 decreases-loop2 invariant-loop decreases-loop
 loop2-less c =
-    let l : In-loop2 = c.before.before.before in
-    let to = (start l.before).pre.1 in
-    let a = asking-after _ _ to _ _ _ _ _ (asking l.before) l.loop2-test.true _ _ _ c.propose.ensures in
+    let at : At-loop2 = c.before.before.before.before in
+    let to = c.requires.1 in
+    let a = asking-after _ _ to _ _ _ _ _ (asking at) c.loop-asked-test.true _ _ _ c.propose-asked.ensures in
     omega (arith, asking-few _ _ to _ _ _ _ _ a)
 
-loop2-again : tie.Need-loop2-preserved invariant-loop2 decreases-loop2 invariant-loop decreases-loop
+loop2-again : tie.Need-loop-asked-preserved invariant-loop2 decreases-loop2 invariant-loop decreases-loop
 loop2-again c = λ candidates to a.
-    let l : In-loop2 = c.before.before.before in
-    asking-after _ _ to _ _ _ _ _ (l.before.loop2.invariant candidates to a) l.loop2-test.true _ _ _
-    c.propose.ensures
+    asking-after _ _ to _ _ _ _ _ (c.loop-asked.invariant candidates to a) c.loop-asked-test.true _ _ _
+    c.propose-asked.ensures
 
 add-input : tie.Need-overflow_add-input invariant-loop2 decreases-loop2 invariant-loop decreases-loop
 add-input c = search rules
 
-loop-less : tie.Need-loop-smaller invariant-loop2 decreases-loop2 invariant-loop decreases-loop
+loop-less : tie.Need-loop-input-smaller invariant-loop2 decreases-loop2 invariant-loop decreases-loop
 loop-less c = omega arith
 
-loop-again : tie.Need-loop-preserved invariant-loop2 decreases-loop2 invariant-loop decreases-loop
-loop-again c = ((_, asking c.before, c.loop2-test.false), omega (arith, c.before.before.before.loop-test.true))
+loop-again : tie.Need-loop-input-preserved invariant-loop2 decreases-loop2 invariant-loop decreases-loop
+loop-again c = ((_, asking c.before, c.loop-asked-test.false), omega (arith, c.loop-input-test.true))
 
 returns : tie.Need-returns invariant-loop2 decreases-loop2 invariant-loop decreases-loop
 returns c =
-    let l = c.before.loop in
-    let all : l.input ≡ 16 = omega (arith, l.invariant.1, c.loop-test.false) in
-    found _ _ c.before.before.before.requires.1 _ _ _ _ (rw all at l.invariant.0.1) l.invariant.0.2
+    let l = c.loop-input in
+    let all : l.input ≡ 16 = omega (arith, l.invariant.1, c.loop-input-test.false) in
+    found _ _ c.requires.1 _ _ _ _ (rw all at l.invariant.0.1) l.invariant.0.2
 
 pub find_matching_spec : {M : Type 1} → statement M
 find_matching_spec =

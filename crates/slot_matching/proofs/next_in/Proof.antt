@@ -10,8 +10,8 @@ use Rattle.slot_matching.proofs.Numbers.{next-none, next-some}
 use Rattle.slot_matching.proofs.next_in.Statement.{statement}
 use Rattle.slot_matching.proofs.next_in.Tie as tie
 
-returns : tie.Need-returns
-returns c = sym (ap (λ s. next_in s c.before.args.input) c.if1.true ∙ next-none c.before.args.input)
+returns : tie.Need-returns-then-set-eq0
+returns c = sym (ap (λ s. next_in s c.args.input) c.if-set-eq0.true ∙ next-none c.args.input)
 
 mul-result : tie.Need-overflow_mul-result
 mul-result c = search rules
@@ -31,7 +31,7 @@ add-result c = omega (arith, small c)
 cast-result : tie.Need-overflow_cast-result
 cast-result c = omega (arith, small c)
 
-returns-2 : tie.Need-returns-2
+returns-2 : tie.Need-returns
 returns-2 c =
     let s : tie.Start = c.before.before in
     ap (λ f. 64 * s.args.input + f) c.first.ensures

@@ -8,31 +8,30 @@ use Rattle.slot_matching.specs.CodeProposing.{next_in, rest, without}
 use Rattle.slot_matching.proofs.refuse.Statement.{statement}
 use Rattle.slot_matching.proofs.refuse.Tie as tie
 
-mul-without : tie.Need-overflow_mul-without
+mul-without : tie.Need-offset_bounds-left-input
 mul-without c = search rules
 
-element-copy-out-without : tie.Need-element-copy-out-without
+element-copy-out-without : tie.Need-bounds-left-input
 element-copy-out-without c = search rules
 
-without-requires : tie.Need-without-requires
+without-requires : tie.Need-without-rest-requires
 without-requires c κs = search rules
 
-mul_left : tie.Need-overflow_mul-left
+mul_left : tie.Need-offset_bounds-left-input-2
 mul_left c = search rules
 
-element-write-left : tie.Need-element-write-left
+element-write-left : tie.Need-bounds-left-input-2
 element-write-left c = search rules
 
-next-in-requires : tie.Need-next-in-requires
+next-in-requires : tie.Need-next_in-requires
 next-in-requires c κs = search rules
 
 returns : tie.Need-returns
 unfolding rest without
 returns c =
-    let s : tie.Start = c.before.before.before in
     record {
-      others = ap (set s.args.left.now (s.args.k / 64)) c.before.without.ensures;
-      goes_on = c.next-in.ensures ∙ ap (λ set. next_in set (s.args.k / 64)) c.before.without.ensures;
+      others = ap (set c.args.left.now (c.args.k / 64)) c.without-rest.ensures;
+      goes_on = c.next_in.ensures ∙ ap (λ set. next_in set (c.args.k / 64)) c.without-rest.ensures;
     }
 
 pub refuse_spec : {M : Type 1} → statement M

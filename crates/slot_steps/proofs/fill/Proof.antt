@@ -5,28 +5,28 @@ use Rattle.slot_view.specs.CodeView.{cross_with}
 use Rattle.slot_steps.proofs.fill.Statement.{statement}
 use Rattle.slot_steps.proofs.fill.Tie as tie
 
-mul-cross : tie.Need-overflow_mul-cross
+mul-cross : tie.Need-offset_bounds-cross-input
 mul-cross c = search rules
 
-mul-cross-2 : tie.Need-overflow_mul-cross-2
+mul-cross-2 : tie.Need-offset_bounds-cross-output
 mul-cross-2 c = search rules
 
-index-1-cross : tie.Need-bounds-1-cross
+index-1-cross : tie.Need-bounds-cross-input
 index-1-cross c = search rules
 
-index-2-cross : tie.Need-bounds-2-cross
+index-2-cross : tie.Need-bounds-cross-output
 index-2-cross c = search rules
 
-mul-keys : tie.Need-overflow_mul-keys
+mul-keys : tie.Need-offset_bounds-keys-output
 mul-keys c = search rules
 
-mul-keys-2 : tie.Need-overflow_mul-keys-2
+mul-keys-2 : tie.Need-offset_bounds-keys-input
 mul-keys-2 c = search rules
 
-index-1-keys : tie.Need-bounds-1-keys
+index-1-keys : tie.Need-bounds-keys-output
 index-1-keys c = search rules
 
-index-2-keys : tie.Need-bounds-2-keys
+index-2-keys : tie.Need-bounds-keys-input
 index-2-keys c = search rules
 
 returns : tie.Need-returns

@@ -9,68 +9,65 @@ use borrow.Author.Rules.{rules}
 use Rattle.slot_steps.proofs.heads_left.Statement.{statement}
 use Rattle.slot_steps.proofs.heads_left.Tie as tie
 
-without-requires : tie.Need-without-requires
+without-requires : tie.Need-without-others-requires
 without-requires c κs = search rules
 
-without-requires-2 : tie.Need-without-requires-2
+without-requires-2 : tie.Need-without-requires
 without-requires-2 c κs = search rules
 
 from-requires : tie.Need-from-requires
 from-requires c κs = search rules
 
-first-requires : tie.Need-first-requires
+first-requires : tie.Need-first-next-requires
 first-requires c κs = search rules
 
-abbrev start : tie.After-first → tie.Start
+abbrev start : tie.After-first-next → tie.Start
 start c = c.before.before.before.before.before
 
 -- the position that was found
-next : (c : tie.After-first)
-    → let a = (start c).args in
-    c.first.result ≡ next_of a.list (a.k % 64)
+next : (c : tie.After-first-next)
+    → let a = c.args in
+    c.first-next.result ≡ next_of a.list (a.k % 64)
 next c =
-    let a = (start c).args in
-    next-is a.list (a.k % 64) c.before.before.without2.ensures c.before.from.ensures c.first.ensures
+    let a = c.args in
+    next-is a.list (a.k % 64) c.without.ensures c.from.ensures c.first-next.ensures
 
 -- the flow of its cell
-flow : (c : tie.After-flow-word-of)
-    → let a = (start c.before.before).args in
-    c.flow-word-of.result ≡ flow_word (entry_at a.table.now (64 * (a.k / 64) + next_of a.list (a.k % 64))).cell
+flow : (c : tie.After-flow_word_of)
+    → let a = c.args in
+    c.flow_word_of.result ≡ flow_word (entry_at a.table.now (64 * (a.k / 64) + next_of a.list (a.k % 64))).cell
 flow c =
-    let a = (start c.before.before).args in
-    c.flow-word-of.ensures.0
+    let a = c.args in
+    c.flow_word_of.ensures.0
     ∙ ap (λ n. flow_word (entry_at a.table.now (64 * (a.k / 64) + n)).cell) (next c.before.before)
 
-returns : tie.Need-returns
+returns : tie.Need-returns-then-next-ge-CELLS
 returns c =
-    let a = (start c.before).args in
-    c.before.before.before.before.without.ensures
-    ∙ sym (heads-end a.table.now a.list a.heads a.k (subst (λ n. 64 ≤ n) (next c.before) c.if1.true))
+    let a = c.args in
+    c.without-others.ensures
+    ∙ sym (heads-end a.table.now a.list a.heads a.k (subst (λ n. 64 ≤ n) (next c.before) c.if-next-ge-CELLS.true))
 
-mul-flow-word-of : tie.Need-overflow_mul-flow-word-of
+mul-flow-word-of : tie.Need-overflow_mul-k
 mul-flow-word-of c = search rules
 
-add-flow-word-of : tie.Need-overflow_add-flow-word-of
+add-flow-word-of : tie.Need-overflow_add-k
 add-flow-word-of c = search rules
 
-flow-word-of-requires : tie.Need-flow-word-of-requires
+flow-word-of-requires : tie.Need-flow_word_of-requires
 flow-word-of-requires c κs = search rules
 
-flow-word-of-requires-2 : tie.Need-flow-word-of-requires-2
+flow-word-of-requires-2 : tie.Need-flow_word_of-requires-2
 flow-word-of-requires-2 c κs = search rules
 
-with-if-requires : tie.Need-with-if-requires
+with-if-requires : tie.Need-with_if-requires
 with-if-requires c κs = search rules
 
-returns-2 : tie.Need-returns-2
+returns-2 : tie.Need-returns
 returns-2 c =
-    let two = c.before in
-    let w = two.before in
-    let found = w.before.before in
-    let a = (start found).args in
-    heads-found a.table.now a.list a.heads a.k c.with-if.ensures
-    found.before.before.before.without.ensures (next found) (flow w) two.flow-word-of2.ensures.0
-    w.before.if1.false
+    let a = c.args in
+    heads-found a.table.now a.list a.heads a.k c.with_if.ensures
+    c.without-others.ensures (next c.before.before.before.before) (flow c.before.before) c.flow_word_of-2.ensures.0
+    c.if-next-ge-CELLS.false
 
 pub heads_left_spec : {M : Type 1} → statement M
 heads_left_spec =

@@ -7,42 +7,42 @@ use borrow.Author.Rules.{rules}
 use Rattle.slot_steps.proofs.leave_list.Statement.{statement}
 use Rattle.slot_steps.proofs.leave_list.Tie as tie
 
-mul-list : tie.Need-overflow_mul-list
+mul-list : tie.Need-offset_bounds-listed-input
 mul-list c = search rules
 
-element-copy-out-list : tie.Need-element-copy-out-list
+element-copy-out-list : tie.Need-bounds-listed-input
 element-copy-out-list c = search rules
 
-mul-heads-left : tie.Need-overflow_mul-heads-left
+mul-heads-left : tie.Need-offset_bounds-heads-input
 mul-heads-left c = search rules
 
-element-copy-out-heads-left : tie.Need-element-copy-out-heads-left
+element-copy-out-heads-left : tie.Need-bounds-heads-input
 element-copy-out-heads-left c = search rules
 
-heads-left-requires : tie.Need-heads-left-requires
+heads-left-requires : tie.Need-heads_left-requires
 heads-left-requires c κs = search rules
 
-mul-heads : tie.Need-overflow_mul-heads
+mul-heads : tie.Need-offset_bounds-heads-input-2
 mul-heads c = search rules
 
-element-write-heads : tie.Need-element-write-heads
+element-write-heads : tie.Need-bounds-heads-input-2
 element-write-heads c = search rules
 
 without-requires : tie.Need-without-requires
 without-requires c κs = search rules
 
-mul-listed : tie.Need-overflow_mul-listed
+mul-listed : tie.Need-offset_bounds-listed-input-2
 mul-listed c = search rules
 
-element-write-listed : tie.Need-element-write-listed
+element-write-listed : tie.Need-bounds-listed-input-2
 element-write-listed c = search rules
 
 returns : tie.Need-returns
 unfolding left left_heads
 returns c =
-    let a = c.before.before.before.before.before.args in (
+    let a = c.args in (
       ap (set a.listed.now (a.k / 64)) c.without.ensures,
-      ap (set a.heads.now (a.k / 64)) c.before.heads-left.ensures,
+      ap (set a.heads.now (a.k / 64)) c.heads_left.ensures,
     )
 
 pub leave_list_spec : {M : Type 1} → statement M

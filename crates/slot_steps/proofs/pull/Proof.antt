@@ -4,27 +4,25 @@ use borrow.Author.Rules.{rules}
 use Rattle.slot_steps.proofs.pull.Statement.{statement}
 use Rattle.slot_steps.proofs.pull.Tie as tie
 
-returns : tie.Need-returns
+returns : tie.Need-returns-then-number-ge-NOWHERE
 returns c =
-    let p = c.before.before.requires.0 in
-    taken_none _ c.if1.true _ _ p.0 _ _ p.2 p.3 _
+    let p = c.requires.0 in
+    taken_none _ c.if-number-ge-NOWHERE.true _ _ p.0 _ _ p.2 p.3 _
 
 fill-requires : tie.Need-fill-requires
 fill-requires c κs = search rules
 
 enter-requires : tie.Need-enter-requires
 enter-requires c κs =
-    let test = c.before.before.before.before.before in
-    let s = test.before.before in
-    ((s.requires.0.0, s.requires.0.1, test.if1.false), s.requires.1.0 test.if1.false)
+    ((c.requires.0.0, c.requires.0.1, c.if-number-ge-NOWHERE.false), c.requires.1.0 c.if-number-ge-NOWHERE.false)
 
-write-place-requires : tie.Need-write-place-requires
+write-place-requires : tie.Need-write_place-requires
 write-place-requires c κs = search rules
 
-same_length : tie.Need-same-length
+same_length : tie.Need-shape_of-table
 same_length c = search rules
 
-returns-2 : tie.Need-returns-2
+returns-2 : tie.Need-returns
 returns-2 c = search rules
 
 pub pull_spec : {M : Type 1} → statement M

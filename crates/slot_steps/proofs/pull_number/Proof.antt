@@ -5,24 +5,24 @@ use borrow.Author.Rules.{rules}
 use Rattle.slot_steps.proofs.pull_number.Statement.{statement}
 use Rattle.slot_steps.proofs.pull_number.Tie as tie
 
-element-copy-out-if1 : tie.Need-element-copy-out-if1
+element-copy-out-if1 : tie.Need-bounds-straight-output
 element-copy-out-if1 c = search rules
 
-returns : tie.Need-returns
+returns : tie.Need-returns-then-straight-output
 returns c =
-    let a = c.before.before.args in
-    sym (take_none a.straight.now a.crossed.now a.output c.if1.true)
+    let a = c.args in
+    sym (take_none a.straight.now a.crossed.now a.output c.if-straight-output.true)
 
-mul-result : tie.Need-overflow_mul-result
+mul-result : tie.Need-offset_bounds-crossed-output
 mul-result c = search rules
 
-element-copy-out-result : tie.Need-element-copy-out-result
+element-copy-out-result : tie.Need-bounds-crossed-output
 element-copy-out-result c = search rules
 
-returns-2 : tie.Need-returns-2
+returns-2 : tie.Need-returns
 returns-2 c =
-    let a = c.before.before.before.args in
-    sym (take-best a.straight.now a.crossed.now a.output c.before.if1.false)
+    let a = c.args in
+    sym (take-best a.straight.now a.crossed.now a.output c.if-straight-output.false)
 
 pub pull_number_spec : {M : Type 1} → statement M
 pull_number_spec =

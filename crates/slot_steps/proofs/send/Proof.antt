@@ -9,66 +9,53 @@ use borrow.Author.Rules.{rules}
 use Rattle.slot_steps.proofs.send.Statement.{statement}
 use Rattle.slot_steps.proofs.send.Tie as tie
 
--- a cell is there, from where it has left its list
-abbrev behind_test : tie.After-leave-list → tie.Else1
-behind_test c = c.before.before.before.before
-
-returns : tie.Need-returns
+returns : tie.Need-returns-then-number-ge-NOWHERE
 returns c =
-    let p = c.before.before.requires.0 in
-    crossed-none _ c.if1.true _ _ p.0 _ _ p.4 p.5 _ _ p.1 p.2
+    let p = c.requires.0 in
+    crossed-none _ c.if-number-ge-NOWHERE.true _ _ p.0 _ _ p.4 p.5 _ _ p.1 p.2
 
-leave-list-requires : tie.Need-leave-list-requires
+leave-list-requires : tie.Need-leave_list-requires
 leave-list-requires c κs = search rules
 
 enter-requires : tie.Need-enter-requires
 enter-requires c κs =
-    let test = behind_test c.before.before in
-    let s = test.before.before in
-    ((s.pre.0.0, s.pre.0.3, test.if1.left), s.pre.1 test.if1.left)
+    ((c.requires.0.0, c.requires.0.3, c.if-number-ge-NOWHERE.false), c.requires.1 c.if-number-ge-NOWHERE.false)
 
-output-of-requires : tie.Need-output-of-requires
+output-of-requires : tie.Need-output_of-output-requires
 output-of-requires c κs = search rules
 
 cast-output : tie.Need-overflow_cast-output
 cast-output c = search rules
 
-key-of-requires : tie.Need-key-of-requires
+key-of-requires : tie.Need-key_of-key-requires
 key-of-requires c κs = search rules
 
 fill-requires : tie.Need-fill-requires
-fill-requires c κs =
-    let output = c.before.before.before.before in
-    let left = output.before.before.before.before.before in
-    let test = behind_test left in
-    let s = test.before.before in
-    (s.pre.0.4, s.pre.0.5, omega arith, rw output.output-of.ensures (s.pre.1 test.if1.left))
+fill-requires c κs = (
+  c.requires.0.4,
+  c.requires.0.5,
+  omega arith,
+  rw c.output_of-output.ensures (c.requires.1 c.if-number-ge-NOWHERE.false),
+)
 
-write-place-requires : tie.Need-write-place-requires
+write-place-requires : tie.Need-write_place-requires
 write-place-requires c κs = search rules
 
-same_length : tie.Need-same-length
+same_length : tie.Need-shape_of-table
 same_length c = search rules
 
-returns-2 : tie.Need-returns-2
+returns-2 : tie.Need-returns
 returns-2 c =
-    let placed = c.before.before in
-    let filled = placed.before.before in
-    let keyed = filled.before.before.before in
-    let output = keyed.before.before in
-    let entered = output.before.before in
-    let left = entered.before.before.before in
-    let test = behind_test left in
-    let a = test.before.before.args in
-    let goes = output.output-of.ensures in
-    let key = keyed.key_of.ensures ∙ sym (key_at-cell a.table.now a.number test.if1.left) in
+    let a = c.args in
+    let goes = c.output_of-output.ensures in
+    let key = c.key_of-key.ensures ∙ sym (key_at-cell a.table.now a.number c.if-number-ge-NOWHERE.false) in
     record {
-      to-crosspoint = placed.write-place.ensures;
-      left-list = left.leave-list.ensures.0;
-      left-heads = left.leave-list.ensures.1;
-      filled = filled.fill.ensures.0 ∙ ap (λ o. cross_with a.cross.now (a.number / 64) o a.number) goes;
-      keyed = filled.fill.ensures.1 ∙ ap₂ (λ o k. cross_with a.keys.now o (a.number / 64) k) goes key;
-      best-in = entered.enter.ensures;
+      to-crosspoint = c.write_place.ensures;
+      left-list = c.leave_list.ensures.0;
+      left-heads = c.leave_list.ensures.1;
+      filled = c.fill.ensures.0 ∙ ap (λ o. cross_with a.cross.now (a.number / 64) o a.number) goes;
+      keyed = c.fill.ensures.1 ∙ ap₂ (λ o k. cross_with a.keys.now o (a.number / 64) k) goes key;
+      best-in = c.enter.ensures;
     }
 
 pub send_spec : {M : Type 1} → statement M

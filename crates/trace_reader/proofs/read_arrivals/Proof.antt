@@ -2,29 +2,28 @@
 -- left. Assumes nothing.
 use Prim.Native.Nat.{◌-◌}
 use borrow.Author.Rules.{rules}
-use borrow.Author.Tests.{not-true, not-false}
 use native.Mathlib.Omega.{arith}
 use mathlib.Core.Path.{sym, ◌∙◌}
 use Rattle.trace_reader.proofs.Records.{Walked, walked_start, walked_more, walked_stop, walked-full, walked-bad}
 use Rattle.trace_reader.proofs.read_arrivals.Statement.{statement}
 use Rattle.trace_reader.proofs.read_arrivals.Tie as tie
 
-abbrev invariant-loop : tie.invariant-loop
+abbrev invariant-loop : tie.invariant-loop-k
 invariant-loop text start numbers₀ at₀ k₀ numbers at k = Walked text start numbers₀ numbers at k
 
-abbrev decreases-loop : tie.decreases-loop
+abbrev decreases-loop : tie.decreases-loop-k
 decreases-loop text start numbers₀ at₀ k₀ numbers at k = 16 - k
 
-loop-holds : tie.Need-loop-init invariant-loop decreases-loop
-loop-holds c = walked_start _ _ _ c.before.requires
+loop-holds : tie.Need-loop-k-init invariant-loop decreases-loop
+loop-holds c = walked_start _ _ _ c.requires
 
-sub-rest : tie.Need-overflow_sub-rest invariant-loop decreases-loop
-sub-rest c = c.before.loop.invariant.within
+sub-rest : tie.Need-slice_bounds-rest-count invariant-loop decreases-loop
+sub-rest c = c.loop-k.invariant.within
 
-part-rest-start : tie.Need-slice-bounds-rest-start invariant-loop decreases-loop
-part-rest-start c = c.before.loop.invariant.within
+part-rest-start : tie.Need-slice_bounds-rest-start invariant-loop decreases-loop
+part-rest-start c = c.loop-k.invariant.within
 
-part-rest-end : tie.Need-slice-bounds-rest-end invariant-loop decreases-loop
+part-rest-end : tie.Need-slice_bounds-rest-end invariant-loop decreases-loop
 part-rest-end c = omega arith
 
 mul-line : tie.Need-overflow_mul-line invariant-loop decreases-loop
@@ -39,58 +38,48 @@ cast-line c = omega arith
 begins-requires : tie.Need-begins-requires invariant-loop decreases-loop
 begins-requires c κs = search rules
 
-cast-t18 : tie.Need-overflow_cast-t18 invariant-loop decreases-loop
+cast-t18 : tie.Need-overflow_cast-result invariant-loop decreases-loop
 cast-t18 c = omega arith
 
-returns : tie.Need-returns invariant-loop decreases-loop
+returns : tie.Need-returns-then-not-begins invariant-loop decreases-loop
 returns c =
-    let begins = c.before in
-    walked_stop begins.before.before.before.loop.invariant (sym begins.begins.ensures ∙ not-true _ c.if1.true)
+    walked_stop c.loop-k.invariant (sym c.begins.ensures ∙ c.if-not-begins.true)
 
-read-arrival-requires : tie.Need-read-arrival-requires invariant-loop decreases-loop
+read-arrival-requires : tie.Need-read_arrival-requires invariant-loop decreases-loop
 read-arrival-requires c κs = search rules
 
-enum-known-fault : tie.Need-enum-known-fault invariant-loop decreases-loop
+enum-known-fault : tie.Need-enum_known-fault invariant-loop decreases-loop
 enum-known-fault c = search rules
 
-returns-2 : tie.Need-returns-2 invariant-loop decreases-loop
+returns-2 : tie.Need-returns-in-Bad invariant-loop decreases-loop
 returns-2 c =
-    let came = c.before.before.before in
-    let begins = came.before.before in
-    let turn = begins.before.before in
-    let b = sym begins.begins.ensures ∙ not-false _ came.before.if1.false in
-    walked-bad turn.before.loop.invariant turn.loop-test.true b came.read-arrival.ensures c.before.fault.given.1
+    let b = sym c.begins.ensures ∙ c.if-not-begins.false in
+    walked-bad c.loop-k.invariant c.loop-k-test.true b c.read_arrival.ensures c.in-Bad.is
 
-enum-known-a : tie.Need-enum-known-a invariant-loop decreases-loop
+enum-known-a : tie.Need-enum_known-a invariant-loop decreases-loop
 enum-known-a c = search rules
 
 store-requires : tie.Need-store-requires invariant-loop decreases-loop
 store-requires c κs = search rules
 
-loop-again : tie.Need-loop-preserved invariant-loop decreases-loop
+loop-again : tie.Need-loop-k-preserved invariant-loop decreases-loop
 loop-again c =
-    let a = c.before.before.before in
-    let came = a.before.before in
-    let begins = came.before.before in
-    let turn = begins.before.before in
-    let b = sym begins.begins.ensures ∙ not-false _ came.before.if1.false in
-    walked_more turn.before.loop.invariant turn.loop-test.true b came.read-arrival.ensures a.a.given.1
+    let b = sym c.begins.ensures ∙ c.if-not-begins.false in
+    walked_more c.loop-k.invariant c.loop-k-test.true b c.read_arrival.ensures c.in-Whole.is
     c.store.ensures
 
 add_at : tie.Need-overflow_add-at invariant-loop decreases-loop
 add_at c =
-    let came = c.before.before.before.before.before in
-    let turn = came.before.before.before.before in
-    omega (arith, (loop-again c).within, turn.before.before.before.well-formed)
+    omega (arith, (loop-again c).within, c.well_formed)
 
 add-k : tie.Need-overflow_add-k invariant-loop decreases-loop
 add-k c = omega arith
 
-loop-less : tie.Need-loop-smaller invariant-loop decreases-loop
+loop-less : tie.Need-loop-k-smaller invariant-loop decreases-loop
 loop-less c = omega arith
 
-returns-3 : tie.Need-returns-3 invariant-loop decreases-loop
-returns-3 c = walked-full c.before.loop.invariant c.loop-test.false
+returns-3 : tie.Need-returns invariant-loop decreases-loop
+returns-3 c = walked-full c.loop-k.invariant c.loop-k-test.false
 
 pub read_arrivals_spec : {M : Type 1} → statement M
 read_arrivals_spec =

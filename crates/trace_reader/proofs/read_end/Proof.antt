@@ -6,40 +6,33 @@ use borrow.Author.Rules.{rules}
 use Rattle.trace_reader.proofs.read_end.Statement.{statement}
 use Rattle.trace_reader.proofs.read_end.Tie as tie
 
-read-line-requires : tie.Need-read-line-requires
+read-line-requires : tie.Need-read_line-requires
 read-line-requires c κs = search rules
 
-enum-known-number : tie.Need-enum-known-number
+enum-known-number : tie.Need-enum_known-number
 enum-known-number c = search rules
 
-enum_told : tie.Need-enum-told
+enum_told : tie.Need-enum_told-1
 enum_told c = search rules
 
-returns : tie.Need-returns
+returns : tie.Need-returns-in_default
 returns c =
-    let line = c.before.before in
-    end-bad _ _ line.before.before.requires (number-bad End 0 _ line.read-line.ensures c.enum_told.given.1)
+    end-bad _ _ c.requires (number-bad End 0 _ c.read_line.ensures c.in_default.is)
 
-returns-2 : tie.Need-returns-2
+returns-2 : tie.Need-returns-then-number-clock
 returns-2 c =
-    let number = c.before.before in
-    let line = number.before.before in
-    let p = number-got End 0 _ line.read-line.ensures number.number.given.1 in
-    end-other _ _ line.before.before.requires number.number.given.0.1.0 p c.if1.true
+    let p = number-got End 0 _ c.read_line.ensures c.in-Number.is in
+    end-other _ _ c.requires c.in-Number.used p c.if-number-clock.true
 
-returns-3 : tie.Need-returns-3
+returns-3 : tie.Need-returns-then-used-text
 returns-3 c =
-    let number = c.before.before.before in
-    let line = number.before.before in
-    let p = number-got End 0 _ line.read-line.ensures number.number.given.1 in
-    end_more _ _ line.before.before.requires _ p c.before.if1.false c.if2.true
+    let p = number-got End 0 _ c.read_line.ensures c.in-Number.is in
+    end_more _ _ c.requires _ p c.if-number-clock.false c.if-used-text.true
 
-returns-4 : tie.Need-returns-4
+returns-4 : tie.Need-returns
 returns-4 c =
-    let number = c.before.before.before in
-    let line = number.before.before in
-    let p = number-got End 0 _ line.read-line.ensures number.number.given.1 in
-    end-end _ _ line.before.before.requires _ p c.before.if1.false c.if2.false
+    let p = number-got End 0 _ c.read_line.ensures c.in-Number.is in
+    end-end _ _ c.requires _ p c.if-number-clock.false c.if-used-text.false
 
 pub read_end_spec : {M : Type 1} → statement M
 read_end_spec =

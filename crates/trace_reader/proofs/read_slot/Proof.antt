@@ -6,39 +6,33 @@ use borrow.Author.Rules.{rules}
 use Rattle.trace_reader.proofs.read_slot.Statement.{statement}
 use Rattle.trace_reader.proofs.read_slot.Tie as tie
 
-read-line-requires : tie.Need-read-line-requires
+read-line-requires : tie.Need-read_line-requires
 read-line-requires c κs = search rules
 
-enum-known-number : tie.Need-enum-known-number
+enum-known-number : tie.Need-enum_known-number
 enum-known-number c = search rules
 
-enum_told : tie.Need-enum-told
+enum_told : tie.Need-enum_told-1
 enum_told c = search rules
 
-returns : tie.Need-returns
+returns : tie.Need-returns-in_default
 returns c =
-    let line = c.before.before in
-    slot-bad _ _ line.before.before.requires (number-bad Slot 0 _ line.read-line.ensures c.enum_told.given.1) _
+    slot-bad _ _ c.requires (number-bad Slot 0 _ c.read_line.ensures c.in_default.is) _
 
-returns-2 : tie.Need-returns-2
+returns-2 : tie.Need-returns-then-number-clock
 returns-2 c =
-    let number = c.before.before in
-    let line = number.before.before in
-    let p = number-got Slot 0 _ line.read-line.ensures number.number.given.1 in
-    slot-other _ _ line.before.before.requires number.number.given.0.1.0 p c.if1.true _
+    let p = number-got Slot 0 _ c.read_line.ensures c.in-Number.is in
+    slot-other _ _ c.requires c.in-Number.used p c.if-number-clock.true _
 
-read-arrivals-requires : tie.Need-read-arrivals-requires
+read-arrivals-requires : tie.Need-read_arrivals-requires
 read-arrivals-requires c κs =
-    let number = c.before.before.before in
-    number-within Slot 0 _ number.before.before.read-line.ensures number.number.given.1
+    number-within Slot 0 _ c.read_line.ensures c.in-Number.is
 
-returns-3 : tie.Need-returns-3
+returns-3 : tie.Need-returns
 returns-3 c =
-    let number = c.before.before.before.before in
-    let line = number.before.before in
-    let p = number-got Slot 0 _ line.read-line.ensures number.number.given.1 in
-    slot_same _ _ line.before.before.requires number.number.given.0.1.0 p c.before.before.if1.false _
-    c.read-arrivals.ensures.0 c.read-arrivals.ensures.1
+    let p = number-got Slot 0 _ c.read_line.ensures c.in-Number.is in
+    slot_same _ _ c.requires c.in-Number.used p c.if-number-clock.false _
+    c.read_arrivals.ensures.0 c.read_arrivals.ensures.1
 
 pub read_slot_spec : {M : Type 1} → statement M
 read_slot_spec =

@@ -8,46 +8,46 @@ use Rattle.trace_reader.proofs.store.Tie as tie
 mul_at : tie.Need-overflow_mul-at
 mul_at c = search rules
 
-mul-numbers : tie.Need-overflow_mul-numbers
+mul-numbers : tie.Need-offset_bounds-numbers-at
 mul-numbers c = search rules
 
-element-write-numbers : tie.Need-element-write-numbers
+element-write-numbers : tie.Need-bounds-numbers-at
 element-write-numbers c = search rules
 
 add-numbers : tie.Need-overflow_add-numbers
 add-numbers c = search rules
 
-mul-numbers-2 : tie.Need-overflow_mul-numbers-2
+mul-numbers-2 : tie.Need-offset_bounds-numbers-at-2
 mul-numbers-2 c = search rules
 
-element-write-numbers-2 : tie.Need-element-write-numbers-2
+element-write-numbers-2 : tie.Need-bounds-numbers-at-2
 element-write-numbers-2 c = search rules
 
 add-numbers-2 : tie.Need-overflow_add-numbers-2
 add-numbers-2 c = search rules
 
-mul-numbers-3 : tie.Need-overflow_mul-numbers-3
+mul-numbers-3 : tie.Need-offset_bounds-numbers-at-3
 mul-numbers-3 c = search rules
 
-element-write-numbers-3 : tie.Need-element-write-numbers-3
+element-write-numbers-3 : tie.Need-bounds-numbers-at-3
 element-write-numbers-3 c = search rules
 
 add-numbers-3 : tie.Need-overflow_add-numbers-3
 add-numbers-3 c = search rules
 
-mul-numbers-4 : tie.Need-overflow_mul-numbers-4
+mul-numbers-4 : tie.Need-offset_bounds-numbers-at-4
 mul-numbers-4 c = search rules
 
-element-write-numbers-4 : tie.Need-element-write-numbers-4
+element-write-numbers-4 : tie.Need-bounds-numbers-at-4
 element-write-numbers-4 c = search rules
 
 add-numbers-4 : tie.Need-overflow_add-numbers-4
 add-numbers-4 c = search rules
 
-mul-numbers-5 : tie.Need-overflow_mul-numbers-5
+mul-numbers-5 : tie.Need-offset_bounds-numbers-at-5
 mul-numbers-5 c = search rules
 
-element-write-numbers-5 : tie.Need-element-write-numbers-5
+element-write-numbers-5 : tie.Need-bounds-numbers-at-5
 element-write-numbers-5 c = search rules
 
 returns : tie.Need-returns
