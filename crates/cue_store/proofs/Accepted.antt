@@ -37,7 +37,7 @@ use Rattle.cue_store.specs.Code.{place_start, name_at, table_at, place_of, is_pl
 use Rattle.cue_store.specs.Names.{is_name}
 use Rattle.cue_store.proofs.CueNames.{first-named, other-named}
 use Rattle.cue_store.proofs.Found.{place_at, name-part, table-part, number_in, cue-number}
-use Rattle.cue_store.proofs.Found.{place-name, good, cues-four, good-each, good-at, place_at, number-at}
+use Rattle.cue_store.proofs.Found.{place-name, good, cues-four, good-each, good-at, place_at_lem, number-at}
 use Rattle.cue_store.proofs.Found.{name_free, name-at, table-at}
 use Rattle.cue_store.proofs.Names.{name-positive, is_name-i, is_name-well, is_name-bytes}
 use Rattle.cue_store.proofs.PlaceTests.{is_cue, place-zeros, place-cue}
@@ -65,7 +65,7 @@ module _ (bs : List ℕ) (cues : Cues (Fair Switch)) (d : decode_store bs ≡ so
       let zeros : List ℕ = replicate fair_size 0 in
       let table : table_at bs k ≡ zeros =
       table-part bs k (decode_store-length fair_cues fair-fit bs cues d) few
-      ∙ ap (drop name_limit) (place_at bs cues d k few ∙ ap cue_bytes e ∙ (zero-parts fair_cues))
+      ∙ ap (drop name_limit) (place_at_lem bs cues d k few ∙ ap cue_bytes e ∙ (zero-parts fair_cues))
       ∙ drop_at (replicate name_limit 0) zeros name_limit (length-replicate {A = ℕ} name_limit 0) in
       place-zeros bs k (name_free bs cues d k few e) ∙ ap (same_bytes zeros) table ∙ same_bytes-refl zeros
 

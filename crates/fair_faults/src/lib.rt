@@ -1,6 +1,7 @@
 // What turns a slot back where some outputs are fair: 3, then record by record 4, 5, 6, 14, 15, 7, 8, looked for in its
 // table, its memory and its records before anything of it runs.
 #![tactic(auto)]
+
 ghost use Rattle.std.specs.Prelude.{◌≡◌, ◌+◌, ◌≤◌, ◌<◌, length, take};
 ghost use Rattle.std.proofs.Math.Option.{Option};
 ghost use Rattle.cell.specs.declared.Cell.{Cell};

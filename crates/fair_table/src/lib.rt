@@ -1,6 +1,7 @@
 // The table that a host keeps: the number of its layout, a table of cells, and a memory. Here are its frame, which is
 // looked at apart from the cells, and the tables that are written whole: of a fresh switch, and of an older table.
 #![tactic(auto)]
+
 pub mod start;
 
 ghost use Rattle.std.specs.Prelude.{true, ◌≡◌, ◌≤◌, length};

@@ -1,5 +1,6 @@
 // The lines that the player writes in a turn, and the records and the line's number that it reads off a block.
 #![tactic(auto)]
+
 ghost use Rattle.std.specs.Prelude.{◌++◌, ◌≡◌, ◌+◌, ◌*◌, ◌≤◌, length, take};
 ghost use Rattle.cell.specs.Limits.{port_limit, clock_end};
 ghost use Rattle.trace.specs.declared.Key.TheVariants.{Ports, First, Slot};

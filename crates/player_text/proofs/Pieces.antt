@@ -420,12 +420,14 @@ module _ (m : Machine Switch) where
   header-ends : (t : List ℕ) (x : Header) → EndsBy opening (header_turn m t (known x))
   unfolding header_turn ending EndsAs
   header-ends t (refused_at r l) o = inr ([], r, l, refl)
+  header-ends t (opened _ _ _) o = elim o [ ]
 
   module _ (l : ℕ) (s : Switch) (t : List ℕ) where
     slot-ends : (d : Cursor) (o : Outcome (List (Option Cell) × Switch))
         → EndsBy (playing l s) (slot_turn s.clock l t d o)
     unfolding slot_turn ending EndsAs
     slot-ends d (refused r place) o = inr ([], r, line_of l place, refl)
+    slot-ends d (done _) o = elim o [ ]
 
     next-ends : (n : Next) → EndsBy (playing l s) (next_turn m l s t (known n))
     unfolding next_turn ending EndsAs

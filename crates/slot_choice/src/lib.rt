@@ -2,6 +2,7 @@
 // asks for the best crosspoint cells of the outputs, and rule 6 goes on from them.
 // Entry k of a table is a cell of input k / 64. The view of the table is only read.
 #![tactic(auto)]
+
 ghost use Rattle.std.specs.Prelude.{◌≡◌, ℕ, ◌<◌, length, get_or, replicate};
 ghost use Rattle.cell.specs.Limits.{port_limit};
 ghost use Rattle.model.specs.Phase.{is_urgent, crosspoint_empty, crosspoints};

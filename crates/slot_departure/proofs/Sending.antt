@@ -263,7 +263,7 @@ module _ (ds : List (Option Cell)) (old : List ℕ) (room : departures_size ≤ 
 
 pub get_d_map : {A B : Type 0} (f : A → B) (l : List A) (i : ℕ) (d : A) (e : B) → i < length l
     → get_or (map f l) i e ≡ f (get_or l i d)
-get_d_map f l i d e h = get_d_any (map f l) i e (f d) (omega (arith, length-map l f)) ∙ ListN.get_d_map f l i d
+get_d_map f l i d e h = get_d_any (map f l) i e (f d) (omega (arith, length-map l f)) ∙ ListN.get_or-map f l i d
 
 first-none : (l : List Waiting) → ((f : Waiting) → Memᴰ f l → ⊥) → first? l ≡ none
 unfolding first?

@@ -1,6 +1,7 @@
 // Scope 3.9, departure: each output sends the cell of highest output priority in its buffer, if it has one. The view of
 // the table has these cells. They go into the answer, and the sections that lose one close up.
 #![tactic(auto)]
+
 ghost use Rattle.std.specs.Prelude.{◌≡◌, map, ◌+◌, ◌*◌, ◌-◌, ◌<◌, ◌≤◌, length, replicate};
 ghost use Rattle.cell.specs.Limits.{port_limit};
 ghost use Rattle.model.specs.Phase.{waiting};

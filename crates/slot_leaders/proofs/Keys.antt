@@ -27,7 +27,7 @@ use Rattle.slot_view.proofs.Keys.{key_at-cell, key_at-none, key_below}
 use Rattle.slot_leaders.specs.CodeKeys.{Leading, LeadingTo}
 use Rattle.slot_leaders.proofs.Columns.{set_both}
 use Rattle.slot_leaders.proofs.Leaders.{LeastIn, least-all}
-use Rattle.slot_leaders.proofs.Best.{Crossed, BestUpTo, held-input, port, best_of}
+use Rattle.slot_leaders.proofs.Best.{Crossed, BestUpTo, held-input, port, best_of_lem}
 
 module _ (table : List ℕ) (r : Readable table) (bytes : bytes? table ≡ true) where
   slot_of : (k : ℕ) → InTable table k → (entry_at table k).cell.slot < 2 ^ 32
@@ -155,7 +155,7 @@ module _ (table : List ℕ) (r : Readable table) (bytes : bytes? table ≡ true)
                       ∙ first)
 
       leading-best : number ≡ best_of (ports_in table) cells output
-      leading-best = best_of table cross output h o number r.ports (go (compare held nowhere))
+      leading-best = best_of_lem table cross output h o number r.ports (go (compare held nowhere))
         where
           go : Compared held nowhere → BestUpTo table cross output (ports_in table) number
           go (below s) = subst (BestUpTo table cross output (ports_in table)) (sym (number-cell s)) (one s)
@@ -201,7 +201,6 @@ module _ (ports : ℕ) (cross keys : List (List ℕ)) where
 ------------------------------------------------------------------------
 -- the smaller of a number and none, as a branch finds it
 
-pub smaller-came : {A B : Type 0} {x n : ℕ} → (A → x < nowhere) → (B → nowhere ≤ x)
-    → (A × (n ≡ x)) ⊎ (B × (n ≡ nowhere)) → n ≡ min x nowhere
-smaller-came some none (inl (a, e)) = e ∙ sym (min-eq_left (omega (arith, some a)))
-smaller-came some none (inr (b, e)) = e ∙ sym (min-eq_right (none b))
+pub smaller-came : {x n : ℕ} → ((x < nowhere) × (n ≡ x)) ⊎ ((nowhere ≤ x) × (n ≡ nowhere)) → n ≡ min x nowhere
+smaller-came (inl (some, e)) = e ∙ sym (min-eq_left (omega (arith, some)))
+smaller-came (inr (none, e)) = e ∙ sym (min-eq_right none)

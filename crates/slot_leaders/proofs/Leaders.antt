@@ -169,13 +169,13 @@ module _ {set start : ℕ} (some : 0 < set) (fits : set < 2 ^ positions) (positi
       go i l h (above c) = absurd (clash h (first-before set i c))
 
   -- whichever a branch finds
-  pub round-came : {A B : Type 0} {late picked : ℕ} → (A → late ≢ 0) → (B → late ≡ 0) → late ≡ from set start
-      → (A × (picked ≡ late)) ⊎ (B × (picked ≡ set)) → FirstInRound set start (first_of picked)
-  round-came is_some is_none is (inl (a, e)) =
-      let more : 0 < from set start = omega (arith, is_some a) in
-      subst (λ n. FirstInRound set start (first_of n)) (sym (e ∙ is)) (round-late more)
-  round-came is_some is_none is (inr (b, e)) =
-      subst (λ n. FirstInRound set start (first_of n)) (sym e) (round-early (sym is ∙ is_none b))
+  pub round-came : {late picked : ℕ} → late ≡ from set start
+      → ((late ≢ 0) × (picked ≡ late)) ⊎ ((late ≡ 0) × (picked ≡ set)) → FirstInRound set start (first_of picked)
+  round-came is (inl (more, e)) =
+      let some : 0 < from set start = omega (arith, more) in
+      subst (λ n. FirstInRound set start (first_of n)) (sym (e ∙ is)) (round-late some)
+  round-came is (inr (none, e)) =
+      subst (λ n. FirstInRound set start (first_of n)) (sym e) (round-early (sym is ∙ none))
 
 -- of the inputs that have the least key, in the round of the slot that it has
 module _ (ports : ℕ) (row : List ℕ) {key inputs start : ℕ} (least : key ≡ least_of row)

@@ -1,6 +1,7 @@
 // The best crosspoint cell of each output, which rule 3 asks for and from which rule 6 goes on. It is found by the keys
 // of the cells at the crosspoints; where two have one key, the round of its slot decides between their inputs.
 #![tactic(auto)]
+
 ghost use Rattle.std.specs.Prelude.{◌≡◌, [], ◌+◌, ◌≤◌, ◌<◌, min, length, get_or};
 ghost use Rattle.sets.specs.Sets.{positions};
 ghost use Rattle.cell.specs.Limits.{port_limit};

@@ -41,7 +41,7 @@ use Rattle.slot_view.proofs.Placed.{decode-ports}
 use Rattle.slot_view.proofs.Placing.{Kept, kept_trans, kept-view}
 use Rattle.slot_view.proofs.Together.{contiguous}
 use Rattle.slot_view.proofs.Window.{in_table-i, in_table-below, waiting_at-at, waiting_at-cell, waiting_at-input, waiting_at-place}
-use Rattle.slot_leaders.proofs.Best.{best_of}
+use Rattle.slot_leaders.proofs.Best.{best_of_lem}
 use Rattle.slot_moves.specs.CodeMoved.{after_phase, Settled, OccupanciesOf}
 use Rattle.slot_moves.specs.CodeMoves.{written, sending, entering}
 use Rattle.slot_steps.specs.CodeSteps.{straight_to, mark_of, send_of, take_of}
@@ -585,7 +585,7 @@ module _ {table : List ℕ} (good : IsTable table) {listed heads : List ℕ} {cr
               clash (output-i f w.0 (q ∙ sym w.2)) (pulled-free (ports_in table) all m w.1)))
           go (inr h) =
               take-best outputs crossed₂ x h
-              ∙ best_of table cross₂ x cells-held l (get_or crossed₂ x 0) ports (sent-best x l)
+              ∙ best_of_lem table cross₂ x cells-held l (get_or crossed₂ x 0) ports (sent-best x l)
               ∙ sym (pulled-best x (output-unmarked x l h))
 
       -- what an output takes stands at one of its crosspoints

@@ -3,6 +3,7 @@
 // Each rule has a function that does for every port what `slot_steps` does for one. Before rule 6 moves any, the
 // outputs' choice is made (`choose_crossed`).
 #![tactic(auto)]
+
 ghost use Rattle.std.specs.Prelude.{◌≡◌, ◌<◌, length};
 ghost use Rattle.cell.specs.Limits.{port_limit};
 ghost use Rattle.layout.specs.Table.{table_size, encode, state_of, IsTable};

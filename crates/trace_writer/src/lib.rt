@@ -1,6 +1,7 @@
 // The writer, scope 7.6: from contents to text. The `pour_..` put line after line, and answer the place after the text;
 // a text poured into no bytes is measured. No function has a `requires`.
 #![tactic(auto)]
+
 ghost use Rattle.std.specs.Prelude.{◌≡◌, ◌++◌, length, get_or, drop};
 ghost use Rattle.laws.specs.Lists.{all?};
 ghost use Rattle.trace.specs.declared.Key.TheVariants.{Slot, In, Out, Flow, Rank, Tag};

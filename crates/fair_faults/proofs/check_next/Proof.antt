@@ -17,31 +17,27 @@ use Rattle.fair_faults.proofs.Records.{made, made-says, next-port, next-rank, ne
 use Rattle.fair_faults.proofs.check_next.Statement.{statement}
 use Rattle.fair_faults.proofs.check_next.Tie as tie
 
--- the start, from where the ports have been looked at
-abbrev start_of : tie.After-port-fault → tie.Start
-start_of c = c.before.before.before.before.before
-
-module _ (c : tie.After-port-fault) where
+module _ (c : tie.After-port_fault-ported) where
   abbrev s : Switch
-  s = state_of (start_of c).args.table.now
+  s = state_of c.args.table.now
 
   abbrev m : Memory
-  m = memory_of (start_of c).args.memory.now
+  m = memory_of c.args.memory.now
 
   abbrev a : Arrival
-  a = (start_of c).args.a
+  a = c.args.a
 
   abbrev clock : ℕ
-  clock = c.before.before.clock-of.result
+  clock = c.clock_of-clock.result
 
   clock-is : clock ≡ s.clock
-  clock-is = c.before.before.clock-of.ensures ∙ sym (table-clock _ (start_of c).requires.0)
+  clock-is = c.clock_of-clock.ensures ∙ sym (table-clock _ c.requires.0)
 
   -- what was found, of the cell with the rank made
-  says : PortSays s.ports (start_of c).args.turn ((start_of c).args.n + 1) (made s m a) c.port-fault.result
+  says : PortSays s.ports c.args.turn (c.args.n + 1) (made s m a) c.port_fault-ported.result
   says =
-      made-says s m _ _ a _ _ clock _ (sym (table-ports _ (start_of c).requires.0)) clock-is c.before.cell-of.ensures
-      c.port-fault.ensures
+      made-says s m _ _ a _ _ clock _ (sym (table-ports _ c.requires.0)) clock-is c.cell_of.ensures
+      c.port_fault-ported.ensures
 
 add-place : tie.Need-overflow_add-place
 add-place c = search rules
@@ -49,91 +45,80 @@ add-place c = search rules
 cast-place : tie.Need-overflow_cast-place
 cast-place c = search rules
 
-clock-of-requires : tie.Need-clock-of-requires
-clock-of-requires c κs = table-length _ c.before.before.requires.0
+clock-of-requires : tie.Need-clock_of-clock-requires
+clock-of-requires c κs = table-length _ c.requires.0
 
-cell-of-requires : tie.Need-cell-of-requires
+cell-of-requires : tie.Need-cell_of-requires
 cell-of-requires c κs = search rules
 
-port-fault-requires : tie.Need-port-fault-requires
-port-fault-requires c κs = c.before.before.before.before.requires.0
+port-fault-requires : tie.Need-port_fault-ported-requires
+port-fault-requires c κs = c.requires.0
 
-enum_told : tie.Need-enum-told
+enum_told : tie.Need-enum_told-1
 enum_told c = search rules
 
-enum-told-2 : tie.Need-enum-told-2
+enum-told-2 : tie.Need-enum_told-in_default
 enum-told-2 c = search rules
 
-returns : tie.Need-returns
+returns : tie.Need-returns-in_default
 returns c =
-    let looked = c.before.before in
-    next-port (s looked) (m looked) _ _ (a looked) _ (says looked) c.enum-told2.given.1
+    let at = c.before in
+    next-port (s at) (m at) _ _ (a at) _ (says at) c.in_default.is
 
-rank-fault-requires : tie.Need-rank-fault-requires
-rank-fault-requires c κs = (start_of c.before.before).requires.1.0
+rank-fault-requires : tie.Need-rank_fault-ranked-requires
+rank-fault-requires c κs = c.requires.1.0
 
-enum-told-3 : tie.Need-enum-told-3
+enum-told-3 : tie.Need-enum_told-in-Clear-ranked
 enum-told-3 c = search rules
 
-enum-told-4 : tie.Need-enum-told-4
+enum-told-4 : tie.Need-enum_told-in_default-ranked
 enum-told-4 c = search rules
 
-returns-2 : tie.Need-returns-2
+returns-2 : tie.Need-returns-in_default-ranked
 returns-2 c =
-    let rank = c.before.before in
-    let told = rank.before in
-    let looked = told.before.before in
-    next-rank (s looked) (m looked) _ _ (a looked) _ (says looked) told.enum_told.given.1 _
-    rank.rank-fault.ensures c.enum-told4.given.1
+    let at = c.before.before.before in
+    next-rank (s at) (m at) _ _ (a at) _ (says at) c.in-Clear.is _
+    c.rank_fault-ranked.ensures c.in_default-ranked.is
 
-make-requires : tie.Need-make-requires
-make-requires c κs = (start_of c.before.before.before.before.before).requires.1.0
+make-requires : tie.Need-make-made-requires
+make-requires c κs = c.requires.1.0
 
--- the rank can be made
-module _ (c : tie.After-enum-told3) where
-  abbrev rank : tie.After-rank-fault
-  rank = c.before.before
+-- where the ports have been looked at, from where the rank can be made
+abbrev looked : tie.In-Clear-ranked → tie.After-port_fault-ported
+looked c = c.before.before.before
 
-  abbrev told : tie.After-enum-told
-  told = rank.before
-
-  abbrev looked : tie.After-port-fault
-  looked = told.before.before
-
-cell-of-requires-2 : tie.Need-cell-of-requires-2
+cell-of-requires-2 : tie.Need-cell_of-requires-2
 cell-of-requires-2 c κs = search rules
 
 -- the cell with the rank made
-cell-is : (c : tie.After-cell-of2)
-    → let at = looked c.before.before in c.cell-of2.result ≡ made (s at) (m at) (a at)
+cell-is : (c : tie.After-cell_of-2)
+    → let at = looked c.before.before in c.cell_of-2.result ≡ made (s at) (m at) (a at)
 cell-is c =
-    let past = c.before.before in
-    let at = looked past in
-    c.cell-of2.ensures
+    let at = looked c.before.before in
+    c.cell_of-2.ensures
     ∙ ap₂ accepted (clock-is at)
-    (c.before.make.ensures
-    (next-rankable (s at) (m at) _ _ (a at) _ (says at) (told past).enum_told.given.1 _
-    (rank past).rank-fault.ensures past.enum-told3.given.1))
+    (c.make-made.ensures
+    (next-rankable (s at) (m at) _ _ (a at) _ (says at) c.in-Clear.is _
+    c.rank_fault-ranked.ensures c.in-Clear-ranked.is))
 
-waiting-fault-requires : tie.Need-waiting-fault-requires
+waiting-fault-requires : tie.Need-waiting_fault-requires
 waiting-fault-requires c κs =
-    let past = c.before.before in
-    let at = looked past in
-    let clear = (told past).enum_told.given.1 in
-    let inside : InPorts (s at).ports (made (s at) (m at) (a at)) = port-clear _ [] _ _ _ _ (says at) clear in (
-      (start_of at).pre.0,
-      subst (λ d. InPorts (ports_in (start_of at).args.table.now) d) (sym (cell-is c))
-          (subst (λ ports. InPorts ports (made (s at) (m at) (a at))) (table-ports _ (start_of at).pre.0) inside),
+    let at = looked c.before.before in
+    let inside : InPorts (s at).ports (made (s at) (m at) (a at)) =
+    port-clear _ [] _ _ _ _ (says at) c.in-Clear.is
+    in (
+      c.requires.0,
+      subst (λ d. InPorts (ports_in c.args.table.now) d) (sym (cell-is c))
+          (subst (λ ports. InPorts ports (made (s at) (m at) (a at))) (table-ports _ c.requires.0) inside),
     )
 
-returns-3 : tie.Need-returns-3
+returns-3 : tie.Need-returns
 returns-3 c =
-    let past = c.before.before.before in
-    let at = looked past in
-    next-waits (s at) (m at) _ _ (a at) _ (says at) (told past).enum_told.given.1 _ (rank past).rank-fault.ensures
-    past.enum-told3.given.1 _
-    (c.waiting-fault.ensures
-    ∙ ap (λ d. fault_at ((start_of at).args.n + 1) (waiting_fault (cells (s at)) d)) (cell-is c.before))
+    let at = looked c.before.before.before in
+    next-waits (s at) (m at) _ _ (a at) _ (says at) c.in-Clear.is _ c.rank_fault-ranked.ensures
+    c.in-Clear-ranked.is _
+    (c.waiting_fault.ensures
+    ∙ ap (λ d. fault_at (c.args.n + 1) (waiting_fault (cells (s at)) d)) (cell-is c.before))
 
 pub check_next_spec : {M : Type 1} → statement M
 check_next_spec =

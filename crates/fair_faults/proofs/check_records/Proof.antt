@@ -14,86 +14,73 @@ use Rattle.slot_faults.proofs.Stored.{table-sound}
 use Rattle.fair_faults.proofs.check_records.Statement.{statement}
 use Rattle.fair_faults.proofs.check_records.Tie as tie
 
-abbrev invariant-loop : tie.invariant-loop
+abbrev invariant-loop : tie.invariant-loop-n
 invariant-loop table memory many records turn₀ n₀ turn n =
     (n ≤ many) × Passed (state_of table) (memory_of memory) (take many records) n turn
 
-abbrev decreases-loop : tie.decreases-loop
+abbrev decreases-loop : tie.decreases-loop-n
 decreases-loop table memory many records turn₀ n₀ turn n = many - n
 
 -- the record that was looked at
-here : (c : tie.After-check-next invariant-loop decreases-loop)
-    → let at = c.before.before.before in
-    let a = at.before.before.before.args in
-    drop at.loop.n (take a.many a.t3)
-    ≡ get_or a.t3 at.loop.n no_record ∷ drop (at.loop.n + 1) (take a.many a.t3)
+here : (c : tie.After-check_next-fault invariant-loop decreases-loop)
+    → let a = c.args in
+    drop c.loop-n.n (take a.many a.records)
+    ≡ get_or a.records c.loop-n.n no_record ∷ drop (c.loop-n.n + 1) (take a.many a.records)
 here c =
-    let at = c.before.before.before in
-    let start = at.before.before.before in
-    held_next start.args.t3 start.args.many start.well-formed.1.1.0.1.0.1 start.requires.1.1 at.loop.n
-    c.before.before.loop-test.true
+    held_next c.args.records c.args.many c.well_formed.1.1.0.1.0.1 c.requires.1.1 c.loop-n.n
+    c.loop-n-test.true
 
-loop-holds : tie.Need-loop-init invariant-loop decreases-loop
+loop-holds : tie.Need-loop-n-init invariant-loop decreases-loop
 loop-holds c = (omega arith, passed_none _ _ _)
 
-mul-a : tie.Need-overflow_mul-a invariant-loop decreases-loop
+mul-a : tie.Need-offset_bounds-records-n invariant-loop decreases-loop
 mul-a c = omega arith
 
-array-copy-out-a : tie.Need-array-copy-out-a invariant-loop decreases-loop
+array-copy-out-a : tie.Need-bounds-records-n invariant-loop decreases-loop
 array-copy-out-a c = omega arith
 
-check-next-requires : tie.Need-check-next-requires invariant-loop decreases-loop
+check-next-requires : tie.Need-check_next-fault-requires invariant-loop decreases-loop
 check-next-requires c κs =
-    let pre = c.before.before.before.before.before.requires in
+    let pre = c.requires in
     (pre.0, (pre.1.0, omega arith))
 
-enum_told : tie.Need-enum-told invariant-loop decreases-loop
+enum_told : tie.Need-enum_told-1 invariant-loop decreases-loop
 enum_told c = search rules
 
-enum-told-2 : tie.Need-enum-told-2 invariant-loop decreases-loop
+enum-told-2 : tie.Need-enum_told-in_default invariant-loop decreases-loop
 enum-told-2 c = search rules
 
-returns : tie.Need-returns invariant-loop decreases-loop
+returns : tie.Need-returns-in_default invariant-loop decreases-loop
 returns c =
-    let check = c.before.before in
-    let at = check.before.before.before in
-    passed-fault _ _ _ at.loop.n at.loop.turn at.loop.invariant.1 _ (here check) check.check-next.result
-    check.check-next.ensures c.enum-told2.given.1
+    passed-fault _ _ _ c.loop-n.n c.loop-n.turn c.loop-n.invariant.1 _ (here c.before) c.check_next-fault.result
+    c.check_next-fault.ensures c.in_default.is
 
 add_turn : tie.Need-overflow_add-turn invariant-loop decreases-loop
 add_turn c =
-    let told = c.before in
-    let check = told.before.before in
-    let at = check.before.before.before in
-    let few = sound-ports _ (table-sound _ at.before.before.before.requires.0) in
+    let few = sound-ports _ (table-sound _ c.requires.0) in
     omega (
       arith,
-      passed-input _ _ _ at.loop.n at.loop.turn at.loop.invariant.1 _ (here check) check.check-next.result
-          check.check-next.ensures told.enum_told.given.1 few,
+      passed-input _ _ _ c.loop-n.n c.loop-n.turn c.loop-n.invariant.1 _ (here c.before.before)
+          c.check_next-fault.result c.check_next-fault.ensures c.in-Clear.is few,
     )
 
 add-n : tie.Need-overflow_add-n invariant-loop decreases-loop
 add-n c = omega arith
 
-loop-less : tie.Need-loop-smaller invariant-loop decreases-loop
+loop-less : tie.Need-loop-n-smaller invariant-loop decreases-loop
 loop-less c = omega arith
 
-loop-again : tie.Need-loop-preserved invariant-loop decreases-loop
-loop-again c =
-    let told = c.before in
-    let check = told.before.before in
-    let at = check.before.before.before in (
-      omega arith,
-      passed-next _ _ _ at.loop.n at.loop.turn at.loop.invariant.1 _ (here check) check.check-next.result
-          check.check-next.ensures told.enum_told.given.1,
-    )
+loop-again : tie.Need-loop-n-preserved invariant-loop decreases-loop
+loop-again c = (
+  omega arith,
+  passed-next _ _ _ c.loop-n.n c.loop-n.turn c.loop-n.invariant.1 _ (here c.before.before)
+      c.check_next-fault.result c.check_next-fault.ensures c.in-Clear.is,
+)
 
-returns-2 : tie.Need-returns-2 invariant-loop decreases-loop
+returns-2 : tie.Need-returns invariant-loop decreases-loop
 returns-2 c =
-    let at = c.before in
-    let start = at.before.before.before in
-    let size = held-length start.args.t3 start.args.many start.well-formed.1.1.0.1.0.1 start.requires.1.1 in
-    passed-all _ _ _ at.loop.n at.loop.turn (omega (arith, size)) at.loop.invariant.1
+    let size = held-length c.args.records c.args.many c.well_formed.1.1.0.1.0.1 c.requires.1.1 in
+    passed-all _ _ _ c.loop-n.n c.loop-n.turn (omega (arith, size)) c.loop-n.invariant.1
 
 pub check_records_spec : {M : Type 1} → statement M
 check_records_spec =

@@ -6,25 +6,20 @@ use Rattle.fair_faults.proofs.Slots.{fair-end, fair-early}
 use Rattle.fair_faults.proofs.fair_fault.Statement.{statement}
 use Rattle.fair_faults.proofs.fair_fault.Tie as tie
 
-clock-of-requires : tie.Need-clock-of-requires
-clock-of-requires c κs = table-length _ c.before.before.requires.0
+clock-of-requires : tie.Need-clock_of-requires
+clock-of-requires c κs = table-length _ c.requires.0
 
-returns : tie.Need-returns
+returns : tie.Need-returns-then-clock_of-eq-CLOCK_END
 returns c =
-    let read = c.before in
-    let start = read.before.before.before in
-    sym (fair-end _ _ _ (table-clock _ start.requires.0 ∙ sym read.clock-of.ensures ∙ c.if1.true))
+    sym (fair-end _ _ _ (table-clock _ c.requires.0 ∙ sym c.clock_of.ensures ∙ c.if-clock_of-eq-CLOCK_END.true))
 
-check-records-requires : tie.Need-check-records-requires
+check-records-requires : tie.Need-check_records-requires
 check-records-requires c κs = search rules
 
-returns-2 : tie.Need-returns-2
+returns-2 : tie.Need-returns
 returns-2 c =
-    let else = c.before in
-    let read = else.before in
-    let start = read.before.before.before in
-    c.check-records.ensures
-    ∙ sym (fair-early _ _ _ (λ e. else.if1.false (read.clock-of.ensures ∙ sym (table-clock _ start.requires.0) ∙ e)))
+    let clock = c.clock_of.ensures ∙ sym (table-clock _ c.requires.0) in
+    c.check_records.ensures ∙ sym (fair-early _ _ _ (λ e. c.if-clock_of-eq-CLOCK_END.false (clock ∙ e)))
 
 pub fair_fault_spec : {M : Type 1} → statement M
 fair_fault_spec = tie.close (tie.spec clock-of-requires returns check-records-requires returns-2)

@@ -5,32 +5,30 @@ use Rattle.fair_faults.specs.CodeFairFault.{rank_fault}
 use Rattle.fair_faults.proofs.rank_fault.Statement.{statement}
 use Rattle.fair_faults.proofs.rank_fault.Tie as tie
 
-bad-weight-requires : tie.Need-bad-weight-requires
-bad-weight-requires c κs = c.before.requires
+bad-weight-requires : tie.Need-bad_weight-no_weight-requires
+bad-weight-requires c κs = c.requires
 
-rank-end-requires : tie.Need-rank-end-requires
-rank-end-requires c κs = c.before.before.requires
+rank-end-requires : tie.Need-rank_end-past_end-requires
+rank-end-requires c κs = c.requires
 
-returns : tie.Need-returns
+returns : tie.Need-returns-then-no_weight
 unfolding fault_at rank_fault
 returns c =
-    let wrong = sym c.before.before.bad-weight.ensures ∙ c.if1.true in
+    let wrong = sym c.bad_weight-no_weight.ensures ∙ c.if-no_weight.true in
     rw wrong
 
-returns-2 : tie.Need-returns-2
+returns-2 : tie.Need-returns-then-past_end
 unfolding fault_at rank_fault
 returns-2 c =
-    let ended = c.before.before in
-    let right = sym ended.before.bad-weight.ensures ∙ c.before.if1.false in
-    let past = sym (ended.rank-end.ensures right) ∙ c.if2.true in
+    let right = sym c.bad_weight-no_weight.ensures ∙ c.if-no_weight.false in
+    let past = sym (c.rank_end-past_end.ensures right) ∙ c.if-past_end.true in
     rw (right, past)
 
-returns-3 : tie.Need-returns-3
+returns-3 : tie.Need-returns
 unfolding fault_at rank_fault
 returns-3 c =
-    let ended = c.before.before in
-    let right = sym ended.before.bad-weight.ensures ∙ c.before.if1.false in
-    let fits = sym (ended.rank-end.ensures right) ∙ c.if2.false in
+    let right = sym c.bad_weight-no_weight.ensures ∙ c.if-no_weight.false in
+    let fits = sym (c.rank_end-past_end.ensures right) ∙ c.if-past_end.false in
     rw (right, fits)
 
 pub rank_fault_spec : {M : Type 1} → statement M

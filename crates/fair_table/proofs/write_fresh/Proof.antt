@@ -7,53 +7,47 @@ use Rattle.fair_table.proofs.Written.{fresh-written, fresh-room}
 use Rattle.fair_table.proofs.write_fresh.Statement.{statement}
 use Rattle.fair_table.proofs.write_fresh.Tie as tie
 
-write-u32-requires : tie.Need-write-u32-requires
+write-u32-requires : tie.Need-write_u32-requires
 write-u32-requires c κs = search rules
 
 fresh-requires : tie.Need-fresh-requires
 fresh-requires c κs = search rules
 
-sub-write-fresh : tie.Need-overflow_sub-write-fresh
+sub-write-fresh : tie.Need-slice_bounds-write_fresh-count
 sub-write-fresh c = search rules
 
-part-write-fresh-start : tie.Need-slice-bounds-write-fresh-start
+part-write-fresh-start : tie.Need-slice_bounds-write_fresh-start
 part-write-fresh-start c = search rules
 
-part-write-fresh-end : tie.Need-slice-bounds-write-fresh-end
+part-write-fresh-end : tie.Need-slice_bounds-write_fresh-end
 part-write-fresh-end c = search rules
 
-write-fresh-requires : tie.Need-write-fresh-requires
+write-fresh-requires : tie.Need-write_fresh-requires
 write-fresh-requires c κs = search rules
 
-sub-write-no-memory : tie.Need-overflow_sub-write-no-memory
+sub-write-no-memory : tie.Need-slice_bounds-write_no_memory-count
 sub-write-no-memory c = search rules
 
-part-write-no-memory-start : tie.Need-slice-bounds-write-no-memory-start
+part-write-no-memory-start : tie.Need-slice_bounds-write_no_memory-start
 part-write-no-memory-start c = search rules
 
-part-write-no-memory-end : tie.Need-slice-bounds-write-no-memory-end
+part-write-no-memory-end : tie.Need-slice_bounds-write_no_memory-end
 part-write-no-memory-end c = search rules
 
-write-no-memory-requires : tie.Need-write-no-memory-requires
+write-no-memory-requires : tie.Need-write_no_memory-requires
 write-no-memory-requires c κs = search rules
 
 returns : tie.Need-returns
 returns c =
-    let none = c.before.before in
-    let fresh = none.before.before.before.before in
-    let made = fresh.before.before in
-    let numbered = made.before.before.before in
-    let start = numbered.before.before.before in
-    let a = start.args in
-    fresh-written a.number a.ports a.first a.marks _ _ a.table.now numbered.write-u32.new.0 _
-    fresh.write-fresh.new.1.0 _ _ start.requires numbered.write-u32.ensures made.fresh.ensures.0
-    made.fresh.ensures.1 fresh.write-fresh.ensures refl none.write-no-memory.ensures refl
+    let a = c.args in
+    fresh-written a.number a.ports a.first a.marks _ _ a.table.now c.write_u32.new.bytes _
+    c.write_fresh.new.table _ _ c.requires c.write_u32.ensures c.fresh.ensures.0
+    c.fresh.ensures.1 c.write_fresh.ensures refl c.write_no_memory.ensures refl
 
-same_length : tie.Need-same-length
+same_length : tie.Need-shape_of-table
 same_length c =
-    let start = c.before.before.before.before.before.before.before.before.before.before.before.before.before.before in
-    let a = start.args in
-    ap length (returns c) ∙ fresh-room a.number a.ports a.first a.marks a.table.now start.requires
+    let a = c.args in
+    ap length (returns c) ∙ fresh-room a.number a.ports a.first a.marks a.table.now c.requires
 
 pub write_fresh_spec : {M : Type 1} → statement M
 write_fresh_spec =

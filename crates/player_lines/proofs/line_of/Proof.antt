@@ -4,8 +4,8 @@ use Rattle.player_lines.proofs.line_of.Statement.{statement}
 use Rattle.player_lines.proofs.Lines.{line-slot, line-record}
 use Rattle.player_lines.proofs.line_of.Tie as tie
 
-returns : tie.Need-returns
-returns c = line-slot _ _ c.if1.true
+returns : tie.Need-returns-then-place-eq0
+returns c = line-slot _ _ c.if-place-eq0.true
 
 add-result : tie.Need-overflow_add-result
 add-result c = search rules
@@ -19,8 +19,8 @@ mul-result c = search rules
 add-result-2 : tie.Need-overflow_add-result-2
 add-result-2 c = search rules
 
-returns-2 : tie.Need-returns-2
-returns-2 c = line-record _ _ c.if1.false
+returns-2 : tie.Need-returns
+returns-2 c = line-record _ _ c.if-place-eq0.false
 
 pub line_of_spec : {M : Type 1} → statement M
 line_of_spec = tie.close (tie.spec returns add-result sub-result mul-result add-result-2 returns-2)

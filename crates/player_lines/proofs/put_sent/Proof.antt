@@ -10,33 +10,29 @@ use Rattle.player_lines.proofs.Sent.{sent-none, sent-some}
 use Rattle.player_lines.proofs.put_sent.Statement.{statement}
 use Rattle.player_lines.proofs.put_sent.Tie as tie
 
-is-none-requires : tie.Need-is-none-requires
+is-none-requires : tie.Need-is_none-requires
 is-none-requires c κs = search rules
 
-returns : tie.Need-returns
+returns : tie.Need-returns-then-is_none
 unfolding departure_text
 returns c =
-    let a = c.before.before.before.before.args in
-    rw (sent-none a.sent.now (eqb-true _ _ (sym c.before.is_none.ensures ∙ c.if1.true)))
+    let a = c.args in
+    rw (sent-none a.sent.now (eqb-true _ _ (sym c.is_none.ensures ∙ c.if-is_none.true)))
     (put-nothing a.out.now a.at (omega arith) (omega arith))
 
-cell-in-requires : tie.Need-cell-in-requires
+cell-in-requires : tie.Need-cell_in-requires
 cell-in-requires c κs = search rules
 
-put-departure-requires : tie.Need-put-departure-requires
+put-departure-requires : tie.Need-put_departure-requires
 put-departure-requires c κs = search rules
 
-same_length : tie.Need-same-length
+same_length : tie.Need-shape_of-out
 same_length c = search rules
 
-returns-2 : tie.Need-returns-2
+returns-2 : tie.Need-returns
 returns-2 c =
-    let put = c.before.before in
-    let cell = put.before in
-    let other = cell.before.before in
-    let start = other.before.before.before.before in
-    let e = sent-some start.args.sent.now (eqb-false _ _ (sym other.before.is_none.ensures ∙ other.if1.false)) in
-    rw (e ∙ sym (ap some cell.cell_in.ensures)) put.put-departure.ensures
+    let e = sent-some c.args.sent.now (eqb-false _ _ (sym c.is_none.ensures ∙ c.if-is_none.false)) in
+    rw (e ∙ sym (ap some c.cell_in.ensures)) c.put_departure.ensures
 
 pub put_sent_spec : {M : Type 1} → statement M
 put_sent_spec =

@@ -8,52 +8,38 @@ use Rattle.slot_choice.proofs.Choice.{chosen_none, chosen-some}
 use Rattle.slot_choice.proofs.choose.Statement.{statement}
 use Rattle.slot_choice.proofs.choose.Tie as tie
 
-ports-of-requires : tie.Need-ports-of-requires
+ports-of-requires : tie.Need-ports_of-requires
 ports-of-requires c κs = search rules
 
-cast-best-of-each : tie.Need-overflow_cast-best-of-each
+cast-best-of-each : tie.Need-overflow_cast-ports_of
 cast-best-of-each c = search rules
 
-best-of-each-requires : tie.Need-best-of-each-requires
+best-of-each-requires : tie.Need-best_of_each-requires
 best-of-each-requires c κs = search rules
 
-scan-each-requires : tie.Need-scan-each-requires
+scan-each-requires : tie.Need-scan_each-urgent-requires
 scan-each-requires c κs =
-    let best = c.before.before.before.before in
-    let ports = best.before.before.before in
-    let known = ports.before in
-    let start = known.before in
-    let bytes = known_bytes _ known.shared-slice-known.given in (
-      leading-known _ start.requires.0 bytes ports.ports-of.ensures start.requires.1.1.2 best.best-of-each.ensures
-          start.requires.1.1.1,
-      (start.requires.1.0.heads-at, (refl, refl)),
+    let bytes = known_bytes _ c.shared_slice_known-1.given in (
+      leading-known _ c.requires.0 bytes c.ports_of.ensures c.requires.1.1.2 c.best_of_each.ensures
+          c.requires.1.1.1,
+      (c.requires.1.0.heads-at, (refl, refl)),
     )
 
-enter-scheduled-requires : tie.Need-enter-scheduled-requires
+enter-scheduled-requires : tie.Need-enter_scheduled-requires
 enter-scheduled-requires c κs = search rules
 
-returns : tie.Need-returns
+returns : tie.Need-returns-then-urgent
 returns c =
-    let scanned = c.before.before.before.before in
-    let best = scanned.before.before.before.before.before in
-    let ports = best.before.before.before in
-    let known = ports.before in
-    let start = known.before in
-    let bytes = known_bytes _ known.shared-slice-known.given in
-    let bests = leading-bests _ start.requires.0 bytes ports.ports-of.ensures start.requires.1.1.2 best.best-of-each.ensures in
-    chosen-some _ start.requires.0 bests scanned.scan-each.ensures start.requires.1.0
-    c.before.before.before.if1.true c.enter-scheduled.ensures
+    let bytes = known_bytes _ c.shared_slice_known-1.given in
+    let bests = leading-bests _ c.requires.0 bytes c.ports_of.ensures c.requires.1.1.2 c.best_of_each.ensures in
+    chosen-some _ c.requires.0 bests c.scan_each-urgent.ensures c.requires.1.0
+    c.if-urgent.true c.enter_scheduled.ensures
 
-returns-2 : tie.Need-returns-2
+returns-2 : tie.Need-returns-else-urgent
 returns-2 c =
-    let scanned = c.before in
-    let best = scanned.before.before.before.before.before in
-    let ports = best.before.before.before in
-    let known = ports.before in
-    let start = known.before in
-    let bytes = known_bytes _ known.shared-slice-known.given in
-    let bests = leading-bests _ start.requires.0 bytes ports.ports-of.ensures start.requires.1.1.2 best.best-of-each.ensures in
-    chosen_none _ start.requires.0 bests scanned.scan-each.ensures c.if1.false
+    let bytes = known_bytes _ c.shared_slice_known-1.given in
+    let bests = leading-bests _ c.requires.0 bytes c.ports_of.ensures c.requires.1.1.2 c.best_of_each.ensures in
+    chosen_none _ c.requires.0 bests c.scan_each-urgent.ensures c.if-urgent.false
 
 pub choose_spec : {M : Type 1} → statement M
 choose_spec =

@@ -5,37 +5,34 @@ use Rattle.slot_choice.proofs.Walk.{cell-output, ready-is}
 use Rattle.slot_choice.proofs.is_ready.Statement.{statement}
 use Rattle.slot_choice.proofs.is_ready.Tie as tie
 
-mul-output-of : tie.Need-overflow_mul-output-of
+mul-output-of : tie.Need-overflow_mul-input
 mul-output-of c = search rules
 
-add-output-of : tie.Need-overflow_add-output-of
+add-output-of : tie.Need-overflow_add-input
 add-output-of c = search rules
 
-output-of-requires : tie.Need-output-of-requires
+output-of-requires : tie.Need-output_of-output-requires
 output-of-requires c κs = search rules
 
 cast-output : tie.Need-overflow_cast-output
 cast-output c = search rules
 
-mul-result : tie.Need-overflow_mul-result
+mul-result : tie.Need-offset_bounds-keys-output
 mul-result c = search rules
 
-mul-result-2 : tie.Need-overflow_mul-result-2
+mul-result-2 : tie.Need-offset_bounds-keys-input
 mul-result-2 c = search rules
 
-index-1-result : tie.Need-bounds-1-result
+index-1-result : tie.Need-bounds-keys-output
 index-1-result c =
-    let start = c.before.before in
-    omega (arith, c.output-of.ensures, cell-output start.requires.0 start.requires.1)
+    omega (arith, c.output_of-output.ensures, cell-output c.requires.0 c.requires.1)
 
-index-2-result : tie.Need-bounds-2-result
+index-2-result : tie.Need-bounds-keys-input
 index-2-result c = search rules
 
 returns : tie.Need-returns
 returns c =
-    let output = c.before in
-    let start = output.before.before in
-    ready-is start.requires.0 start.requires.1 output.output-of.ensures
+    ready-is c.requires.0 c.requires.1 c.output_of-output.ensures
 
 pub is_ready_spec : {M : Type 1} → statement M
 is_ready_spec =

@@ -1,10 +1,11 @@
 -- Head by head: up to the first ready one none is scheduled, and from there on that one is. The positions of the urgent ones
 -- are gathered.
 use borrow.Author.Rules.{rules}
-use Prim.Native.Nat.{◌<◌}
+use Prim.Native.Nat.{ℕ, ◌<◌}
 use native.Mathlib.Omega.{arith}
 use mathlib.Core.Path.{◌≡◌, sym, ◌∙◌, ap, subst}
-use mathlib.Core.Logic.{◌⊎◌, inl, inr}
+use mathlib.Core.Bool.{Bool}
+use mathlib.Core.List.{List}
 use Rattle.sets.specs.Sets.{first_of}
 use Rattle.sets.proofs.Members.{rest-less}
 use Rattle.sets.specs.Code.{rest_of}
@@ -17,217 +18,190 @@ use Rattle.slot_choice.proofs.Walked.{Early, early-start, early-known, early-nex
 use Rattle.slot_choice.proofs.Walked.{scheduled-end}
 use Rattle.slot_choice.proofs.scan.Statement.{statement}
 use Rattle.slot_choice.proofs.scan.Tie as tie
+use Rattle.slot_choice.proofs.scan.Lts.{else-loop-left-test, then-loop-left-test+then-is_ready}
 
-abbrev invariant-loop : tie.invariant-loop
+abbrev invariant-loop : tie.invariant-loop-left
 invariant-loop table heads keys best least input urgent₀ left₀ urgent left = Early table input urgent left
 
-abbrev decreases-loop : tie.decreases-loop
+abbrev decreases-loop : tie.decreases-loop-left
 decreases-loop table heads keys best least input urgent₀ left₀ urgent left = left
 
-abbrev invariant-loop2 : tie.invariant-loop2
+abbrev invariant-loop2 : tie.invariant-loop-left-2
 invariant-loop2 table heads keys best least input urgent₀ left₀ scheduled urgent left = Walked table input urgent left
 
-abbrev decreases-loop2 : tie.decreases-loop2
+abbrev decreases-loop2 : tie.decreases-loop-left-2
 decreases-loop2 table heads keys best least input urgent₀ left₀ scheduled urgent left = left
 
 ------------------------------------------------------------------------
 -- up to the first ready head
 
 -- where a position is left: it is a head's
-module _ (c : tie.In-loop invariant-loop decreases-loop invariant-loop2 decreases-loop2) where
-  some : 0 < c.before.loop.left
-  some = omega (arith, c.loop-test.true)
+module _ (c : tie.In-loop-left invariant-loop decreases-loop invariant-loop2 decreases-loop2) where
+  some : 0 < c.loop-left.left
+  some = omega (arith, c.loop-left-test.true)
 
-  cell : let a = c.before.before.before.args in CellAt a.table.now a.input (first_of c.before.loop.left)
+  cell : let a = c.args in CellAt a.table.now a.input (first_of c.loop-left.left)
   cell =
-      let start = c.before.before.before in
-      walked-cell _ _ start.requires.0.known.readable start.requires.1.0 c.before.loop.invariant.walked some
+      walked-cell _ _ c.requires.0.known.readable c.requires.1.0 c.loop-left.invariant.walked some
 
-  less : rest_of c.before.loop.left < c.before.loop.left
-  less = rest-less c.before.loop.left some c.before.loop.invariant.walked.visited.fits
+  less : rest_of c.loop-left.left < c.loop-left.left
+  less = rest-less c.loop-left.left some c.loop-left.invariant.walked.visited.fits
 
 -- the same, by what the code calls its position
-here : (c : tie.After-first invariant-loop decreases-loop invariant-loop2 decreases-loop2)
-    → let a = c.before.before.before.before.args in CellAt a.table.now a.input c.first.result
+here : (c : tie.After-first-position invariant-loop decreases-loop invariant-loop2 decreases-loop2)
+    → let a = c.args in CellAt a.table.now a.input c.first-position.result
 here c =
-    let a = c.before.before.before.before.args in
-    subst (CellAt a.table.now a.input) (sym c.first.ensures) (cell c.before)
+    let a = c.args in
+    subst (CellAt a.table.now a.input) (sym c.first-position.ensures) (cell c.before)
 
 -- whether its crosspoint is empty
-empty : (c : tie.After-is-ready invariant-loop decreases-loop invariant-loop2 decreases-loop2)
-    → let loop = c.before.before.before in
-    let a = loop.before.before.args in
-    crosspoint_empty (crosspoints (waiting_in a.table.now)) (cell_at a.table.now a.input (first_of loop.loop.left))
-    ≡ c.is-ready.result
-empty c =
-    let loop = c.before.before.before in
-    let a = loop.before.before.args in
-    ap (λ j. crosspoint_empty (crosspoints (waiting_in a.table.now)) (cell_at a.table.now a.input j))
-    (sym c.before.first.ensures)
-    ∙ sym c.is-ready.ensures
+empty : (table : List ℕ) (input left : ℕ) {position : ℕ} {ready : Bool} → position ≡ first_of left
+    → ready ≡ crosspoint_empty (crosspoints (waiting_in table)) (cell_at table input position)
+    → crosspoint_empty (crosspoints (waiting_in table)) (cell_at table input (first_of left)) ≡ ready
+empty table input left is tested =
+    ap (λ j. crosspoint_empty (crosspoints (waiting_in table)) (cell_at table input j)) (sym is) ∙ sym tested
 
-loop-holds : tie.Need-loop-init invariant-loop decreases-loop invariant-loop2 decreases-loop2
+loop-holds : tie.Need-loop-left-init invariant-loop decreases-loop invariant-loop2 decreases-loop2
 loop-holds c =
-    let start = c.before in
-    subst (Early start.args.table.now start.args.input 0) (sym start.requires.1.1)
-    (early-start _ _ (omega (arith, start.ranges.heads.fits, start.requires.1.1)))
+    subst (Early c.args.table.now c.args.input 0) (sym c.requires.1.1)
+    (early-start _ _ (omega (arith, c.ranges.heads.fits, c.requires.1.1)))
 
-first-requires : tie.Need-first-requires invariant-loop decreases-loop invariant-loop2 decreases-loop2
+first-requires : tie.Need-first-position-requires invariant-loop decreases-loop invariant-loop2 decreases-loop2
 first-requires c κs = search rules
 
-is-ready-requires : tie.Need-is-ready-requires invariant-loop decreases-loop invariant-loop2 decreases-loop2
-is-ready-requires c κs = (c.before.before.before.before.requires.0.known, here c)
+is-ready-requires : tie.Need-is_ready-requires invariant-loop decreases-loop invariant-loop2 decreases-loop2
+is-ready-requires c κs = (c.requires.0.known, here c)
 
-rest-requires : tie.Need-rest-requires invariant-loop decreases-loop invariant-loop2 decreases-loop2
+rest-requires : tie.Need-rest-left-requires invariant-loop decreases-loop invariant-loop2 decreases-loop2
 rest-requires c κs = some c.before.before.before
 
-is-urgent-requires : tie.Need-is-urgent-requires invariant-loop decreases-loop invariant-loop2 decreases-loop2
+is-urgent-requires : tie.Need-is_urgent-member-requires invariant-loop decreases-loop invariant-loop2 decreases-loop2
 is-urgent-requires c κs =
-    let first = c.before.before.before in
-    (first.before.before.before.before.requires.0, here first)
+    (c.requires.0, here c.before.before.before)
 
-with-if-requires : tie.Need-with-if-requires invariant-loop decreases-loop invariant-loop2 decreases-loop2
+with-if-requires : tie.Need-with_if-urgent-requires invariant-loop decreases-loop invariant-loop2 decreases-loop2
 with-if-requires c κs = (here c.before.before.before.before).small
 
-loop-less : tie.Need-loop-smaller invariant-loop decreases-loop invariant-loop2 decreases-loop2
+loop-less : tie.Need-loop-left-smaller invariant-loop decreases-loop invariant-loop2 decreases-loop2
 loop-less c =
-    let rest = c.before.before in
-    omega (arith, rest.rest.ensures, less rest.before.before.before.before)
+    omega (arith, c.rest-left.ensures, less c.before.before.before.before.before.before)
 
-loop-again : tie.Need-loop-preserved invariant-loop decreases-loop invariant-loop2 decreases-loop2
+loop-again : tie.Need-loop-left-preserved invariant-loop decreases-loop invariant-loop2 decreases-loop2
 loop-again c =
-    let asked = c.before in
-    let rest = asked.before in
-    let busy = rest.before in
-    let first = busy.before.before in
-    let loop = first.before.before in
-    let start = loop.before.before in
-    let table = start.args.table.now in
-    let full = empty busy.before ∙ busy.if1.false in
-    rw (c.with-if.ensures, first.first.ensures, rest.rest.ensures)
-    (early-next _ _ start.requires.0.known.readable start.requires.1.0 loop.loop.invariant (some first.before) full
-    asked.is-urgent.result
-    (asked.is-urgent.ensures
-    ∙ ap (λ j. is_urgent (ports_in table) (crosspoints (waiting_in table)) (scheduled_at table start.args.input 64)
-    (cell_at table start.args.input j)) first.first.ensures
-    ∙ early-known _ _ start.requires.0.known.readable start.requires.1.0 loop.loop.invariant (some first.before) full))
+    let table = c.args.table.now in
+    let full =
+    empty table c.args.input c.loop-left.left c.first-position.ensures c.is_ready.ensures ∙ c.if-is_ready.false in
+    let left = some c.before.before.before.before.before.before in
+    rw (c.with_if-urgent.ensures, c.first-position.ensures, c.rest-left.ensures)
+    (early-next _ _ c.requires.0.known.readable c.requires.1.0 c.loop-left.invariant left full
+    c.is_urgent-member.result
+    (c.is_urgent-member.ensures
+    ∙ ap (λ j. is_urgent (ports_in table) (crosspoints (waiting_in table)) (scheduled_at table c.args.input 64)
+    (cell_at table c.args.input j)) c.first-position.ensures
+    ∙ early-known _ _ c.requires.0.known.readable c.requires.1.0 c.loop-left.invariant left full))
 
 ------------------------------------------------------------------------
 -- from there on
 
-first-requires-2 : tie.Need-first-requires-2 invariant-loop decreases-loop invariant-loop2 decreases-loop2
+first-requires-2 : tie.Need-first-scheduled-requires invariant-loop decreases-loop invariant-loop2 decreases-loop2
 first-requires-2 c κs = search rules
 
--- either way
-by-either : {A B C : Type 0} → (A → C) → (B → C) → A ⊎ B → C
-by-either f g (inl a) = f a
-by-either f g (inr b) = g b
-
 -- the next head is scheduled, or none where none is left
-scheduled : (c : tie.After-first2 invariant-loop decreases-loop invariant-loop2 decreases-loop2)
-    → let start = c.before.before.before.before in
-    ScheduledAt start.args.table.now start.args.input start.requires.0.known.readable start.requires.1.0
-    c.first2.result
+scheduled : (c : tie.After-first-scheduled invariant-loop decreases-loop invariant-loop2 decreases-loop2)
+    →
+    ScheduledAt c.args.table.now c.args.input c.requires.0.known.readable c.requires.1.0
+    c.first-scheduled.result
 scheduled c =
-    let at = c.before.before in
-    let start = at.before.before in
-    let readable = start.requires.0.known.readable in
-    subst (ScheduledAt start.args.table.now start.args.input readable start.requires.1.0)
-    (sym c.first2.ensures)
-    (by-either (λ end. scheduled-end _ _ readable start.requires.1.0 at.loop.invariant end.left) (λ stop.
-    let in-loop : tie.In-loop invariant-loop decreases-loop invariant-loop2 decreases-loop2 = record { before = at; loop-test = stop.0 } in
-    let first : tie.After-first invariant-loop decreases-loop invariant-loop2 decreases-loop2 = record { before = in-loop; first = stop.1 } in
-    scheduled-here _ _ readable start.requires.1.0 at.loop.invariant (some in-loop)
-    (empty (record { before = first; is-ready = stop.2 }) ∙ stop.3.taken))
-    c.before.loop-test.branch)
+    let readable = c.requires.0.known.readable in
+    subst (ScheduledAt c.args.table.now c.args.input readable c.requires.1.0)
+    (sym c.first-scheduled.ensures)
+    (elim c.loop-left-test.branch [
+      | else-loop-left-test w ↦
+          scheduled-end _ _ readable c.requires.1.0 c.loop-left.invariant w.loop-left-test.false
+      | then-loop-left-test+then-is_ready w ↦
+          scheduled-here _ _ readable c.requires.1.0 c.loop-left.invariant (omega (arith, w.loop-left-test.true))
+          (empty c.args.table.now c.args.input c.loop-left.left w.first-position.ensures w.is_ready.ensures
+          ∙ w.if-is_ready.true)
+    ])
 
-loop2-holds : tie.Need-loop2-init invariant-loop decreases-loop invariant-loop2 decreases-loop2
-loop2-holds c = c.before.before.loop.invariant.walked
+loop2-holds : tie.Need-loop-left-2-init invariant-loop decreases-loop invariant-loop2 decreases-loop2
+loop2-holds c = c.loop-left.invariant.walked
 
 -- where a position is left
-module _ (c : tie.In-loop2 invariant-loop decreases-loop invariant-loop2 decreases-loop2) where
-  some-2 : 0 < c.before.loop2.left
-  some-2 = omega (arith, c.loop2-test.true)
+module _ (c : tie.In-loop-left-2 invariant-loop decreases-loop invariant-loop2 decreases-loop2) where
+  some-2 : 0 < c.loop-left-2.left
+  some-2 = omega (arith, c.loop-left-2-test.true)
 
-  less-2 : rest_of c.before.loop2.left < c.before.loop2.left
-  less-2 = rest-less c.before.loop2.left some-2 c.before.loop2.invariant.visited.fits
+  less-2 : rest_of c.loop-left-2.left < c.loop-left-2.left
+  less-2 = rest-less c.loop-left-2.left some-2 c.loop-left-2.invariant.visited.fits
 
-here-2 : (c : tie.After-first3 invariant-loop decreases-loop invariant-loop2 decreases-loop2)
-    → let a = c.before.before.before.before.before.before.before.args in
-    CellAt a.table.now a.input c.first3.result
+here-2 : (c : tie.After-first-position-in-loop-left-2 invariant-loop decreases-loop invariant-loop2 decreases-loop2)
+    → let a = c.args in
+    CellAt a.table.now a.input c.first-position-in-loop-left-2.result
 here-2 c =
-    let at = c.before.before in
-    let start = at.before.before.before.before.before in
-    subst (CellAt start.args.table.now start.args.input) (sym c.first3.ensures)
-    (walked-cell _ _ start.requires.0.known.readable start.requires.1.0 at.loop2.invariant (some-2 c.before))
+    subst (CellAt c.args.table.now c.args.input) (sym c.first-position-in-loop-left-2.ensures)
+    (walked-cell _ _ c.requires.0.known.readable c.requires.1.0 c.loop-left-2.invariant (some-2 c.before))
 
-first-requires-3 : tie.Need-first-requires-3 invariant-loop decreases-loop invariant-loop2 decreases-loop2
+first-requires-3 : tie.Need-first-position-requires-in-loop-left-2
+    invariant-loop decreases-loop invariant-loop2 decreases-loop2
 first-requires-3 c κs = search rules
 
-rest-requires-2 : tie.Need-rest-requires-2 invariant-loop decreases-loop invariant-loop2 decreases-loop2
+rest-requires-2 : tie.Need-rest-left-requires-in-loop-left-2
+    invariant-loop decreases-loop invariant-loop2 decreases-loop2
 rest-requires-2 c κs = some-2 c.before
 
-is-urgent-requires-2 : tie.Need-is-urgent-requires-2 invariant-loop decreases-loop invariant-loop2 decreases-loop2
+is-urgent-requires-2 : tie.Need-is_urgent-member-requires-in-loop-left-2
+    invariant-loop decreases-loop invariant-loop2 decreases-loop2
 is-urgent-requires-2 c κs =
-    (c.before.before.before.before.before.before.before.before.requires.0, here-2 c.before)
+    (c.requires.0, here-2 c.before)
 
-with-if-requires-2 : tie.Need-with-if-requires-2 invariant-loop decreases-loop invariant-loop2 decreases-loop2
+with-if-requires-2 : tie.Need-with_if-urgent-requires-in-loop-left-2
+    invariant-loop decreases-loop invariant-loop2 decreases-loop2
 with-if-requires-2 c κs = (here-2 c.before.before).small
 
-loop2-less : tie.Need-loop2-smaller invariant-loop decreases-loop invariant-loop2 decreases-loop2
+loop2-less : tie.Need-loop-left-2-smaller invariant-loop decreases-loop invariant-loop2 decreases-loop2
 loop2-less c =
-    let rest = c.before.before in
-    omega (arith, rest.rest2.ensures, less-2 rest.before.before)
+    omega (arith, c.rest-left-in-loop-left-2.ensures, less-2 c.before.before.before.before)
 
-loop2-again : tie.Need-loop2-preserved invariant-loop decreases-loop invariant-loop2 decreases-loop2
+loop2-again : tie.Need-loop-left-2-preserved invariant-loop decreases-loop invariant-loop2 decreases-loop2
 loop2-again c =
-    let asked = c.before in
-    let rest = asked.before in
-    let first = rest.before in
-    let at = first.before.before in
-    let start = at.before.before.before.before.before in
-    let table = start.args.table.now in
-    rw (c.with-if2.ensures, first.first3.ensures, rest.rest2.ensures)
-    (walked_next _ _ start.requires.0.known.readable start.requires.1.0 at.loop2.invariant (some-2 first.before)
-    asked.is-urgent2.result
-    (asked.is-urgent2.ensures
+    let table = c.args.table.now in
+    let left = some-2 c.before.before.before.before in
+    let position = c.first-position-in-loop-left-2.ensures in
+    rw (c.with_if-urgent-in-loop-left-2.ensures, position, c.rest-left-in-loop-left-2.ensures)
+    (walked_next _ _ c.requires.0.known.readable c.requires.1.0 c.loop-left-2.invariant left
+    c.is_urgent-member-in-loop-left-2.result
+    (c.is_urgent-member-in-loop-left-2.ensures
     ∙ ap (λ j. is_urgent (ports_in table) (crosspoints (waiting_in table))
-    (scheduled_at table start.args.input at.before.first2.result) (cell_at table start.args.input j))
-    first.first3.ensures
-    ∙ walked-known _ _ start.requires.0.known.readable start.requires.1.0 at.loop2.invariant (some-2 first.before) _
-    (scheduled at.before)))
+    (scheduled_at table c.args.input c.first-scheduled.result) (cell_at table c.args.input j))
+    position
+    ∙ walked-known _ _ c.requires.0.known.readable c.requires.1.0 c.loop-left-2.invariant left _
+    (scheduled c.before.before.before.before.before.before)))
 
 ------------------------------------------------------------------------
 -- at the end
 
-mul-t52 : tie.Need-overflow_mul-t52 invariant-loop decreases-loop invariant-loop2 decreases-loop2
+mul-t52 : tie.Need-overflow_mul-result invariant-loop decreases-loop invariant-loop2 decreases-loop2
 mul-t52 c =
-    let start = c.before.before.before.before.before.before.before in
-    omega (arith, start.requires.1.0, start.requires.0.known.readable.ports)
+    omega (arith, c.requires.1.0, c.requires.0.known.readable.ports)
 
-add-t54 : tie.Need-overflow_add-t54 invariant-loop decreases-loop invariant-loop2 decreases-loop2
+add-t54 : tie.Need-overflow_add-result invariant-loop decreases-loop invariant-loop2 decreases-loop2
 add-t54 c =
-    let start = c.before.before.before.before.before.before.before in
-    omega (arith, start.requires.1.0, start.requires.0.known.readable.ports, c.if2.true)
+    omega (arith, c.requires.1.0, c.requires.0.known.readable.ports, c.if-scheduled-lt-CELLS.true)
 
-cast-t50 : tie.Need-overflow_cast-t50 invariant-loop decreases-loop invariant-loop2 decreases-loop2
+cast-t50 : tie.Need-overflow_cast-result invariant-loop decreases-loop invariant-loop2 decreases-loop2
 cast-t50 c =
-    let start = c.before.before.before.before.before.before.before in
-    omega (arith, start.requires.1.0, start.requires.0.known.readable.ports, c.if2.true)
+    omega (arith, c.requires.1.0, c.requires.0.known.readable.ports, c.if-scheduled-lt-CELLS.true)
 
-returns : tie.Need-returns invariant-loop decreases-loop invariant-loop2 decreases-loop2
+returns : tie.Need-returns-then-scheduled-lt-CELLS invariant-loop decreases-loop invariant-loop2 decreases-loop2
 returns c =
-    let at = c.before.before in
-    let start = at.before.before.before.before.before in
-    walked_one _ _ start.requires.0.known.readable start.requires.1.0 at.loop2.invariant c.before.loop2-test.false _
-    (scheduled at.before) c.if2.true
+    walked_one _ _ c.requires.0.known.readable c.requires.1.0 c.loop-left-2.invariant c.loop-left-2-test.false _
+    (scheduled c.before.before.before) c.if-scheduled-lt-CELLS.true
 
-returns-2 : tie.Need-returns-2 invariant-loop decreases-loop invariant-loop2 decreases-loop2
+returns-2 : tie.Need-returns-else-scheduled-lt-CELLS invariant-loop decreases-loop invariant-loop2 decreases-loop2
 returns-2 c =
-    let at = c.before.before in
-    let start = at.before.before.before.before.before in
-    walked_none _ _ start.requires.0.known.readable start.requires.1.0 at.loop2.invariant c.before.loop2-test.false _
-    (scheduled at.before) c.if2.false
+    walked_none _ _ c.requires.0.known.readable c.requires.1.0 c.loop-left-2.invariant c.loop-left-2-test.false _
+    (scheduled c.before.before.before) c.if-scheduled-lt-CELLS.false
 
 pub scan_spec : {M : Type 1} → statement M
 scan_spec =

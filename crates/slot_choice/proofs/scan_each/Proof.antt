@@ -8,70 +8,68 @@ use Rattle.slot_choice.proofs.Choice.{ScannedTo, scanned-none, scanned-more, sca
 use Rattle.slot_choice.proofs.scan_each.Statement.{statement}
 use Rattle.slot_choice.proofs.scan_each.Tie as tie
 
-abbrev invariant-loop : tie.invariant-loop
+abbrev invariant-loop : tie.invariant-loop-input
 invariant-loop table heads keys best least scheduled₀ urgent₀ some₀ ports input₀ scheduled urgent some input =
     (input ≤ ports) × ScannedTo table input scheduled urgent some
 
-abbrev decreases-loop : tie.decreases-loop
+abbrev decreases-loop : tie.decreases-loop-input
 decreases-loop table heads keys best least scheduled₀ urgent₀ some₀ ports input₀ scheduled urgent some input = ports - input
 
-ports-of-requires : tie.Need-ports-of-requires invariant-loop decreases-loop
+ports-of-requires : tie.Need-ports_of-ports-requires invariant-loop decreases-loop
 ports-of-requires c κs = search rules
 
 -- an input of the switch
-inside : (c : tie.In-loop invariant-loop decreases-loop)
-    → c.before.loop.input < ports_in c.before.before.before.before.args.table.now
-inside c = omega (arith, c.loop-test.true, c.before.before.ports-of.ensures)
+inside : (c : tie.In-loop-input invariant-loop decreases-loop)
+    → c.loop-input.input < ports_in c.args.table.now
+inside c = omega (arith, c.loop-input-test.true, c.ports_of-ports.ensures)
 
-below-ports : (c : tie.In-loop invariant-loop decreases-loop) → c.before.loop.input < 16
-below-ports c = omega (arith, inside c, c.before.before.before.before.requires.0.known.readable.ports)
+below-ports : (c : tie.In-loop-input invariant-loop decreases-loop) → c.loop-input.input < 16
+below-ports c = omega (arith, inside c, c.requires.0.known.readable.ports)
 
-loop-holds : tie.Need-loop-init invariant-loop decreases-loop
+loop-holds : tie.Need-loop-input-init invariant-loop decreases-loop
 loop-holds c =
-    let start = c.before.before in
-    (omega arith, scanned-none _ start.requires.1.1.0 start.requires.1.1.1)
+    (omega arith, scanned-none _ c.requires.1.1.0 c.requires.1.1.1)
 
-mul-scan : tie.Need-overflow_mul-scan invariant-loop decreases-loop
+mul-scan : tie.Need-offset_bounds-heads-input invariant-loop decreases-loop
 mul-scan c = search rules
 
-element-copy-out-scan : tie.Need-element-copy-out-scan invariant-loop decreases-loop
-element-copy-out-scan c = below-ports c
+element-copy-out-scan : tie.Need-bounds-heads-input invariant-loop decreases-loop
+element-copy-out-scan c = below-ports c.before
 
-scan-requires : tie.Need-scan-requires invariant-loop decreases-loop
+scan-requires : tie.Need-scan-found-requires invariant-loop decreases-loop
 scan-requires c κs =
-    let start = c.before.before.before.before.before in
-    (start.requires.0, (inside c.before, start.requires.1.0 _ (below-ports c.before)))
+    (c.requires.0, (inside c.before.before, c.requires.1.0 _ (below-ports c.before.before)))
 
-mul-scheduled : tie.Need-overflow_mul-scheduled invariant-loop decreases-loop
+mul-scheduled : tie.Need-offset_bounds-scheduled-input invariant-loop decreases-loop
 mul-scheduled c = search rules
 
-element-write-scheduled : tie.Need-element-write-scheduled invariant-loop decreases-loop
-element-write-scheduled c = below-ports c.before.before
+element-write-scheduled : tie.Need-bounds-scheduled-input invariant-loop decreases-loop
+element-write-scheduled c = below-ports c.before.before.before.before
 
-mul-urgent : tie.Need-overflow_mul-urgent invariant-loop decreases-loop
+mul-urgent : tie.Need-offset_bounds-urgent-input invariant-loop decreases-loop
 mul-urgent c = search rules
 
-element-write-urgent : tie.Need-element-write-urgent invariant-loop decreases-loop
-element-write-urgent c = below-ports c.before.before
+element-write-urgent : tie.Need-bounds-urgent-input invariant-loop decreases-loop
+element-write-urgent c = below-ports c.before.before.before.before.before
 
 add-input : tie.Need-overflow_add-input invariant-loop decreases-loop
-add-input c = omega (arith, below-ports c.before.before.before)
+add-input c = omega (arith, below-ports c.before.before.before.before.before.before)
 
-loop-less : tie.Need-loop-smaller invariant-loop decreases-loop
+loop-less : tie.Need-loop-input-smaller invariant-loop decreases-loop
 loop-less c = search rules
 
-loop-again : tie.Need-loop-preserved invariant-loop decreases-loop
+loop-again : tie.Need-loop-input-preserved invariant-loop decreases-loop
 loop-again c =
-    let l = c.before.before.before.before.loop in
-    let found = c.before.scan in
-    (omega arith, scanned-more _ l.input _ _ (below-ports c.before.before.before) found.ensures l.invariant.1)
+    let l = c.loop-input in
+    let found = c.scan-found in
+    let inside = below-ports c.before.before.before.before.before.before in
+    (omega arith, scanned-more _ l.input _ _ inside found.ensures l.invariant.1)
 
 returns : tie.Need-returns invariant-loop decreases-loop
 returns c =
-    let start = c.before.before.before.before in
-    let l = c.before.loop in
-    let end : l.input ≡ ports_in start.args.table.now = omega (arith, c.before.before.ports-of.ensures) in
-    scanned-all _ start.requires.0.known.readable end l.invariant.1
+    let l = c.loop-input in
+    let end : l.input ≡ ports_in c.args.table.now = omega (arith, c.ports_of-ports.ensures) in
+    scanned-all _ c.requires.0.known.readable end l.invariant.1
 
 pub scan_each_spec : {M : Type 1} → statement M
 scan_each_spec =

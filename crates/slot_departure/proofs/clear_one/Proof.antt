@@ -10,32 +10,29 @@ use Rattle.slot_departure.proofs.Staying.{zero-words}
 use Rattle.slot_departure.proofs.clear_one.Statement.{statement}
 use Rattle.slot_departure.proofs.clear_one.Tie as tie
 
-start-of-requires : tie.Need-start-of-requires
+start-of-requires : tie.Need-start_of-at-requires
 start-of-requires c κs = search rules
 
-write-u64-requires : tie.Need-write-u64-requires
+write-u64-requires : tie.Need-write_u64-requires
 write-u64-requires c κs = search rules
 
-add-write-u64 : tie.Need-overflow_add-write-u64
+add-write-u64 : tie.Need-overflow_add-at
 add-write-u64 c = search rules
 
-write-u64-requires-2 : tie.Need-write-u64-requires-2
+write-u64-requires-2 : tie.Need-write_u64-requires-2
 write-u64-requires-2 c κs = search rules
 
-same_length : tie.Need-same-length
+same_length : tie.Need-shape_of-table
 same_length c = search rules
 
 returns : tie.Need-returns
 returns c =
-    let b = c.before.before in
-    let a = b.before.before.before.before in
-    let start = a.before.before.before.before in
-    let at = a.before.before.start_of.ensures in
-    let old = start.args.table.now in
-    put_two (record_start start.args.k) 0 0 old a.write-u64.new.0 b.write-u642.new.0
-    (omega (arith, start.requires.0, start.requires.1)) (a.write-u64.ensures ∙ ap (λ n. put n 8 (bytes_of 8 0) old) at)
-    (b.write-u642.ensures ∙ ap (λ n. put (n + 8) 8 (bytes_of 8 0) a.write-u64.new.0) at)
-    ∙ ap (λ bs. put (record_start start.args.k) 16 bs old) zero-words
+    let at = c.start_of-at.ensures in
+    let old = c.args.table.now in
+    put_two (record_start c.args.k) 0 0 old c.write_u64.new.bytes c.write_u64-2.new.bytes
+    (omega (arith, c.requires.0, c.requires.1)) (c.write_u64.ensures ∙ ap (λ n. put n 8 (bytes_of 8 0) old) at)
+    (c.write_u64-2.ensures ∙ ap (λ n. put (n + 8) 8 (bytes_of 8 0) c.write_u64.new.bytes) at)
+    ∙ ap (λ bs. put (record_start c.args.k) 16 bs old) zero-words
 
 pub clear_one_spec : {M : Type 1} → statement M
 clear_one_spec =

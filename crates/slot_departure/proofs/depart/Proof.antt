@@ -10,27 +10,23 @@ use Rattle.slot_departure.proofs.depart.Tie as tie
 
 send-requires : tie.Need-send-requires
 send-requires c κs =
-    let start = c.before.before.before.before in
-    ((table-readable _ start.requires.0.0).size, start.requires.0.1.size, omega (arith, start.requires.1))
+    ((table-readable _ c.requires.0.0).size, c.requires.0.1.size, omega (arith, c.requires.1))
 
 remove-requires : tie.Need-remove-requires
 remove-requires c κs = search rules
 
-same_length : tie.Need-same-length
+same_length : tie.Need-shape_of-table
 same_length c = search rules
 
-same-length-2 : tie.Need-same-length-2
+same-length-2 : tie.Need-shape_of-answer
 same-length-2 c = search rules
 
 returns : tie.Need-returns
-returns c =
-    let gone = c.before.before in
-    let sent = gone.before.before.before.before in
-    let start = sent.before.before.before.before.before in (
-      gone.remove.ensures,
-      sent.send.ensures
-          ∙ ap (λ bs. filled bs start.args.answer.now) (departures-chosen _ start.requires.0.0 start.requires.0.1),
-    )
+returns c = (
+  c.remove.ensures,
+  c.send.ensures
+      ∙ ap (λ bs. filled bs c.args.answer.now) (departures-chosen _ c.requires.0.0 c.requires.0.1),
+)
 
 pub depart_spec : {M : Type 1} → statement M
 depart_spec = tie.close (tie.spec send-requires remove-requires same_length same-length-2 returns)

@@ -5,44 +5,41 @@ use Rattle.slot_departure.proofs.Firsts.{firsts_same, firsts-lower}
 use Rattle.slot_departure.proofs.note_leaving.Statement.{statement}
 use Rattle.slot_departure.proofs.note_leaving.Tie as tie
 
-mul-number : tie.Need-overflow_mul-number
+mul-number : tie.Need-offset_bounds-best-output
 mul-number c = search rules
 
-element-copy-out-number : tie.Need-element-copy-out-number
+element-copy-out-number : tie.Need-bounds-best-output
 element-copy-out-number c = search rules
 
-returns : tie.Need-returns
+returns : tie.Need-returns-then-number-ge-NOWHERE
 returns c =
-    let start = c.before.before in
-    firsts_same start.args.best.now start.args.output start.args.firsts.now start.requires.1
-    (λ small. absurd (omega (arith, c.if1.true)))
+    firsts_same c.args.best.now c.args.output c.args.firsts.now c.requires.1
+    (λ small. absurd (omega (arith, c.if-number-ge-NOWHERE.true)))
 
 cast-input : tie.Need-overflow_cast-input
 cast-input c = search rules
 
-mul-if2 : tie.Need-overflow_mul-if2
+mul-if2 : tie.Need-offset_bounds-firsts-input
 mul-if2 c = search rules
 
-element-copy-out-if2 : tie.Need-element-copy-out-if2
+element-copy-out-if2 : tie.Need-bounds-firsts-input
 element-copy-out-if2 c = search rules
 
-returns-2 : tie.Need-returns-2
+returns-2 : tie.Need-returns-then-firsts-input
 returns-2 c =
-    let start = c.before.before.before.before in
-    firsts_same start.args.best.now start.args.output start.args.firsts.now start.requires.1
-    (λ small. c.if2.true)
+    firsts_same c.args.best.now c.args.output c.args.firsts.now c.requires.1
+    (λ small. c.if-firsts-input.true)
 
-mul-firsts : tie.Need-overflow_mul-firsts
+mul-firsts : tie.Need-offset_bounds-firsts-input-2
 mul-firsts c = search rules
 
-element-write-firsts : tie.Need-element-write-firsts
+element-write-firsts : tie.Need-bounds-firsts-input-2
 element-write-firsts c = search rules
 
-returns-3 : tie.Need-returns-3
+returns-3 : tie.Need-returns
 returns-3 c =
-    let start = c.before.before.before.before in
-    firsts-lower start.args.best.now start.args.output start.args.firsts.now start.requires.1
-    c.before.before.if1.false c.if2.false
+    firsts-lower c.args.best.now c.args.output c.args.firsts.now c.requires.1
+    c.if-number-ge-NOWHERE.false c.if-firsts-input.false
 
 pub note_leaving_spec : {M : Type 1} → statement M
 note_leaving_spec =

@@ -3,16 +3,16 @@ use borrow.Author.Rules.{rules}
 use Rattle.slot_leaders.proofs.least_key.Statement.{statement}
 use Rattle.slot_leaders.proofs.least_key.Tie as tie
 
-least-of-four-requires : tie.Need-least-of-four-requires
+least-of-four-requires : tie.Need-least_of_four-a-requires
 least-of-four-requires c κs = search rules
 
-least-of-four-requires-2 : tie.Need-least-of-four-requires-2
+least-of-four-requires-2 : tie.Need-least_of_four-b-requires
 least-of-four-requires-2 c κs = search rules
 
-least-of-four-requires-3 : tie.Need-least-of-four-requires-3
+least-of-four-requires-3 : tie.Need-least_of_four-c-requires
 least-of-four-requires-3 c κs = search rules
 
-least-of-four-requires-4 : tie.Need-least-of-four-requires-4
+least-of-four-requires-4 : tie.Need-least_of_four-d-requires
 least-of-four-requires-4 c κs = search rules
 
 lesser-requires : tie.Need-lesser-requires

@@ -8,48 +8,47 @@ use Rattle.slot_leaders.proofs.Leaders.{least-none, least-to, least_more}
 use Rattle.slot_leaders.proofs.least_of_each.Statement.{statement}
 use Rattle.slot_leaders.proofs.least_of_each.Tie as tie
 
-abbrev invariant-loop : tie.invariant-loop
+abbrev invariant-loop : tie.invariant-loop-output
 invariant-loop keys least₀ holders₀ output₀ least holders output = (output ≤ 16) × LeastTo keys output least holders
 
-abbrev decreases-loop : tie.decreases-loop
+abbrev decreases-loop : tie.decreases-loop-output
 decreases-loop keys least₀ holders₀ output₀ least holders output = 16 - output
 
-loop-holds : tie.Need-loop-init invariant-loop decreases-loop
+loop-holds : tie.Need-loop-output-init invariant-loop decreases-loop
 loop-holds c = (omega arith, least-none _ c.requires.0 c.requires.1)
 
-least-key-requires : tie.Need-least-key-requires invariant-loop decreases-loop
+least-key-requires : tie.Need-least_key-key-requires invariant-loop decreases-loop
 least-key-requires c κs = search rules
 
-mul-least : tie.Need-overflow_mul-least invariant-loop decreases-loop
+mul-least : tie.Need-offset_bounds-least-output invariant-loop decreases-loop
 mul-least c = search rules
 
-element-write-least : tie.Need-element-write-least invariant-loop decreases-loop
+element-write-least : tie.Need-bounds-least-output invariant-loop decreases-loop
 element-write-least c = search rules
 
-holders-of-requires : tie.Need-holders-of-requires invariant-loop decreases-loop
+holders-of-requires : tie.Need-holders_of-requires invariant-loop decreases-loop
 holders-of-requires c κs = search rules
 
-mul-holders : tie.Need-overflow_mul-holders invariant-loop decreases-loop
+mul-holders : tie.Need-offset_bounds-holders-output invariant-loop decreases-loop
 mul-holders c = search rules
 
-element-write-holders : tie.Need-element-write-holders invariant-loop decreases-loop
+element-write-holders : tie.Need-bounds-holders-output invariant-loop decreases-loop
 element-write-holders c = search rules
 
 add-output : tie.Need-overflow_add-output invariant-loop decreases-loop
 add-output c = search rules
 
-loop-less : tie.Need-loop-smaller invariant-loop decreases-loop
+loop-less : tie.Need-loop-output-smaller invariant-loop decreases-loop
 loop-less c = search rules
 
-loop-again : tie.Need-loop-preserved invariant-loop decreases-loop
+loop-again : tie.Need-loop-output-preserved invariant-loop decreases-loop
 loop-again c =
-    let key = c.before in
-    let l = key.before.before.loop in
-    (omega arith, least_more _ l.output _ _ (omega arith) key.least-key.ensures c.holders-of.ensures l.invariant.1)
+    let l = c.loop-output in
+    (omega arith, least_more _ l.output _ _ (omega arith) c.least_key-key.ensures c.holders_of.ensures l.invariant.1)
 
 returns : tie.Need-returns invariant-loop decreases-loop
 returns c =
-    let l = c.before.loop in
+    let l = c.loop-output in
     let end : l.output ≡ 16 = omega arith in
     least-to _ end l.invariant.1
 

@@ -35,22 +35,16 @@ decreases-loop table candidates held₀ proposals₀ input₀ left held proposal
 abbrev At-loop2 : Type 0
 At-loop2 = tie.At-loop-asked invariant-loop2 decreases-loop2 invariant-loop decreases-loop
 
-abbrev In-loop2 : Type 0
-In-loop2 = tie.In-loop-asked invariant-loop2 decreases-loop2 invariant-loop decreases-loop
-
-abbrev start : At-loop2 → tie.Start invariant-loop2 decreases-loop2 invariant-loop decreases-loop
-start c = c.before.before.before.before.before
-
 -- what holds at the head of the inner loop
 asking : (c : At-loop2)
-    → Asking (start c).args.table.now (start c).args.candidates c.loop2.left c.loop2.held
-    (c.before.before.before.loop.input + 1) c.loop2.asked c.loop2.proposals
+    → Asking c.args.table.now c.args.candidates c.loop-asked.left c.loop-asked.held
+    (c.loop-input.input + 1) c.loop-asked.asked c.loop-asked.proposals
 asking c =
-    let l = c.before.before.before.loop in
-    let more : l.input < 16 = omega (arith, c.before.before.loop-test.true) in
-    c.loop2.invariant _ (start c).requires.1
-    (rw c.before.next-in.ensures
-    (asking-next _ _ (start c).requires.1 _ _ _ _ _ l.invariant.0.1 l.invariant.0.2 more))
+    let l = c.loop-input in
+    let more : l.input < 16 = omega (arith, c.loop-input-test.true) in
+    c.loop-asked.invariant _ c.requires.1
+    (rw c.next_in-asked.ensures
+    (asking-next _ _ c.requires.1 _ _ _ _ _ l.invariant.0.1 l.invariant.0.2 more))
 
 loop-holds : tie.Need-loop-input-init invariant-loop2 decreases-loop2 invariant-loop decreases-loop
 loop-holds c =
@@ -70,29 +64,25 @@ loop2-holds c = λ candidates to a. a
 
 propose-requires : tie.Need-propose-asked-requires invariant-loop2 decreases-loop2 invariant-loop decreases-loop
 propose-requires c κs =
-    let l : In-loop2 = c.before.before in
-    let to = (start l.before).requires in (
-      to.0,
-      l.loop2-test.true,
-      asked-output _ _ to.1 _ _ _ _ _ (asking l.before) l.loop2-test.true,
-    )
+    let at : At-loop2 = c.before.before.before in
+    let asks = c.loop-asked-test.true in
+    (c.requires.0, asks, asked-output _ _ c.requires.1 _ _ _ _ _ (asking at) asks)
 
 add-proposals : tie.Need-overflow_add-proposals invariant-loop2 decreases-loop2 invariant-loop decreases-loop
 add-proposals c =
     let l : At-loop2 = c.before.before.before.before in
-    record { fits = omega (arith, asking-few _ _ (start l).requires.1 _ _ _ _ _ (asking l)) }
+    record { fits = omega (arith, asking-few _ _ c.requires.1 _ _ _ _ _ (asking l)) }
 
 loop2-less : tie.Need-loop-asked-smaller invariant-loop2 decreases-loop2 invariant-loop decreases-loop
 loop2-less c =
-    let l : In-loop2 = c.before.before.before in
-    let to = (start l.before).requires.1 in
-    let a = asking-after _ _ to _ _ _ _ _ (asking l.before) l.loop2-test.true _ _ _ c.propose-asked.ensures in
+    let at : At-loop2 = c.before.before.before.before in
+    let to = c.requires.1 in
+    let a = asking-after _ _ to _ _ _ _ _ (asking at) c.loop-asked-test.true _ _ _ c.propose-asked.ensures in
     omega (arith, asking-few _ _ to _ _ _ _ _ a)
 
 loop2-again : tie.Need-loop-asked-preserved invariant-loop2 decreases-loop2 invariant-loop decreases-loop
 loop2-again c = λ candidates to a.
-    let l : In-loop2 = c.before.before.before in
-    asking-after _ _ to _ _ _ _ _ (l.before.loop2.invariant candidates to a) l.loop2-test.true _ _ _
+    asking-after _ _ to _ _ _ _ _ (c.loop-asked.invariant candidates to a) c.loop-asked-test.true _ _ _
     c.propose-asked.ensures
 
 add-input : tie.Need-overflow_add-input invariant-loop2 decreases-loop2 invariant-loop decreases-loop

@@ -1,19 +1,11 @@
 -- `slot_matching::propose` meets its contract: each return is one of its cases.
 -- Assumes nothing.
-use Prim.Native.Nat.{ℕ}
 use mathlib.Core.Path.{refl, sym, ◌∙◌, ap}
-use mathlib.Core.List.{List}
 use borrow.Author.Rules.{rules}
 use lib.ListN.{set}
 use Rattle.slot_matching.specs.CodeProposing.{kept, wins, loses}
 use Rattle.slot_matching.proofs.propose.Statement.{statement}
 use Rattle.slot_matching.proofs.propose.Tie as tie
-
-abbrev held : tie.After-output_of-output → List ℕ
-held c = c.before.before.args.held.now
-
-abbrev k : tie.After-output_of-output → ℕ
-k c = c.before.before.args.k
 
 output-of-requires : tie.Need-output_of-output-requires
 output-of-requires c κs = search rules
@@ -36,7 +28,7 @@ element-write-held c = search rules
 returns : tie.Need-returns-then-holder-ge-NOWHERE
 returns c =
     let e = c.output_of-output.ensures in
-    kept (rw (← e) c.if-holder-ge-NOWHERE.true) refl (ap (λ o. set (held c.before.before) o (k c.before.before)) e) refl
+    kept (rw (← e) c.if-holder-ge-NOWHERE.true) refl (ap (λ o. set c.args.held.now o c.args.k) e) refl
 
 cast-old : tie.Need-overflow_cast-old
 cast-old c = search rules
@@ -55,13 +47,11 @@ refuse-requires c κs = search rules
 
 returns-2 : tie.Need-returns-then-is_over
 returns-2 c =
-    let t : tie.Then-is_over = c.before.before in
-    let w : tie.After-output_of-output = t.before.before.before.before in
-    let e = w.output-of.ensures in
+    let e = c.output_of-output.ensures in
     wins
-    (rw (← e) t.before.before.if1.false)
-    (rw (← e) (sym t.before.is-over.ensures ∙ t.if2.true))
-    (ap (λ o. set (held w) o (k w)) e)
+    (rw (← e) c.if-holder-ge-NOWHERE.false)
+    (rw (← e) (sym c.is_over.ensures ∙ c.if-is_over.true))
+    (ap (λ o. set c.args.held.now o c.args.k) e)
     (rw (← e) c.refuse.ensures)
 
 refuse-requires-2 : tie.Need-refuse-requires-2
@@ -69,12 +59,10 @@ refuse-requires-2 c κs = search rules
 
 returns-3 : tie.Need-returns
 returns-3 c =
-    let t : tie.Else-is_over = c.before.before in
-    let w : tie.After-output_of-output = t.before.before.before.before in
-    let e = w.output-of.ensures in
+    let e = c.output_of-output.ensures in
     loses
-    (rw (← e) t.before.before.if1.false)
-    (rw (← e) (sym t.before.is-over.ensures ∙ t.if2.false))
+    (rw (← e) c.if-holder-ge-NOWHERE.false)
+    (rw (← e) (sym c.is_over.ensures ∙ c.if-is_over.false))
     refl
     c.refuse-2.ensures
 

@@ -29,10 +29,9 @@ next-in-requires c κs = search rules
 returns : tie.Need-returns
 unfolding rest without
 returns c =
-    let s : tie.Start = c.before.before.before in
     record {
-      others = ap (set s.args.left.now (s.args.k / 64)) c.without-rest.ensures;
-      goes_on = c.next_in.ensures ∙ ap (λ set. next_in set (s.args.k / 64)) c.without-rest.ensures;
+      others = ap (set c.args.left.now (c.args.k / 64)) c.without-rest.ensures;
+      goes_on = c.next_in.ensures ∙ ap (λ set. next_in set (c.args.k / 64)) c.without-rest.ensures;
     }
 
 pub refuse_spec : {M : Type 1} → statement M

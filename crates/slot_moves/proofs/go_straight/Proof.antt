@@ -9,33 +9,30 @@ use Rattle.slot_moves.proofs.Rounds.{length-straight-lists, length-straight-head
 use Rattle.slot_moves.proofs.go_straight.Statement.{statement}
 use Rattle.slot_moves.proofs.go_straight.Tie as tie
 
-abbrev invariant-loop : tie.invariant-loop
+abbrev invariant-loop : tie.invariant-loop-output
 invariant-loop table₀ listed₀ heads₀ best₀ scheduled held inputs₀ outputs₀ output₀ table listed heads best inputs outputs output =
     Straightened (straight_to scheduled held) output table₀ table listed₀ listed heads₀ heads best₀ best inputs outputs × (output ≤ 16)
 
-abbrev decreases-loop : tie.decreases-loop
+abbrev decreases-loop : tie.decreases-loop-output
 decreases-loop table₀ listed₀ heads₀ best₀ scheduled held inputs₀ outputs₀ output₀ table listed heads best inputs outputs output =
     16 - output
 
-loop-holds : tie.Need-loop-init invariant-loop decreases-loop
+loop-holds : tie.Need-loop-output-init invariant-loop decreases-loop
 loop-holds c =
-    let a = c.before.args in (
+    let a = c.args in (
       straightened-none (straight_to a.scheduled.now a.held.now) a.table.now a.listed.now a.heads.now
           a.best.now,
       omega arith,
     )
 
-straight-number-requires : tie.Need-straight-number-requires invariant-loop decreases-loop
+straight-number-requires : tie.Need-straight_number-number-requires invariant-loop decreases-loop
 straight-number-requires c κs = omega arith
 
-straight-to-requires : tie.Need-straight-to-requires invariant-loop decreases-loop
+straight-to-requires : tie.Need-straight_to-requires invariant-loop decreases-loop
 straight-to-requires c κs =
-    let lent = c.before.before.before.before.before in
-    let number = lent.before in
-    let l = number.before.before.loop in
-    let s = number.before.before.before.before in
+    let l = c.loop-output in
     let i = l.invariant.0 in
-    let p = s.requires.0 in (
+    let p = c.requires.0 in (
       (
         (kept-straightened i).size ∙ p.0,
         length-straight-lists i ∙ p.1,
@@ -45,7 +42,7 @@ straight-to-requires c κs =
         length-outputs i,
       ),
       (
-        rw number.straight-number.ensures (bound-kept (kept-straightened i) _ (s.requires.1 l.output (omega arith))),
+        rw c.straight_number-number.ensures (bound-kept (kept-straightened i) _ (c.requires.1 l.output (omega arith))),
         omega arith,
       ),
     )
@@ -53,22 +50,19 @@ straight-to-requires c κs =
 add-output : tie.Need-overflow_add-output invariant-loop decreases-loop
 add-output c = omega arith
 
-loop-less : tie.Need-loop-smaller invariant-loop decreases-loop
+loop-less : tie.Need-loop-output-smaller invariant-loop decreases-loop
 loop-less c = omega arith
 
-loop-again : tie.Need-loop-preserved invariant-loop decreases-loop
+loop-again : tie.Need-loop-output-preserved invariant-loop decreases-loop
 loop-again c =
-    let done = c.before.before in
-    let lent = done.before.before.before.before.before in
-    let number = lent.before.before in
-    (straightened-more number.before.before.loop.invariant.0 number.straight-number.ensures done.straight-to.ensures, omega arith)
+    (straightened-more c.loop-output.invariant.0 c.straight_number-number.ensures c.straight_to.ensures, omega arith)
 
-same_length : tie.Need-same-length invariant-loop decreases-loop
-same_length c = (kept-straightened c.before.loop.invariant.0).size
+same_length : tie.Need-shape_of-table invariant-loop decreases-loop
+same_length c = (kept-straightened c.loop-output.invariant.0).size
 
 returns : tie.Need-returns invariant-loop decreases-loop
 returns c =
-    let l = c.before.loop in
+    let l = c.loop-output in
     let all : l.output ≡ 16 = omega arith in
     rw all at l.invariant.0
 

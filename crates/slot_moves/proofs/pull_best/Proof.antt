@@ -9,33 +9,31 @@ use Rattle.slot_moves.proofs.Rounds.{length-pulled-best}
 use Rattle.slot_moves.proofs.pull_best.Statement.{statement}
 use Rattle.slot_moves.proofs.pull_best.Tie as tie
 
-abbrev invariant-loop : tie.invariant-loop
+abbrev invariant-loop : tie.invariant-loop-output
 invariant-loop table₀ cross₀ keys₀ best₀ crossed straight output₀ table cross keys best output =
     Pulled (take_of straight crossed) output table₀ table cross₀ cross keys₀ keys best₀ best × (output ≤ 16)
 
-abbrev decreases-loop : tie.decreases-loop
+abbrev decreases-loop : tie.decreases-loop-output
 decreases-loop table₀ cross₀ keys₀ best₀ crossed straight output₀ table cross keys best output = 16 - output
 
-loop-holds : tie.Need-loop-init invariant-loop decreases-loop
+loop-holds : tie.Need-loop-output-init invariant-loop decreases-loop
 loop-holds c =
-    let a = c.before.args in (
+    let a = c.args in (
       pulled-none (take_of a.straight.now a.crossed.now) a.table.now a.cross.now a.keys.now a.best.now,
       omega arith,
     )
 
-pull-number-requires : tie.Need-pull-number-requires invariant-loop decreases-loop
+pull-number-requires : tie.Need-pull_number-number-requires invariant-loop decreases-loop
 pull-number-requires c κs = omega arith
 
 pull-requires : tie.Need-pull-requires invariant-loop decreases-loop
 pull-requires c κs =
-    let number = c.before.before.before.before in
-    let l = number.before.before.loop in
-    let s = number.before.before.before.before in
+    let l = c.loop-output in
     let i = l.invariant.0 in
-    let p = s.requires.0 in (
+    let p = c.requires.0 in (
       ((kept-pulled i).size ∙ p.0, length-pulled-best i ∙ p.1, square-pulled i p.2, square-pulled-keys i p.3),
       (
-        rw number.pull-number.ensures (bound-kept (kept-pulled i) _ (s.requires.1 l.output (omega arith))),
+        rw c.pull_number-number.ensures (bound-kept (kept-pulled i) _ (c.requires.1 l.output (omega arith))),
         omega arith,
       ),
     )
@@ -43,21 +41,19 @@ pull-requires c κs =
 add-output : tie.Need-overflow_add-output invariant-loop decreases-loop
 add-output c = omega arith
 
-loop-less : tie.Need-loop-smaller invariant-loop decreases-loop
+loop-less : tie.Need-loop-output-smaller invariant-loop decreases-loop
 loop-less c = omega arith
 
-loop-again : tie.Need-loop-preserved invariant-loop decreases-loop
+loop-again : tie.Need-loop-output-preserved invariant-loop decreases-loop
 loop-again c =
-    let done = c.before.before in
-    let number = done.before.before.before.before.before in
-    (pulled-more number.before.before.loop.invariant.0 number.pull-number.ensures done.pull.ensures, omega arith)
+    (pulled-more c.loop-output.invariant.0 c.pull_number-number.ensures c.pull.ensures, omega arith)
 
-same_length : tie.Need-same-length invariant-loop decreases-loop
-same_length c = (kept-pulled c.before.loop.invariant.0).size
+same_length : tie.Need-shape_of-table invariant-loop decreases-loop
+same_length c = (kept-pulled c.loop-output.invariant.0).size
 
 returns : tie.Need-returns invariant-loop decreases-loop
 returns c =
-    let l = c.before.loop in
+    let l = c.loop-output in
     let all : l.output ≡ 16 = omega arith in
     rw all at l.invariant.0
 

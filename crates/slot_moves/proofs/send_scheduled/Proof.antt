@@ -9,33 +9,30 @@ use Rattle.slot_moves.proofs.Rounds.{length-sent-lists, length-sent-heads, lengt
 use Rattle.slot_moves.proofs.send_scheduled.Statement.{statement}
 use Rattle.slot_moves.proofs.send_scheduled.Tie as tie
 
-abbrev invariant-loop : tie.invariant-loop
+abbrev invariant-loop : tie.invariant-loop-input
 invariant-loop table₀ listed₀ heads₀ cross₀ keys₀ best₀ scheduled straight input₀ table listed heads cross keys best input =
     Sent (send_of straight scheduled) input table₀ table listed₀ listed heads₀ heads cross₀ cross keys₀ keys best₀ best × (input ≤ 16)
 
-abbrev decreases-loop : tie.decreases-loop
+abbrev decreases-loop : tie.decreases-loop-input
 decreases-loop table₀ listed₀ heads₀ cross₀ keys₀ best₀ scheduled straight input₀ table listed heads cross keys best input =
     16 - input
 
-loop-holds : tie.Need-loop-init invariant-loop decreases-loop
+loop-holds : tie.Need-loop-input-init invariant-loop decreases-loop
 loop-holds c =
-    let a = c.before.args in (
+    let a = c.args in (
       sent-none (send_of a.straight.now a.scheduled.now) a.table.now a.listed.now a.heads.now
           a.cross.now a.keys.now a.best.now,
       omega arith,
     )
 
-send-number-requires : tie.Need-send-number-requires invariant-loop decreases-loop
+send-number-requires : tie.Need-send_number-number-requires invariant-loop decreases-loop
 send-number-requires c κs = omega arith
 
 send-requires : tie.Need-send-requires invariant-loop decreases-loop
 send-requires c κs =
-    let lent = c.before.before.before.before.before in
-    let number = lent.before in
-    let l = number.before.before.loop in
-    let s = number.before.before.before.before in
+    let l = c.loop-input in
     let i = l.invariant.0 in
-    let p = s.requires.0 in (
+    let p = c.requires.0 in (
       (
         (kept-sent i).size ∙ p.0,
         length-sent-lists i ∙ p.1,
@@ -44,28 +41,25 @@ send-requires c κs =
         square-sent i p.4,
         square-sent-keys i p.5,
       ),
-      rw number.send-number.ensures (bound-kept (kept-sent i) _ (s.requires.1 l.input (omega arith))),
+      rw c.send_number-number.ensures (bound-kept (kept-sent i) _ (c.requires.1 l.input (omega arith))),
     )
 
 add-input : tie.Need-overflow_add-input invariant-loop decreases-loop
 add-input c = omega arith
 
-loop-less : tie.Need-loop-smaller invariant-loop decreases-loop
+loop-less : tie.Need-loop-input-smaller invariant-loop decreases-loop
 loop-less c = omega arith
 
-loop-again : tie.Need-loop-preserved invariant-loop decreases-loop
+loop-again : tie.Need-loop-input-preserved invariant-loop decreases-loop
 loop-again c =
-    let done = c.before.before in
-    let lent = done.before.before.before.before.before in
-    let number = lent.before.before in
-    (sent-more number.before.before.loop.invariant.0 number.send-number.ensures done.send.ensures, omega arith)
+    (sent-more c.loop-input.invariant.0 c.send_number-number.ensures c.send.ensures, omega arith)
 
-same_length : tie.Need-same-length invariant-loop decreases-loop
-same_length c = (kept-sent c.before.loop.invariant.0).size
+same_length : tie.Need-shape_of-table invariant-loop decreases-loop
+same_length c = (kept-sent c.loop-input.invariant.0).size
 
 returns : tie.Need-returns invariant-loop decreases-loop
 returns c =
-    let l = c.before.loop in
+    let l = c.loop-input in
     let all : l.input ≡ 16 = omega arith in
     rw all at l.invariant.0
 

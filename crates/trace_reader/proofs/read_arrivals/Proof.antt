@@ -2,7 +2,6 @@
 -- left. Assumes nothing.
 use Prim.Native.Nat.{◌-◌}
 use borrow.Author.Rules.{rules}
-use borrow.Author.Tests.{not-true, not-false}
 use native.Mathlib.Omega.{arith}
 use mathlib.Core.Path.{sym, ◌∙◌}
 use Rattle.trace_reader.proofs.Records.{Walked, walked_start, walked_more, walked_stop, walked-full, walked-bad}

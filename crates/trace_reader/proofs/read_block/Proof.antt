@@ -1,6 +1,5 @@
 -- `trace_reader::read_block` meets its contract. Assumes nothing.
 use mathlib.Core.Path.{sym, ◌∙◌}
-use borrow.Author.Tests.{not-true, not-false}
 use Rattle.trace_reader.proofs.Answers.{block_more, block-known, numbers-end}
 use borrow.Author.Rules.{rules}
 use Rattle.trace_reader.proofs.read_block.Statement.{statement}

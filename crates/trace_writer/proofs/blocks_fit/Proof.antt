@@ -12,44 +12,43 @@ use Rattle.trace_writer.proofs.blocks_fit.Statement.{statement}
 use Rattle.trace_writer.proofs.blocks_fit.Tie as tie
 use Rattle.trace_writer.specs.Code.{few}
 
-abbrev invariant-loop : tie.invariant-loop
+abbrev invariant-loop : tie.invariant-loop-i
 invariant-loop counts i₀ i =
     (i ≤ length counts) × (all? few counts ≡ all? few (drop i counts))
 
-abbrev decreases-loop : tie.decreases-loop
+abbrev decreases-loop : tie.decreases-loop-i
 decreases-loop counts i₀ i = length counts - i
 
-loop-holds : tie.Need-loop-init invariant-loop decreases-loop
+loop-holds : tie.Need-loop-i-init invariant-loop decreases-loop
 loop-holds c = (omega arith, refl)
 
-mul-if1 : tie.Need-overflow_mul-if1 invariant-loop decreases-loop
+mul-if1 : tie.Need-offset_bounds-counts-i invariant-loop decreases-loop
 mul-if1 c = omega arith
 
-shared-slice-read-if1 : tie.Need-shared-slice-read-if1 invariant-loop decreases-loop
+shared-slice-read-if1 : tie.Need-bounds-counts-i invariant-loop decreases-loop
 shared-slice-read-if1 c = omega arith
 
-returns : tie.Need-returns invariant-loop decreases-loop
+returns : tie.Need-returns-then-counts-i-gt-BLOCK_LIMIT invariant-loop decreases-loop
 returns c =
-    let l = c.before.before.before in
-    let xs = l.before.args.counts.now in
-    sym (l.loop.invariant.1 ∙ all?-drop-fail few xs l.loop.i (omega arith) (lt-leb _ _ c.if1.true))
+    let xs = c.args.counts.now in
+    let full = c.if-counts-i-gt-BLOCK_LIMIT.true in
+    sym (c.loop-i.invariant.1 ∙ all?-drop-fail few xs c.loop-i.i (omega arith) (lt-leb _ _ full))
 
 add-i : tie.Need-overflow_add-i invariant-loop decreases-loop
 add-i c = omega arith
 
-loop-less : tie.Need-loop-smaller invariant-loop decreases-loop
+loop-less : tie.Need-loop-i-smaller invariant-loop decreases-loop
 loop-less c = omega arith
 
-loop-again : tie.Need-loop-preserved invariant-loop decreases-loop
+loop-again : tie.Need-loop-i-preserved invariant-loop decreases-loop
 loop-again c =
-    let l = c.before.before.before in
-    let xs = l.before.args.counts.now in
-    (omega arith, l.loop.invariant.1 ∙ all?-drop-pass few xs l.loop.i (omega arith) (le-leb _ _ c.if1.false))
+    let xs = c.args.counts.now in
+    let fits = c.if-counts-i-gt-BLOCK_LIMIT.false in
+    (omega arith, c.loop-i.invariant.1 ∙ all?-drop-pass few xs c.loop-i.i (omega arith) (le-leb _ _ fits))
 
-returns-2 : tie.Need-returns-2 invariant-loop decreases-loop
+returns-2 : tie.Need-returns invariant-loop decreases-loop
 returns-2 c =
-    let l = c.before in
-    sym (l.loop.invariant.1 ∙ all?-drop-end few l.before.args.counts.now l.loop.i (omega arith))
+    sym (c.loop-i.invariant.1 ∙ all?-drop-end few c.args.counts.now c.loop-i.i (omega arith))
 
 pub blocks_fit_spec : {M : Type 1} → statement M
 blocks_fit_spec =

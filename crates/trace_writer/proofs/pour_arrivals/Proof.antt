@@ -13,25 +13,25 @@ use Rattle.trace_writer.proofs.Writing.{rest-arrival}
 use Rattle.trace_writer.proofs.pour_arrivals.Statement.{statement}
 use Rattle.trace_writer.proofs.pour_arrivals.Tie as tie
 
-abbrev invariant-loop : tie.invariant-loop
+abbrev invariant-loop : tie.invariant-loop-left
 invariant-loop out₀ at count numbers place₀ from₀ left₀ out place from left =
     (from + 5 * left ≡ 5 * count)
     × Rest out₀ at (arrivals_text (arrivals_from count numbers)) out place
     (arrivals_text (arrivals_from left (drop from numbers)))
 
-abbrev decreases-loop : tie.decreases-loop
+abbrev decreases-loop : tie.decreases-loop-left
 decreases-loop out₀ at count numbers place₀ from₀ left₀ out place from left = left
 
-loop-holds : tie.Need-loop-init invariant-loop decreases-loop
+loop-holds : tie.Need-loop-left-init invariant-loop decreases-loop
 loop-holds c = (omega arith, rest-start (omega arith))
 
-numbers-from-requires : tie.Need-numbers-from-requires invariant-loop decreases-loop
+numbers-from-requires : tie.Need-numbers_from-requires invariant-loop decreases-loop
 numbers-from-requires c κs = tt
 
-arrival-at-requires : tie.Need-arrival-at-requires invariant-loop decreases-loop
+arrival-at-requires : tie.Need-arrival_at-requires invariant-loop decreases-loop
 arrival-at-requires c κs = tt
 
-pour-arrival-requires : tie.Need-pour-arrival-requires invariant-loop decreases-loop
+pour-arrival-requires : tie.Need-pour_arrival-place-requires invariant-loop decreases-loop
 pour-arrival-requires c κs = tt
 
 add-from : tie.Need-overflow_add-from invariant-loop decreases-loop
@@ -40,31 +40,27 @@ add-from c = omega arith
 sub-left : tie.Need-overflow_sub-left invariant-loop decreases-loop
 sub-left c = omega arith
 
-loop-less : tie.Need-loop-smaller invariant-loop decreases-loop
+loop-less : tie.Need-loop-left-smaller invariant-loop decreases-loop
 loop-less c = omega arith
 
-loop-again : tie.Need-loop-preserved invariant-loop decreases-loop
+loop-again : tie.Need-loop-left-preserved invariant-loop decreases-loop
 unfolding arrival_text
-loop-again c =
-    let p = c.before.before in
-    let a = p.before in
-    let f = a.before in
-    let l = f.before.before.before in (
-      omega arith,
-      rest-arrival (omega arith) l.loop.left l.loop.from l.before.before.before.args.numbers.now
-          (omega arith)
-          l.loop.invariant.1
-          f.numbers-from.ensures
-          a.arrival-at.ensures
-          p.pour-arrival.ensures,
-    )
+loop-again c = (
+  omega arith,
+  rest-arrival (omega arith) c.loop-left.left c.loop-left.from c.args.numbers.now
+      (omega arith)
+      c.loop-left.invariant.1
+      c.numbers_from.ensures
+      c.arrival_at.ensures
+      c.pour_arrival-place.ensures,
+)
 
-same_length : tie.Need-same-length invariant-loop decreases-loop
-same_length c = c.before.loop.invariant.1.same
+same_length : tie.Need-shape_of-out invariant-loop decreases-loop
+same_length c = c.loop-left.invariant.1.same
 
 returns : tie.Need-returns invariant-loop decreases-loop
 returns c =
-    let l = c.before.loop in
+    let l = c.loop-left in
     rest-done (rw (arrivals_text-end l.left l.from _ (omega arith)) at l.invariant.1)
 
 pub pour_arrivals_spec : {M : Type 1} → statement M

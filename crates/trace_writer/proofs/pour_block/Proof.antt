@@ -6,19 +6,18 @@ use borrow.Author.Rules.{rules}
 use Rattle.trace_writer.proofs.pour_block.Statement.{statement}
 use Rattle.trace_writer.proofs.pour_block.Tie as tie
 
-pour-line-requires : tie.Need-pour-line-requires
+pour-line-requires : tie.Need-pour_line-arrivals-requires
 pour-line-requires c κs = search rules
 
-pour-arrivals-requires : tie.Need-pour-arrivals-requires
+pour-arrivals-requires : tie.Need-pour_arrivals-requires
 pour-arrivals-requires c κs = search rules
 
-same_length : tie.Need-same-length
+same_length : tie.Need-shape_of-out
 same_length c = search rules
 
 returns : tie.Need-returns
 returns c =
-    let n = c.before.before in
-    tried_then (omega arith) (tried-put n.before.before.before.before.pour-line.ensures) n.pour-arrivals.ensures
+    tried_then (omega arith) (tried-put c.pour_line-arrivals.ensures) c.pour_arrivals.ensures
 
 pub pour_block_spec : {M : Type 1} → statement M
 pour_block_spec =

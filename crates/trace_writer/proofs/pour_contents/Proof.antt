@@ -6,20 +6,18 @@ use borrow.Author.Rules.{rules}
 use Rattle.trace_writer.proofs.pour_contents.Statement.{statement}
 use Rattle.trace_writer.proofs.pour_contents.Tie as tie
 
-pour-pair-requires : tie.Need-pour-pair-requires
+pour-pair-requires : tie.Need-pour_pair-slots-requires
 pour-pair-requires c κs = search rules
 
-pour-slots-requires : tie.Need-pour-slots-requires
+pour-slots-requires : tie.Need-pour_slots-requires
 pour-slots-requires c κs = search rules
 
-same_length : tie.Need-same-length
+same_length : tie.Need-shape_of-out
 same_length c = search rules
 
 returns : tie.Need-returns
 returns c =
-    let n = c.before.before in
-    let m = n.before.before.before.before in
-    tried-contents _ _ _ _ (omega arith) m.pour-pair.ensures n.pour-slots.ensures
+    tried-contents _ _ _ _ (omega arith) c.pour_pair-slots.ensures c.pour_slots.ensures
 
 pub pour_contents_spec : {M : Type 1} → statement M
 pour_contents_spec =

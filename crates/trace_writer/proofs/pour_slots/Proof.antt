@@ -12,88 +12,81 @@ use Rattle.trace_writer.proofs.Writing.{rest-slots, rest-slot, rest-slots-end}
 use Rattle.trace_writer.proofs.pour_slots.Statement.{statement}
 use Rattle.trace_writer.proofs.pour_slots.Tie as tie
 
-abbrev invariant-loop : tie.invariant-loop
+abbrev invariant-loop : tie.invariant-loop-i
 invariant-loop out₀ at first counts numbers place₀ from₀ i₀ out place from i =
     (i ≤ length counts)
     × Rest out₀ at (slots_text first (slots_from counts numbers)) out place
     (slots_text (first + i) (slots_from (drop i counts) (drop from numbers)))
 
-abbrev decreases-loop : tie.decreases-loop
+abbrev decreases-loop : tie.decreases-loop-i
 decreases-loop out₀ at first counts numbers place₀ from₀ i₀ out place from i = length counts - i
 
-loop-holds : tie.Need-loop-init invariant-loop decreases-loop
+loop-holds : tie.Need-loop-i-init invariant-loop decreases-loop
 loop-holds c =
-    let s = c.before.before.before.args in
+    let s = c.args in
     (omega arith, rest-slots s.first s.counts.now s.numbers.now (omega arith))
 
-mul-count : tie.Need-overflow_mul-count invariant-loop decreases-loop
+mul-count : tie.Need-offset_bounds-counts-i invariant-loop decreases-loop
 mul-count c = omega arith
 
-shared-slice-read-count : tie.Need-shared-slice-read-count invariant-loop decreases-loop
+shared-slice-read-count : tie.Need-bounds-counts-i invariant-loop decreases-loop
 shared-slice-read-count c = omega arith
 
-add-pour-block : tie.Need-overflow_add-pour-block invariant-loop decreases-loop
+add-pour-block : tie.Need-overflow_add-first invariant-loop decreases-loop
 add-pour-block c = omega arith
 
-numbers-from-requires : tie.Need-numbers-from-requires invariant-loop decreases-loop
+numbers-from-requires : tie.Need-numbers_from-requires invariant-loop decreases-loop
 numbers-from-requires c κs = tt
 
-pour-block-requires : tie.Need-pour-block-requires invariant-loop decreases-loop
+pour-block-requires : tie.Need-pour_block-place-requires invariant-loop decreases-loop
 pour-block-requires c κs = tt
 
-cast-place-after : tie.Need-overflow_cast-place-after invariant-loop decreases-loop
+cast-place-after : tie.Need-overflow_cast-count invariant-loop decreases-loop
 cast-place-after c =
-    let l = c.before.before.before.before.before.before.before in
-    omega (arith, l.before.before.shared-slice-known.given l.loop.i)
+    omega (arith, c.shared_slice_known-1.given c.loop-i.i)
 
-mul-place-after : tie.Need-overflow_mul-place-after invariant-loop decreases-loop
+mul-place-after : tie.Need-overflow_mul-count invariant-loop decreases-loop
 mul-place-after c =
-    let l = c.before.before.before.before.before.before.before in
-    omega (arith, l.before.before.shared-slice-known.given l.loop.i)
+    omega (arith, c.shared_slice_known-1.given c.loop-i.i)
 
-place-after-requires : tie.Need-place-after-requires invariant-loop decreases-loop
+place-after-requires : tie.Need-place_after-from-requires invariant-loop decreases-loop
 place-after-requires c κs = tt
 
 add-i : tie.Need-overflow_add-i invariant-loop decreases-loop
 add-i c = omega arith
 
-loop-less : tie.Need-loop-smaller invariant-loop decreases-loop
+loop-less : tie.Need-loop-i-smaller invariant-loop decreases-loop
 loop-less c = omega arith
 
-loop-again : tie.Need-loop-preserved invariant-loop decreases-loop
+loop-again : tie.Need-loop-i-preserved invariant-loop decreases-loop
 loop-again c =
-    let b = c.before.before.before in
-    let l = b.before.before.before.before.before in
-    let s = l.before.before.before.before in
-    let a = s.args in (
+    let a = c.args in (
       omega arith,
-      rest-slot (omega arith) a.first a.counts.now l.loop.i l.loop.from a.numbers.now
+      rest-slot (omega arith) a.first a.counts.now c.loop-i.i c.loop-i.from a.numbers.now
           (omega arith)
-          (omega (arith, s.well-formed.1.1.1.1.0))
-          l.loop.invariant.1
-          b.before.numbers-from.ensures
-          b.pour-block.ensures
-          c.place_after.ensures,
+          (omega (arith, c.well_formed.1.1.1.1.0))
+          c.loop-i.invariant.1
+          c.numbers_from.ensures
+          c.pour_block-place.ensures
+          c.place_after-from.ensures,
     )
 
-add-pour-line : tie.Need-overflow_add-pour-line invariant-loop decreases-loop
+add-pour-line : tie.Need-overflow_add-first-2 invariant-loop decreases-loop
 add-pour-line c = omega arith
 
-pour-line-requires : tie.Need-pour-line-requires invariant-loop decreases-loop
+pour-line-requires : tie.Need-pour_line-requires invariant-loop decreases-loop
 pour-line-requires c κs = tt
 
-same_length : tie.Need-same-length invariant-loop decreases-loop
-same_length c = c.before.before.pour-line.auto.0 ∙ c.before.before.before.before.before.loop.invariant.1.same
+same_length : tie.Need-shape_of-out invariant-loop decreases-loop
+same_length c = c.pour_line.auto.out ∙ c.loop-i.invariant.1.same
 
 returns : tie.Need-returns invariant-loop decreases-loop
 returns c =
-    let e = c.before.before in
-    let l = e.before.before.before in
-    let s = l.before.before.before.before.args in
-    rest-slots-end (omega arith) s.first s.counts.now l.loop.i l.loop.from s.numbers.now
+    let s = c.args in
+    rest-slots-end (omega arith) s.first s.counts.now c.loop-i.i c.loop-i.from s.numbers.now
     (omega arith)
-    l.loop.invariant.1
-    e.pour-line.ensures
+    c.loop-i.invariant.1
+    c.pour_line.ensures
 
 pub pour_slots_spec : {M : Type 1} → statement M
 pour_slots_spec =
