@@ -1,10 +1,8 @@
 -- Each rule in turn: one that is broken, or none. The places not yet looked at have the answer of the whole.
-use Prim.Native.Nat.{ℕ, ◌-◌}
-use mathlib.Core.List.{List}
+use Prim.Native.Nat.{◌-◌}
 use mathlib.Core.Path.{◌≡◌, sym, ◌∙◌}
 use native.Mathlib.Omega.{arith}
 use borrow.Author.Rules.{rules}
-use borrow.Author.Tests.{not-true, not-false}
 use Rattle.laws.specs.Lists.{all?, between}
 use Rattle.model.specs.Cues.{cue_limit}
 use Rattle.layout.specs.Cues.{is_store}

@@ -3,7 +3,6 @@ use Prim.Native.Nat.{ℕ, ◌^◌, ◌<◌}
 use native.Mathlib.Omega.{arith}
 use mathlib.Core.Path.{◌≡◌, sym, ◌∙◌, ap}
 use borrow.Author.Rules.{rules}
-use borrow.Author.Tests.{not-true, not-false}
 use Rattle.cue_store.specs.Names.{is_name}
 use Rattle.cue_store.proofs.NameLoops.{spelt, is_name-zero, is_name-spelt, spelt-end, spelt-stop, spelt-next}
 use Rattle.cue_store.proofs.name.is_name.Statement.{statement}

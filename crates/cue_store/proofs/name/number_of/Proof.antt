@@ -3,7 +3,6 @@ use Prim.Native.Nat.{◌^◌, ◌-◌, ◌≤◌, ◌<◌}
 use native.Mathlib.Omega.{arith}
 use mathlib.Core.Path.{◌≡◌, sym, ◌∙◌}
 use borrow.Author.Rules.{rules}
-use borrow.Author.Tests.{not-true, not-false}
 use lib.ListN.{length}
 use Rattle.layout.proofs.Number.{bytes?-i}
 use Rattle.model.specs.Cues.{name_limit}
