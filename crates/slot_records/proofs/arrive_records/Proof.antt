@@ -67,25 +67,19 @@ inside c =
 
 -- it is a record, and may enter
 module _ (c : tie.In-loop-n invariant-loop decreases-loop) where
-  abbrev at : tie.At-loop-n invariant-loop decreases-loop
-  at = c
+  same : get_or (take c.args.many c.args.records) c.loop-n.n no_record ≡ get_or c.args.records c.loop-n.n no_record
+  same = get_or-take c.args.many c.args.records c.loop-n.n no_record (inside c)
 
-  abbrev start : tie.Start invariant-loop decreases-loop
-  start = at.before.before.before.before.before.before
-
-  same : get_or (take start.args.many start.args.records) at.loop.n no_record ≡ get_or start.args.records at.loop.n no_record
-  same = get_or-take start.args.many start.args.records at.loop.n no_record (inside c)
-
-  fits : arrival_fits (get_or (take start.args.many start.args.records) at.loop.n no_record) ≡ true
+  fits : arrival_fits (get_or (take c.args.many c.args.records) c.loop-n.n no_record) ≡ true
   fits =
-      let held = start.good.1.1.1.1.1.1.0 in
-      let inner : at.loop.n < length start.args.records = omega (arith, inside c, held.1.0.1) in
-      ap arrival_fits same ∙ held_fits start.args.records held.0 held.1.1 at.loop.n inner no_record
+      let held = c.well_formed.1.1.1.1.1.1.0 in
+      let inner : c.loop-n.n < length c.args.records = omega (arith, inside c, held.1.0.1) in
+      ap arrival_fits same ∙ held_fits c.args.records held.0 held.1.1 c.loop-n.n inner no_record
 
-  may : MayEnter (get_or start.args.records at.loop.n no_record) at.loop.table
+  may : MayEnter (get_or c.args.records c.loop-n.n no_record) c.loop-n.table
   may =
-      subst (λ a. MayEnter a at.loop.table) same
-      (coming-may _ _ _ at.loop.n at.loop.table _ start.pre.0.1 (come at) c.loop-n-test.true no_record fits)
+      subst (λ a. MayEnter a c.loop-n.table) same
+      (coming-may _ _ _ c.loop-n.n c.loop-n.table _ c.requires.0.1 (come c.before) c.loop-n-test.true no_record fits)
 
 begin-requires : tie.Need-begin-end-requires invariant-loop decreases-loop
 begin-requires c κs =
