@@ -1,6 +1,7 @@
 // A slot of the output-queued switch, on the table of a switch whose cells all wait in buffers: new cells go to the
 // buffer of their output at once, then each output sends the best of its buffer.
 #![tactic(auto)]
+
 ghost use Rattle.std.specs.Prelude.{true, ◌≡◌, ◌+◌, ◌*◌, ◌-◌, ◌≤◌, ◌<◌, length, take};
 ghost use Rattle.std.proofs.Math.Option.{some};
 ghost use Rattle.cell.specs.Cell.{accepted};

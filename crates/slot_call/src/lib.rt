@@ -1,5 +1,6 @@
 // A slot on what it is lent: the arrivals are lent as a slice of records, and the tally is lent to be changed in place.
 #![tactic(auto)]
+
 pub mod bytes;
 mod running;
 

@@ -1,4 +1,5 @@
 // A slot on the table of a sound state, put together of its steps.
 #![tactic(auto)]
+
 pub mod phase;
 pub mod slot;

@@ -1,6 +1,7 @@
 // The records that a slot is lent, taken: where nothing turns the slot back their cells arrive, else the table is as it
 // was. The sets of its cells by place follow it.
 #![tactic(auto)]
+
 ghost use Rattle.std.specs.Prelude.{◌≡◌, ℕ, ◌≤◌, ◌<◌, take};
 ghost use Rattle.cell.specs.declared.Fault.TheVariants.{Clear};
 ghost use Rattle.cell.specs.Limits.{clock_end};

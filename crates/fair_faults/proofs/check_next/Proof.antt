@@ -17,10 +17,6 @@ use Rattle.fair_faults.proofs.Records.{made, made-says, next-port, next-rank, ne
 use Rattle.fair_faults.proofs.check_next.Statement.{statement}
 use Rattle.fair_faults.proofs.check_next.Tie as tie
 
--- the start, from where the ports have been looked at
-abbrev start_of : tie.After-port_fault-ported → tie.Start
-start_of c = c.before.before.before.before.before
-
 module _ (c : tie.After-port_fault-ported) where
   abbrev s : Switch
   s = state_of c.args.table.now
@@ -66,7 +62,8 @@ enum-told-2 c = search rules
 
 returns : tie.Need-returns-in_default
 returns c =
-    next-port (s c.before) (m c.before) _ _ (a c.before) _ (says c.before) c.in_default.is
+    let at = c.before in
+    next-port (s at) (m at) _ _ (a at) _ (says at) c.in_default.is
 
 rank-fault-requires : tie.Need-rank_fault-ranked-requires
 rank-fault-requires c κs = c.requires.1.0
@@ -79,22 +76,16 @@ enum-told-4 c = search rules
 
 returns-2 : tie.Need-returns-in_default-ranked
 returns-2 c =
-    next-rank (s c.before.before.before) (m c.before.before.before) _ _ (a c.before.before.before) _ (says c.before.before.before) c.in-Clear.is _
+    let at = c.before.before.before in
+    next-rank (s at) (m at) _ _ (a at) _ (says at) c.in-Clear.is _
     c.rank_fault-ranked.ensures c.in_default-ranked.is
 
 make-requires : tie.Need-make-made-requires
 make-requires c κs = c.requires.1.0
 
--- the rank can be made
-module _ (c : tie.In-Clear-ranked) where
-  abbrev rank : tie.After-rank_fault-ranked
-  rank = c
-
-  abbrev told : tie.In-Clear
-  told = rank.before
-
-  abbrev looked : tie.After-port_fault-ported
-  looked = told.before.before
+-- where the ports have been looked at, from where the rank can be made
+abbrev looked : tie.In-Clear-ranked → tie.After-port_fault-ported
+looked c = c.before.before.before
 
 cell-of-requires-2 : tie.Need-cell_of-requires-2
 cell-of-requires-2 c κs = search rules
@@ -107,14 +98,15 @@ cell-is c =
     c.cell_of-2.ensures
     ∙ ap₂ accepted (clock-is at)
     (c.make-made.ensures
-    (next-rankable (s at) (m at) _ _ (a at) _ (says at) (told c.before.before).enum_told-1.given.1 _
-    (rank c.before.before).rank_fault-ranked.ensures c.in-Clear-ranked.is))
+    (next-rankable (s at) (m at) _ _ (a at) _ (says at) c.in-Clear.is _
+    c.rank_fault-ranked.ensures c.in-Clear-ranked.is))
 
 waiting-fault-requires : tie.Need-waiting_fault-requires
 waiting-fault-requires c κs =
     let at = looked c.before.before in
-    let clear = (told c.before.before).enum_told-1.given.1 in
-    let inside : InPorts (s at).ports (made (s at) (m at) (a at)) = port-clear _ [] _ _ _ _ (says at) clear in (
+    let inside : InPorts (s at).ports (made (s at) (m at) (a at)) =
+    port-clear _ [] _ _ _ _ (says at) c.in-Clear.is
+    in (
       c.requires.0,
       subst (λ d. InPorts (ports_in c.args.table.now) d) (sym (cell-is c))
           (subst (λ ports. InPorts ports (made (s at) (m at) (a at))) (table-ports _ c.requires.0) inside),
@@ -123,7 +115,7 @@ waiting-fault-requires c κs =
 returns-3 : tie.Need-returns
 returns-3 c =
     let at = looked c.before.before.before in
-    next-waits (s at) (m at) _ _ (a at) _ (says at) (told c.before.before.before).enum_told-1.given.1 _ (rank c.before.before.before).rank_fault-ranked.ensures
+    next-waits (s at) (m at) _ _ (a at) _ (says at) c.in-Clear.is _ c.rank_fault-ranked.ensures
     c.in-Clear-ranked.is _
     (c.waiting_fault.ensures
     ∙ ap (λ d. fault_at (c.args.n + 1) (waiting_fault (cells (s at)) d)) (cell-is c.before))

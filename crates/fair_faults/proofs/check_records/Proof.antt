@@ -23,8 +23,7 @@ decreases-loop table memory many records turn₀ n₀ turn n = many - n
 
 -- the record that was looked at
 here : (c : tie.After-check_next-fault invariant-loop decreases-loop)
-    →
-    let a = c.args in
+    → let a = c.args in
     drop c.loop-n.n (take a.many a.records)
     ≡ get_or a.records c.loop-n.n no_record ∷ drop (c.loop-n.n + 1) (take a.many a.records)
 here c =
@@ -61,8 +60,8 @@ add_turn c =
     let few = sound-ports _ (table-sound _ c.requires.0) in
     omega (
       arith,
-      passed-input _ _ _ c.loop-n.n c.loop-n.turn c.loop-n.invariant.1 _ (here c.before.before) c.check_next-fault.result
-          c.check_next-fault.ensures c.in-Clear.is few,
+      passed-input _ _ _ c.loop-n.n c.loop-n.turn c.loop-n.invariant.1 _ (here c.before.before)
+          c.check_next-fault.result c.check_next-fault.ensures c.in-Clear.is few,
     )
 
 add-n : tie.Need-overflow_add-n invariant-loop decreases-loop
@@ -74,8 +73,8 @@ loop-less c = omega arith
 loop-again : tie.Need-loop-n-preserved invariant-loop decreases-loop
 loop-again c = (
   omega arith,
-  passed-next _ _ _ c.loop-n.n c.loop-n.turn c.loop-n.invariant.1 _ (here c.before.before) c.check_next-fault.result
-      c.check_next-fault.ensures c.in-Clear.is,
+  passed-next _ _ _ c.loop-n.n c.loop-n.turn c.loop-n.invariant.1 _ (here c.before.before)
+      c.check_next-fault.result c.check_next-fault.ensures c.in-Clear.is,
 )
 
 returns-2 : tie.Need-returns invariant-loop decreases-loop

@@ -18,8 +18,8 @@ check-records-requires c κs = search rules
 
 returns-2 : tie.Need-returns
 returns-2 c =
-    c.check_records.ensures
-    ∙ sym (fair-early _ _ _ (λ e. c.if-clock_of-eq-CLOCK_END.false (c.clock_of.ensures ∙ sym (table-clock _ c.requires.0) ∙ e)))
+    let clock = c.clock_of.ensures ∙ sym (table-clock _ c.requires.0) in
+    c.check_records.ensures ∙ sym (fair-early _ _ _ (λ e. c.if-clock_of-eq-CLOCK_END.false (clock ∙ e)))
 
 pub fair_fault_spec : {M : Type 1} → statement M
 fair_fault_spec = tie.close (tie.spec clock-of-requires returns check-records-requires returns-2)

@@ -15,82 +15,65 @@ use Rattle.oq_slot.proofs.join.Tie as tie
 port : (c : tie.Start) → c.args.a.input < 16
 port c = omega (arith, c.requires.input, ports-below c.args.table.now c.requires.sound)
 
--- the start, from where the entries have been counted
-abbrev start_of : tie.After-count-of → tie.Start
-start_of c = let clock = c.before.before.before in clock.before.before.before
-
 -- the cell that joins
-cell-is : (c : tie.After-cell-of)
-    → let a = (start_of c.before.before).args in
-    c.cell-of.result ≡ accepted (clock_in a.table.now - 1) a.a
-cell-is c =
-    let clock = c.before.before.before.before.before in
-    c.cell-of.ensures ∙ ap (λ k. accepted (k - 1) clock.before.before.before.args.a) clock.clock-of.ensures
+cell-is : (c : tie.After-cell_of)
+    → let a = c.args in
+    c.cell_of.result ≡ accepted (clock_in a.table.now - 1) a.a
+cell-is c = c.cell_of.ensures ∙ ap (λ k. accepted (k - 1) c.args.a) c.clock_of-clock.ensures
 
-clock-of-requires : tie.Need-clock-of-requires
-clock-of-requires c κs = table-length _ c.before.before.requires.sound
+clock-of-requires : tie.Need-clock_of-clock-requires
+clock-of-requires c κs = table-length _ c.requires.sound
 
 cast-input : tie.Need-overflow_cast-input
 cast-input c = search rules
 
-count-of-requires : tie.Need-count-of-requires
-count-of-requires c κs =
-    let start = c.before.before.before.before.before in
-    (table-length _ start.requires.sound, port start)
+count-of-requires : tie.Need-count_of-count-requires
+count-of-requires c κs = (table-length _ c.requires.sound, port c.before.before.before)
 
-mul-write-entry : tie.Need-overflow_mul-write-entry
+mul-write-entry : tie.Need-overflow_mul-input
 mul-write-entry c = search rules
 
-add-write-entry : tie.Need-overflow_add-write-entry
+add-write-entry : tie.Need-overflow_add-input
 add-write-entry c = search rules
 
-sub-cell-of : tie.Need-overflow_sub-cell-of
+sub-cell-of : tie.Need-overflow_sub-clock
 sub-cell-of c = search rules
 
-cell-of-requires : tie.Need-cell-of-requires
+cell-of-requires : tie.Need-cell_of-requires
 cell-of-requires c κs = search rules
 
-write-entry-requires : tie.Need-write-entry-requires
+write-entry-requires : tie.Need-write_entry-requires
 unfolding accepted
 write-entry-requires c κs =
-    let counted = c.before.before in
-    let start = start_of counted in
-    let may = start.pre in
+    let may = c.requires in
+    let inside = port c.before.before.before.before.before.before in
     rw (cell-is c) (
-      (table-length _ may.sound, omega (arith, port start, may.room, counted.count_of.ensures)),
+      (table-length _ may.sound, omega (arith, inside, may.room, c.count_of-count.ensures)),
       (may.output, may.flow, omega arith, omega arith),
     )
 
-add-write-count : tie.Need-overflow_add-write-count
+add-write-count : tie.Need-overflow_add-count
 add-write-count c = search rules
 
-write-count-requires : tie.Need-write-count-requires
-write-count-requires c κs =
-    let written = c.before.before.before in
-    let counted = written.before.before.before in
-    let start = start_of counted in (
-      written.write-entry.auto.0 ∙ table-length _ start.pre.sound,
-      port start,
-      omega (arith, counted.count_of.ensures, start.pre.room),
-    )
+write-count-requires : tie.Need-write_count-requires
+write-count-requires c κs = (
+  c.write_entry.auto.bytes ∙ table-length _ c.requires.sound,
+  port c.before.before.before.before.before.before.before.before.before.before,
+  omega (arith, c.count_of-count.ensures, c.requires.room),
+)
 
-same_length : tie.Need-same-length
+same_length : tie.Need-shape_of-table
 same_length c = search rules
 
 returns : tie.Need-returns
 unfolding accepted
 returns c =
-    let raised = c.before.before in
-    let written = raised.before.before.before.before in
-    let cell = written.before in
-    let counted = cell.before.before in
-    let start = start_of counted in
-    let a = start.args in
-    let may = start.pre in
-    raised.write-count.ensures
+    let a = c.args in
+    let may = c.requires in
+    c.write_count.ensures
     ∙ joined_bytes a.table.now may.sound (accepted (clock_in a.table.now - 1) a.a) may.input may.room
-    counted.count_of.result written.write-entry.new.0 counted.count_of.ensures
-    (rw (cell-is cell) at written.write-entry.ensures)
+    c.count_of-count.result c.write_entry.new.bytes c.count_of-count.ensures
+    (rw (cell-is c.before.before.before.before.before.before.before) at c.write_entry.ensures)
 
 pub join_spec : {M : Type 1} → statement M
 join_spec =

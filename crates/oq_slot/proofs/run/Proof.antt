@@ -4,33 +4,28 @@ use borrow.Author.Rules.{rules}
 use Rattle.oq_slot.proofs.run.Statement.{statement}
 use Rattle.oq_slot.proofs.run.Tie as tie
 
-join-records-requires : tie.Need-join-records-requires
+join-records-requires : tie.Need-join_records-requires
 join-records-requires c κs = search rules
 
-best-of-each-requires : tie.Need-best-of-each-requires
+best-of-each-requires : tie.Need-best_of_each-best-requires
 best-of-each-requires c κs =
-    let join = c.before.before.before in
-    let start = join.before.before.before.before in
-    let (good, state) = join.join-records.ensures in
-    (good, joined-buffers _ _ _ good state start.requires.0.1)
+    let (good, state) = c.join_records.ensures in
+    (good, joined-buffers _ _ _ good state c.requires.0.1)
 
 depart-requires : tie.Need-depart-requires
 depart-requires c κs = search rules
 
-same_length : tie.Need-same-length
+same_length : tie.Need-shape_of-table
 same_length c = search rules
 
-same-length-2 : tie.Need-same-length-2
+same-length-2 : tie.Need-shape_of-answer
 same-length-2 c = search rules
 
 returns : tie.Need-returns
 returns c =
-    let sent = c.before.before.before.before in
-    let best = sent.before.before.before.before in
-    let join = best.before.before.before.before in
-    let (good, state) = join.join-records.ensures in (
-      ran-table _ _ _ good state _ sent.depart.ensures.0,
-      ran-answer _ _ _ good state _ _ sent.depart.ensures.1,
+    let (good, state) = c.join_records.ensures in (
+      ran-table _ _ _ good state _ c.depart.ensures.0,
+      ran-answer _ _ _ good state _ _ c.depart.ensures.1,
     )
 
 pub run_spec : {M : Type 1} → statement M

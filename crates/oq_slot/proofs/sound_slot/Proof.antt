@@ -6,55 +6,45 @@ use borrow.Author.Rules.{rules}
 use Rattle.oq_slot.proofs.sound_slot.Statement.{statement}
 use Rattle.oq_slot.proofs.sound_slot.Tie as tie
 
--- the start, from where the records have been looked at
-abbrev start_of : tie.After-first-fault → tie.Start
-start_of c = c.before.before.before.before
-
-first-fault-requires : tie.Need-first-fault-requires
+first-fault-requires : tie.Need-first_fault-fault-requires
 first-fault-requires c κs = search rules
 
-enum_told : tie.Need-enum-told
+enum_told : tie.Need-enum_told-1
 enum_told c = search rules
 
-enum-told-2 : tie.Need-enum-told-2
+enum-told-2 : tie.Need-enum_told-in_default
 enum-told-2 c = search rules
 
-same_length : tie.Need-same-length
+same_length : tie.Need-shape_of-table-in_default
 same_length c = search rules
 
-returns : tie.Need-returns
+returns : tie.Need-returns-in_default
 returns c =
-    let looked = c.before.before in
-    let a = (start_of looked).args in
-    served-refused a.table.now a.answer.now _ looked.first-fault.result looked.first-fault.ensures
-    c.enum-told2.given.1
+    let a = c.args in
+    served-refused a.table.now a.answer.now _ c.first_fault-fault.result c.first_fault-fault.ensures
+    c.in_default.is
 
 run-requires : tie.Need-run-requires
 run-requires c κs =
-    let told = c.before.before in
-    let looked = told.before.before in
-    let pre = (start_of looked).requires in (
+    let pre = c.requires in (
       (
-        arriving _ _ pre.0.0 (sym looked.first-fault.ensures ∙ told.enum_told.given.1),
+        arriving _ _ pre.0.0 (sym c.first_fault-fault.ensures ∙ c.in-Clear.is),
         pre.0.1,
       ),
       pre.1,
     )
 
-same-length-2 : tie.Need-same-length-2
+same-length-2 : tie.Need-shape_of-table
 same-length-2 c = search rules
 
-same-length-3 : tie.Need-same-length-3
+same-length-3 : tie.Need-shape_of-answer
 same-length-3 c = search rules
 
-returns-2 : tie.Need-returns-2
+returns-2 : tie.Need-returns
 returns-2 c =
-    let ran = c.before.before.before.before in
-    let told = ran.before.before.before in
-    let looked = told.before.before in
-    let a = (start_of looked).args in
-    served-runs a.table.now a.answer.now _ looked.first-fault.result looked.first-fault.ensures
-    told.enum_told.given.1 _ _ ran.run.ensures.0 ran.run.ensures.1
+    let a = c.args in
+    served-runs a.table.now a.answer.now _ c.first_fault-fault.result c.first_fault-fault.ensures
+    c.in-Clear.is _ _ c.run.ensures.0 c.run.ensures.1
 
 pub sound_slot_spec : {M : Type 1} → statement M
 sound_slot_spec =

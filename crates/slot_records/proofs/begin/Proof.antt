@@ -4,32 +4,29 @@ use Rattle.slot_records.proofs.Taking.{begun-refused, begun-clear}
 use Rattle.slot_records.proofs.begin.Statement.{statement}
 use Rattle.slot_records.proofs.begin.Tie as tie
 
-enum_told : tie.Need-enum-told
+enum_told : tie.Need-enum_told-1
 enum_told c = search rules
 
-enum-told-2 : tie.Need-enum-told-2
+enum-told-2 : tie.Need-enum_told-in_default
 enum-told-2 c = search rules
 
-returns : tie.Need-returns
+returns : tie.Need-returns-in_default
 returns c =
-    let a = c.before.before.before.args in
-    begun-refused a.table.now a.fault a.many c.enum-told2.given.1
+    let a = c.args in
+    begun-refused a.table.now a.fault a.many c.in_default.is
 
-raise-clock-requires : tie.Need-raise-clock-requires
+raise-clock-requires : tie.Need-raise_clock-requires
 raise-clock-requires c κs =
-    let told = c.before in
-    told.before.before.before.requires told.enum_told.given.1
+    c.requires c.in-Clear.is
 
-same_length : tie.Need-same-length
+same_length : tie.Need-shape_of-table
 same_length c = search rules
 
-returns-2 : tie.Need-returns-2
+returns-2 : tie.Need-returns
 returns-2 c =
-    let raise = c.before.before in
-    let told = raise.before.before in
-    let a = told.before.before.before.args in
-    begun-clear a.table.now a.fault a.many told.enum_told.given.1 raise.raise-clock.new.0
-    raise.raise-clock.ensures
+    let a = c.args in
+    begun-clear a.table.now a.fault a.many c.in-Clear.is c.raise_clock.new.table
+    c.raise_clock.ensures
 
 pub begin_spec : {M : Type 1} → statement M
 begin_spec =

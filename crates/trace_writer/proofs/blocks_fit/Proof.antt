@@ -31,7 +31,8 @@ shared-slice-read-if1 c = omega arith
 returns : tie.Need-returns-then-counts-i-gt-BLOCK_LIMIT invariant-loop decreases-loop
 returns c =
     let xs = c.args.counts.now in
-    sym (c.loop-i.invariant.1 ∙ all?-drop-fail few xs c.loop-i.i (omega arith) (lt-leb _ _ c.if-counts-i-gt-BLOCK_LIMIT.true))
+    let full = c.if-counts-i-gt-BLOCK_LIMIT.true in
+    sym (c.loop-i.invariant.1 ∙ all?-drop-fail few xs c.loop-i.i (omega arith) (lt-leb _ _ full))
 
 add-i : tie.Need-overflow_add-i invariant-loop decreases-loop
 add-i c = omega arith
@@ -42,7 +43,8 @@ loop-less c = omega arith
 loop-again : tie.Need-loop-i-preserved invariant-loop decreases-loop
 loop-again c =
     let xs = c.args.counts.now in
-    (omega arith, c.loop-i.invariant.1 ∙ all?-drop-pass few xs c.loop-i.i (omega arith) (le-leb _ _ c.if-counts-i-gt-BLOCK_LIMIT.false))
+    let fits = c.if-counts-i-gt-BLOCK_LIMIT.false in
+    (omega arith, c.loop-i.invariant.1 ∙ all?-drop-pass few xs c.loop-i.i (omega arith) (le-leb _ _ fits))
 
 returns-2 : tie.Need-returns invariant-loop decreases-loop
 returns-2 c =

@@ -13,9 +13,6 @@ use Rattle.trace_writer.specs.Code.{flat_has_text}
 
 -- what the tests showed
 
-abbrev start : tie.Else-not-ports_in_range → tie.Start
-start c = c.before.before.before.before.before
-
 in-range : (c : tie.Else-not-ports_in_range) → ports_in_range c.args.ports ≡ true
 in-range c = sym c.ports_in_range.ensures ∙ c.if-not-ports_in_range.false
 
@@ -38,7 +35,8 @@ has-text-requires c κs = search rules
 
 returns-2 : tie.Need-returns-then-not-has_text
 returns-2 c =
-    write-no-text _ _ _ _ _ (in-range c.before.before) (fit32 c.before.before) (sym c.has_text.ensures ∙ c.if-not-has_text.true)
+    let r = c.before.before in
+    write-no-text _ _ _ _ _ (in-range r) (fit32 r) (sym c.has_text.ensures ∙ c.if-not-has_text.true)
 
 slice-relend-prefix-pour-contents : tie.Need-slice_bounds-pour_contents-end
 slice-relend-prefix-pour-contents c = search rules
@@ -54,7 +52,9 @@ same_length c = search rules
 
 returns-3 : tie.Need-returns-then-out-size
 returns-3 c =
-    write-too-long _ _ _ _ _ (in-range c.before.before.before.before.before.before.before) (fit32 c.before.before.before.before.before.before.before) (some-text c.before.before.before.before.before) c.pour_contents-size.ensures c.if-out-size.true
+    let h = c.before.before.before.before.before in
+    let r = h.before.before in
+    write-too-long _ _ _ _ _ (in-range r) (fit32 r) (some-text h) c.pour_contents-size.ensures c.if-out-size.true
 
 pour-contents-requires-2 : tie.Need-pour_contents-requires
 pour-contents-requires-2 c κs = search rules
@@ -64,7 +64,9 @@ same-length-2 c = search rules
 
 returns-4 : tie.Need-returns
 returns-4 c =
-    write-whole _ _ _ _ _ (in-range c.before.before.before.before.before.before.before.before.before.before.before) (fit32 c.before.before.before.before.before.before.before.before.before.before.before) (some-text c.before.before.before.before.before.before.before.before.before) c.pour_contents-size.ensures c.if-out-size.false
+    let h = c.before.before.before.before.before.before.before.before.before in
+    let r = h.before.before in
+    write-whole _ _ _ _ _ (in-range r) (fit32 r) (some-text h) c.pour_contents-size.ensures c.if-out-size.false
     (omega (arith, c.well_formed.1.1.1.1.0))
     c.pour_contents.ensures
 

@@ -5,46 +5,39 @@ use borrow.Author.Rules.{rules}
 use Rattle.slot_call.proofs.running.run_taken.Statement.{statement}
 use Rattle.slot_call.proofs.running.run_taken.Tie as tie
 
-enum_told : tie.Need-enum-told
+enum_told : tie.Need-enum_told-1
 enum_told c = search rules
 
-enum-told-2 : tie.Need-enum-told-2
+enum-told-2 : tie.Need-enum_told-in_default
 enum-told-2 c = search rules
 
-returns : tie.Need-returns
+returns : tie.Need-returns-in_default
 returns c =
-    let a = c.before.before.before.before.args in
-    ended-refused a.table.now a.answer.now a.fault c.enum-told2.given.1
+    let a = c.args in
+    ended-refused a.table.now a.answer.now a.fault c.in_default.is
 
 run-requires : tie.Need-run-requires
 run-requires c κs =
-    let told = c.before.before.before.before in
-    let start = told.before.before.before.before in
-    let runs = start.requires.0 told.enum_told.given.1 in
-    (runs, start.requires.1 runs.0)
+    let runs = c.requires.0 c.in-Clear.is in
+    (runs, c.requires.1 runs.0)
 
-departures-in-requires : tie.Need-departures-in-requires
+departures-in-requires : tie.Need-departures_in-requires
 departures-in-requires c κs =
-    let ran = c.before.before.before.before.before in
-    let told = ran.before.before.before.before.before in
-    let runs = told.before.before.before.before.requires.0 told.enum_told.given.1 in
-    omega (arith, runs.1, ran.run.auto.1.1.1.1.1.0)
+    let runs = c.requires.0 c.in-Clear.is in
+    omega (arith, runs.1, c.run.auto.answer)
 
-same_length : tie.Need-same-length
+same_length : tie.Need-shape_of-table
 same_length c = search rules
 
-same-length-2 : tie.Need-same-length-2
+same-length-2 : tie.Need-shape_of-answer
 same-length-2 c = search rules
 
-returns-2 : tie.Need-returns-2
+returns-2 : tie.Need-returns
 returns-2 c =
-    let ran = c.before.before.before.before.before.before in
-    let told = ran.before.before.before.before.before in
-    let start = told.before.before.before.before in
-    let a = start.args in
-    ended-ran a.table.now a.answer.now a.fault told.enum_told.given.1
-    (start.requires.0 told.enum_told.given.1).0 _ _ _ ran.run.ensures.0 ran.run.ensures.1
-    c.departures-in.ensures
+    let a = c.args in
+    ended-ran a.table.now a.answer.now a.fault c.in-Clear.is
+    (c.requires.0 c.in-Clear.is).0 _ _ _ c.run.ensures.0 c.run.ensures.1
+    c.departures_in.ensures
 
 pub run_taken_spec : {M : Type 1} → statement M
 run_taken_spec =

@@ -1,19 +1,17 @@
 -- Where no cell is urgent there is no candidate, and nothing is found.
-use borrow.Author.Tests.{not-true}
 use borrow.Author.Rules.{rules}
 use Rattle.slot_course.proofs.Unmatched.{found_none}
 use Rattle.slot_course.proofs.phase.matching_of.Statement.{statement}
 use Rattle.slot_course.proofs.phase.matching_of.Tie as tie
 
-returns : tie.Need-returns
+returns : tie.Need-returns-then-not-urgent
 returns c =
-    let start = c.before.before in
-    found_none _ _ (start.requires.1 (not-true start.args.urgent c.if1.true))
+    found_none _ _ (c.requires.1 c.if-not-urgent.true)
 
-find-matching-requires : tie.Need-find-matching-requires
+find-matching-requires : tie.Need-find_matching-requires
 find-matching-requires c κs = search rules
 
-returns-2 : tie.Need-returns-2
+returns-2 : tie.Need-returns
 returns-2 c = search rules
 
 pub matching_of_spec : {M : Type 1} → statement M

@@ -9,54 +9,37 @@ use Rattle.slot_course.proofs.Unmatched.{unmatched, to-outputs}
 use Rattle.slot_course.proofs.phase.phase.Statement.{statement}
 use Rattle.slot_course.proofs.phase.phase.Tie as tie
 
--- from where the moves are called: the matching was found; from where the choices are: the start
-abbrev matched : tie.After-move-cells-arg6 → tie.After-matching-of
-matched c = let lent = c.before.before.before.before.before in lent.before.before
-
-abbrev start_of : tie.After-choose-arg5 → tie.Start
-start_of c = let lent = c.before.before.before.before in lent.before.before
-
-choose-requires : tie.Need-choose-requires
+choose-requires : tie.Need-choose-choice-requires
 choose-requires c κs =
-    let start = start_of c in
-    let view = start.pre.1 in
-    (table-readable _ start.pre.0, (view.lists, (view.square, view.agrees, view.keyed)))
+    let view = c.requires.1 in
+    (table-readable _ c.requires.0, (view.lists, (view.square, view.agrees, view.keyed)))
 
-matching-of-requires : tie.Need-matching-of-requires
+matching-of-requires : tie.Need-matching_of-matched-requires
 matching-of-requires c κs =
-    let chosen = c.before.before in
-    let start = start_of chosen.before in
-    let r = table-readable _ start.pre.0 in
-    ((r.size, to-outputs r chosen.choose.ensures), unmatched r chosen.choose.ensures)
+    let r = table-readable _ c.requires.0 in
+    ((r.size, to-outputs r c.choose-choice.ensures), unmatched r c.choose-choice.ensures)
 
-move-cells-requires : tie.Need-move-cells-requires
+move-cells-requires : tie.Need-move_cells-occupancy-requires
 move-cells-requires c κs =
-    let found = matched c in
-    let chosen = found.before.before.before in
-    let start = start_of chosen.before in
-    let good = start.pre.0 in
-    let choice = chosen.choose.ensures in (
-      start.pre,
-      (settled (table-readable _ good) (waiting_in-orderly _ good) choice found.matching-of.ensures, choice.bests),
+    let good = c.requires.0 in
+    let choice = c.choose-choice.ensures in (
+      c.requires,
+      (settled (table-readable _ good) (waiting_in-orderly _ good) choice c.matching_of-matched.ensures, choice.bests),
     )
 
-same_length : tie.Need-same-length
+same_length : tie.Need-shape_of-table
 same_length c = search rules
 
 returns : tie.Need-returns
 returns c =
-    let moved = c.before.before in
-    let found = matched moved.before in
-    let chosen = found.before.before.before in
-    let start = start_of chosen.before in
-    let good = start.pre.0 in (
-      moved.move-cells.ensures.0,
+    let good = c.requires.0 in (
+      c.move_cells-occupancy.ensures.0,
       (
-        moved.move-cells.ensures.1.0,
+        c.move_cells-occupancy.ensures.1.0,
         (
-          proposals-are (table-readable _ good) (waiting_in-orderly _ good) chosen.choose.ensures found.matching-of.ensures
+          proposals-are (table-readable _ good) (waiting_in-orderly _ good) c.choose-choice.ensures c.matching_of-matched.ensures
               ∙ ap₂ (λ n l. (phase n l).proposals) (decode-ports _ _ good) (waiting_in-state _ good),
-          moved.move-cells.ensures.1.1.1,
+          c.move_cells-occupancy.ensures.1.1.1,
         ),
       ),
     )
