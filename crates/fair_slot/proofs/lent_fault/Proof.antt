@@ -1,7 +1,6 @@
 -- The arrivals, the table and the room, in this order.
 use mathlib.Core.Path.{sym, ◌∙◌}
 use borrow.Author.Rules.{rules}
-use borrow.Author.Tests.{not-true, not-false}
 use Rattle.fair_slot.proofs.Calls.{lent-torn, lent-table, lent-short}
 use Rattle.fair_slot.proofs.lent_fault.Statement.{statement}
 use Rattle.fair_slot.proofs.lent_fault.Tie as tie
