@@ -12,9 +12,6 @@ number-requires c κs = search rules
 cast-result : tie.Need-overflow_cast-result
 cast-result c = search rules
 
-returns : tie.Need-returns-then-tally-ne-TALLY_BYTES
-returns c = slot-tally _ _ _ _ c.if-tally-ne-TALLY_BYTES.true _ c.number.ensures
-
 read-requires : tie.Need-read-before-requires
 read-requires c κs = search rules
 
@@ -40,9 +37,9 @@ same-length-2 c = search rules
 same-length-3 : tie.Need-shape_of-tally
 same-length-3 c = search rules
 
-returns-2 : tie.Need-returns
-returns-2 c =
-    slot-called _ _ _ _ c.if-tally-ne-TALLY_BYTES.false c.take_slot-fault.result _ _ _ c.take_slot-fault.ensures
+returns : tie.Need-returns
+returns c =
+    slot-called _ _ _ _ (omega arith) c.take_slot-fault.result _ _ _ c.take_slot-fault.ensures
     c.read-before.result c.counted_by-after.result c.read-before.ensures c.counted_by-after.ensures c.write.ensures _
     c.result_of.ensures
 
@@ -52,7 +49,8 @@ oq_slot_spec =
     (tie.spec
     number-requires
     cast-result
-    returns
+    -- the tally has another length
+    (λ c. slot-tally _ _ _ _ (λ e. omega arith) _ c.number.ensures)
     read-requires
     take-slot-requires
     counted-by-requires
@@ -61,4 +59,4 @@ oq_slot_spec =
     same_length
     same-length-2
     same-length-3
-    returns-2)
+    returns)

@@ -41,17 +41,6 @@ returns c =
     (older-none a.old.now (sym c.is_oq_table.ensures ∙ c.if-not-is_oq_table.true)))
     c.number.ensures
 
-number-requires-2 : tie.Need-number-requires-then-table-lt-FAIR_BYTES
-number-requires-2 c κs = search rules
-
-returns-2 : tie.Need-returns-then-table-lt-FAIR_BYTES
-returns-2 c =
-    let a = c.args in
-    refuses fair_number_oq a.table.now _ ShortBuffer c.number-then-table-lt-FAIR_BYTES.result
-    (convert_call-short decode_oq a.old.now a.table.now _ (is-oq-table a.old.now (older c.before.before))
-    c.if-table-lt-FAIR_BYTES.true)
-    c.number-then-table-lt-FAIR_BYTES.ensures
-
 sub-write-older : tie.Need-slice_bounds-write_older-count
 sub-write-older c = omega (arith, size c.before)
 
@@ -63,18 +52,17 @@ part-write-older-end c = search rules
 
 write-older-requires : tie.Need-write_older-requires
 write-older-requires c κs =
-    (older-core _ (older c.before.before.before), c.if-table-lt-FAIR_BYTES.false)
+    (older-core _ (older c.before.before.before), omega arith)
 
 same_length : tie.Need-shape_of-table
 same_length c = search rules
 
-returns-3 : tie.Need-returns
-returns-3 c =
+returns-2 : tie.Need-returns
+returns-2 c =
     let a = c.args in
     let old = c.before.before.before.before.before.before in
     writes fair_number_oq a.table.now _ _ _
-    (convert_call-done decode_oq a.old.now a.table.now _ (is-oq-table a.old.now (older old))
-    c.if-table-lt-FAIR_BYTES.false)
+    (convert_call-done decode_oq a.old.now a.table.now _ (is-oq-table a.old.now (older old)) (omega arith))
     (c.write_older.ensures
     ∙ ap (λ s. filled (fair_bytes fair_number_oq (marked 0 s)) a.table.now) (older-state a.old.now (older old)))
 
@@ -85,11 +73,16 @@ oq_convert_spec =
     is-oq-table-requires
     number-requires
     returns
-    number-requires-2
-    returns-2
+    -- the buffer is too short
+    (λ c κs. search rules)
+    (λ c.
+    refuses fair_number_oq c.args.table.now _ ShortBuffer _
+    (convert_call-short decode_oq c.args.old.now c.args.table.now _ (is-oq-table c.args.old.now (older c.before.before))
+    (omega arith))
+    (search rules))
     sub-write-older
     part-write-older-start
     part-write-older-end
     write-older-requires
     same_length
-    returns-3)
+    returns-2)

@@ -54,33 +54,17 @@ sound-slot-requires c κs =
     let known = c.before.before.before.before.before.before in
     (core-table (table known) (bytes known) c.requires.0, (c.requires.2, c.requires.1))
 
-same_length : tie.Need-shape_of-table-then-marks_of-eq0
-same_length c = search rules
-
-same-length-2 : tie.Need-shape_of-answer-then-marks_of-eq0
-same-length-2 c = search rules
-
-returns : tie.Need-returns-then-marks_of-eq0
-returns c =
-    let known = c.before.before.before.before.before.before.before.before.before.before.before in
-    let a = c.args in
-    plain-leaves (table known) (bytes known) c.requires.0 (take a.many a.records) a.answer.now
-    (ap (λ l. (memory_of l).fair) (sym (memory-part (table known) (bytes known) c.requires.0))
-    ∙ sym c.marks_of.ensures
-    ∙ c.if-marks_of-eq0.true)
-    c.sound_slot.result _ _ c.sound_slot.ensures
-
 fair-slot-requires : tie.Need-fair_slot-requires
 fair-slot-requires c κs = search rules
 
-same-length-3 : tie.Need-shape_of-table
-same-length-3 c = search rules
+same_length : tie.Need-shape_of-table
+same_length c = search rules
 
-same-length-4 : tie.Need-shape_of-answer
-same-length-4 c = search rules
+same-length-2 : tie.Need-shape_of-answer
+same-length-2 c = search rules
 
-returns-2 : tie.Need-returns
-returns-2 c = c.fair_slot.ensures
+returns : tie.Need-returns
+returns c = c.fair_slot.ensures
 
 pub held_slot_spec : {M : Type 1} → statement M
 held_slot_spec =
@@ -94,10 +78,18 @@ held_slot_spec =
     part-sound-slot-start
     part-sound-slot-end
     sound-slot-requires
+    -- no output is fair
+    (λ c. search rules)
+    (λ c. search rules)
+    (λ c.
+    let known = c.before.before.before.before.before.before.before.before.before.before.before in
+    let a = c.args in
+    plain-leaves (table known) (bytes known) c.requires.0 (take a.many a.records) a.answer.now
+    (ap (λ l. (memory_of l).fair) (sym (memory-part (table known) (bytes known) c.requires.0))
+    ∙ sym c.marks_of.ensures
+    ∙ omega arith)
+    c.sound_slot.result _ _ c.sound_slot.ensures)
+    fair-slot-requires
     same_length
     same-length-2
-    returns
-    fair-slot-requires
-    same-length-3
-    same-length-4
-    returns-2)
+    returns)
