@@ -72,6 +72,7 @@ fn old_start_of(k: usize) -> usize
 }
 
 // The number of the table at a place whose name has this number: a free place is zeros.
+#[tactic(auto, unfolding(crate::specs::CodeOlder::number_for))]
 fn number_for(name: u64) -> u32
     ensures { result ≡ number_for name }
 {

@@ -8,17 +8,17 @@ use Rattle.model.specs.Cues.{is_letter}
 use Rattle.cue_store.proofs.name.is_letter.Statement.{statement}
 use Rattle.cue_store.proofs.name.is_letter.Tie as tie
 
-returns : tie.Need-returns
+returns : tie.Need-returns-then-b-lt97
 unfolding is_letter
 returns c =
-    let b = c.before.args.b in
-    sym (and-false-l (leb 97 b) (leb b 122) (lt-leb 97 b c.if1.true))
+    let b = c.args.b in
+    sym (and-false-l (leb 97 b) (leb b 122) (lt-leb 97 b c.if-b-lt97.true))
 
-returns-2 : tie.Need-returns-2
+returns-2 : tie.Need-returns
 unfolding is_letter
 returns-2 c =
-    let b = c.before.args.b in
-    sym (ap (λ t. t && leb b 122) (le-leb 97 b c.if1.false))
+    let b = c.args.b in
+    sym (ap (λ t. t && leb b 122) (le-leb 97 b c.if-b-lt97.false))
 
 pub is_letter_spec : {M : Type 1} → statement M
 is_letter_spec = tie.close (tie.spec returns returns-2)

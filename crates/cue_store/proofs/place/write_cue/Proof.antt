@@ -4,31 +4,27 @@ use Rattle.cue_store.proofs.PlaceBytes.{cue-put}
 use Rattle.cue_store.proofs.place.write_cue.Statement.{statement}
 use Rattle.cue_store.proofs.place.write_cue.Tie as tie
 
-start-of-requires : tie.Need-start-of-requires
+start-of-requires : tie.Need-start_of-at-requires
 start-of-requires c κs = search rules
 
-write-u64-requires : tie.Need-write-u64-requires
+write-u64-requires : tie.Need-write_u64-requires
 write-u64-requires c κs = search rules
 
-add-copy : tie.Need-overflow_add-copy
+add-copy : tie.Need-overflow_add-at
 add-copy c = search rules
 
 copy-requires : tie.Need-copy-requires
 copy-requires c κs = search rules
 
-same_length : tie.Need-same-length
+same_length : tie.Need-shape_of-store
 same_length c = search rules
 
 returns : tie.Need-returns
 returns c =
-    let copied = c.before.before in
-    let named = copied.before.before.before.before in
-    let first = named.before.before in
-    let start = first.before.before.before in
-    let a = start.args in
-    cue-put a.k first.start_of.result a.number a.table.now a.store.now named.write-u64.new.0
-    copied.copy.new.1.1.0 start.requires.0 start.requires.1 start.requires.2 first.start_of.ensures
-    named.write-u64.ensures copied.copy.ensures
+    let a = c.args in
+    cue-put a.k c.start_of-at.result a.number a.table.now a.store.now c.write_u64.new.bytes
+    c.copy.new.bytes c.requires.0 c.requires.1 c.requires.2 c.start_of-at.ensures
+    c.write_u64.ensures c.copy.ensures
 
 pub write_cue_spec : {M : Type 1} → statement M
 write_cue_spec =

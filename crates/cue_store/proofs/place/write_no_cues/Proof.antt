@@ -7,18 +7,16 @@ use Rattle.cue_store.proofs.place.write_no_cues.Tie as tie
 clear-requires : tie.Need-clear-requires
 clear-requires c κs = search rules
 
-write-u32-requires : tie.Need-write-u32-requires
+write-u32-requires : tie.Need-write_u32-requires
 write-u32-requires c κs = search rules
 
-same_length : tie.Need-same-length
+same_length : tie.Need-shape_of-store
 same_length c = search rules
 
 returns : tie.Need-returns
 returns c =
-    let header = c.before.before in
-    let cleared = header.before.before.before.before in
-    no-cues-put cleared.before.before.before.args.store.now cleared.clear.new.0
-    header.write-u32.new.0 cleared.clear.ensures header.write-u32.ensures
+    no-cues-put c.args.store.now c.clear.new.bytes
+    c.write_u32.new.bytes c.clear.ensures c.write_u32.ensures
 
 pub write_no_cues_spec : {M : Type 1} → statement M
 write_no_cues_spec = tie.close (tie.spec clear-requires write-u32-requires same_length returns)
