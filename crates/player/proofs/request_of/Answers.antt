@@ -6,7 +6,7 @@ use Rattle.std.specs.Cmp.Lexicographic.{pointwise}
 use lib.Dec.{eqb}
 use Rattle.laws.proofs.Tests.{clash}
 use Rattle.trace.specs.Ascii.{ascii}
-use Rattle.player.proofs.Requests.{asks_nothing, asks-much, asks-help, asks-version, asks-other}
+use Rattle.player.proofs.Requests.{asks-help, asks-version, asks-other}
 use Rattle.player.proofs.request_of.Goals as goal
 
 -- what the comparison with a word tells
@@ -15,12 +15,6 @@ alike e l h = (slice_eq-Decides Decides-eqb _ _ _ e).0 h ∙ l
 
 apart : {word lent text : List ℕ} {t : Bool} → t ≡ pointwise eqb word lent → lent ≡ text → t ≡ false → word ≢ text
 apart e l h = λ same. clash ((slice_eq-Decides Decides-eqb _ _ _ e).1 (same ∙ sym l)) h
-
-pub returns-then-words-eq0 : goal.returns-then-words-eq0
-returns-then-words-eq0 c = asks_nothing _ _ c.if-words-eq0.true
-
-pub returns-then-words-gt1 : goal.returns-then-words-gt1
-returns-then-words-gt1 c = asks-much c.args.words c.args.word.now (omega arith)
 
 pub returns-then-eq : goal.returns-then-eq
 unfolding ascii
