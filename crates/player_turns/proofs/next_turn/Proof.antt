@@ -16,170 +16,140 @@ use Rattle.player_turns.proofs.next_turn.Statement.{statement}
 use Rattle.player_turns.proofs.next_turn.Tie as tie
 
 -- the number of the line is small enough for what is added to it
-line-room : (c : tie.After-clock-of) → c.before.before.before.before.before.args.line ≤ 3 + 81 * 4294967295
-line-room c = omega (arith, c.before.before.before.before.before.requires.1.0, c.clock-of.ensures, c.clock-of.type-inv)
-
--- the slot that was played, from where both its buffers are back
-abbrev playing : tie.After-slice-known4 → tie.After-play-slot
-playing c = c.before.before.before.before
+line-room : (c : tie.After-clock_of-clock) → c.args.line ≤ 3 + 81 * 4294967295
+line-room c = omega (arith, c.requires.1.0, c.clock_of-clock.ensures, c.clock_of-clock.type_inv)
 
 -- the sizes of a block
-sizes : (c : tie.After-count) → (c.count.given.0.0 ≤ 16) × (c.count.given.0.1.1.0 ≤ 81)
-    × (length c.before.before.read-block.new.1.1.1.0 ≡ 80)
+sizes : (c : tie.In-Slot) → (c.in-Slot.count ≤ 16) × (c.in-Slot.lines ≤ 81)
+    × (length c.read_block.new.numbers ≡ 80)
 sizes c =
-    let block = c.before.before in
-    let read = block.before.before in
-    let start = read.before.before.before.before.before in
-    let a = start.args in
+    let a = c.args in
     let size = block_size a.engine a.last a.line a.text.now a.table.now a.out.now
-    start.requires.0 start.requires.1.0 read.clock-of.result read.clock-of.ensures block.read-block.ensures.0 c.count.given.1 in
+    c.requires.0 c.requires.1.0 c.clock_of-clock.result c.clock_of-clock.ensures c.read_block.ensures.0 c.in-Slot.is in
     let length = numbers-size a.engine a.last a.line a.text.now a.table.now a.out.now
-    start.requires.0 start.requires.1.0 read.clock-of.result read.clock-of.ensures block.read-block.ensures.0 c.count.given.1
-    _ _ block.read-block.ensures.1 refl in
+    c.requires.0 c.requires.1.0 c.clock_of-clock.result c.clock_of-clock.ensures c.read_block.ensures.0 c.in-Slot.is
+    _ _ c.read_block.ensures.1 refl in
     (size.0, size.1, length)
 
-clock-of-requires : tie.Need-clock-of-requires
-clock-of-requires c κs = decode-length _ _ (table_is _ _ c.before.before.before.before.requires.0)
+clock-of-requires : tie.Need-clock_of-clock-requires
+clock-of-requires c κs = decode-length _ _ (table_is _ _ c.requires.0)
 
-read-block-requires : tie.Need-read-block-requires
+read-block-requires : tie.Need-read_block-requires
 read-block-requires c κs = search rules
 
-enum-known-count : tie.Need-enum-known-count
+enum-known-count : tie.Need-enum_known-count
 enum-known-count c = search rules
 
-slice-aggregate-play-slot : tie.Need-slice-aggregate-play-slot
-slice-aggregate-play-slot c = sym (sizes c.before.before).2
+slice-aggregate-play-slot : tie.Need-slice_bounds-play_slot-end
+slice-aggregate-play-slot c = sym (sizes c.before).2
 
-play-slot-requires : tie.Need-play-slot-requires
+play-slot-requires : tie.Need-play_slot-requires
 play-slot-requires c κs =
-    let answer = c.before.before.before.before in
-    let read = answer.before.before.before.before in
-    let start = read.before.before.before.before.before in
-    let few : start.args.line ≤ 3 + 81 * read.clock-of.result = omega (arith, start.requires.1.0, read.clock-of.ensures) in
-    (start.requires.0, ((read.clock-of.ensures, few), (((sizes answer).2, (sizes answer).0), start.requires.1.1)))
+    let clock = c.clock_of-clock in
+    let block = sizes c.before.before.before in
+    let few : c.args.line ≤ 3 + 81 * clock.result = omega (arith, c.requires.1.0, clock.ensures) in
+    (c.requires.0, ((clock.ensures, few), ((block.2, block.0), c.requires.1.1)))
 
-enum-known-written : tie.Need-enum-known-written
+enum-known-written : tie.Need-enum_known-written
 enum-known-written c = search rules
 
-cast-t30 : tie.Need-overflow_cast-t30
+cast-t30 : tie.Need-overflow_cast-result
 cast-t30 c = search rules
 
-add-t31 : tie.Need-overflow_add-t31
+add-t31 : tie.Need-overflow_add-result
 add-t31 c =
-    let answer = (playing c.before.before.before).before.before.before.before.before in
-    omega (arith, line-room answer.before.before.before.before, (sizes answer).1)
+    let slot = c.before.before.before.before.before.before.before.before.before in
+    omega (arith, line-room slot.before.before.before, (sizes slot).1)
 
-enum-known-written-2 : tie.Need-enum-known-written-2
+enum-known-written-2 : tie.Need-enum_known-written-in-Stopped-1
 enum-known-written-2 c = search rules
 
 over-requires : tie.Need-over-requires
 over-requires c κs = search rules
 
-enum_told : tie.Need-enum-told
+enum_told : tie.Need-enum_told-1
 enum_told c = search rules
 
-put-line-requires : tie.Need-put-line-requires
+put-line-requires : tie.Need-put_line-requires
 put-line-requires c κs = search rules
 
-over-requires-2 : tie.Need-over-requires-2
+over-requires-2 : tie.Need-over-requires-in-End
 over-requires-2 c κs = search rules
 
-enum-known-k : tie.Need-enum-known-k
+enum-known-k : tie.Need-enum_known-k
 enum-known-k c = search rules
 
-cast-put-refusal : tie.Need-overflow_cast-put-refusal
+cast-put-refusal : tie.Need-overflow_cast-k
 cast-put-refusal c = search rules
 
-add-put-refusal : tie.Need-overflow_add-put-refusal
-add-put-refusal c = let block = c.before.before.before.before in omega (arith, line-room block.before.before)
+add-put-refusal : tie.Need-overflow_add-line
+add-put-refusal c = omega (arith, line-room c.before.before.before.before)
 
-put-refusal-requires : tie.Need-put-refusal-requires
+put-refusal-requires : tie.Need-put_refusal-written-requires
 put-refusal-requires c κs = search rules
 
-over-requires-3 : tie.Need-over-requires-3
+over-requires-3 : tie.Need-over-requires-in-Bad
 over-requires-3 c κs = search rules
 
-enum-told-2 : tie.Need-enum-told-2
+enum-told-2 : tie.Need-enum_told-in-More
 enum-told-2 c = search rules
 
-same_length : tie.Need-same-length
+same_length : tie.Need-shape_of-table-in-Ran
 same_length c = search rules
 
-same-length-2 : tie.Need-same-length-2
+same-length-2 : tie.Need-shape_of-out-in-Ran
 same-length-2 c = search rules
 
-returns : tie.Need-returns
+returns : tie.Need-returns-in-Ran
 returns c =
-    let played = playing c.before.before.before in
-    let answer = played.before.before.before.before.before in
-    let block = answer.before.before in
-    let read = block.before.before in
-    let start = read.before.before.before.before.before in
-    next-ran _ _ _ _ _ _ start.pre.0 start.pre.1.0 _ read.clock-of.ensures block.read-block.ensures.0 answer.count.given.1 _ _
-    block.read-block.ensures.1 refl played.play-slot.ensures c.before.written.given.1
+    next-ran _ _ _ _ _ _ c.requires.0 c.requires.1.0 _ c.clock_of-clock.ensures c.read_block.ensures.0 c.in-Slot.is _ _
+    c.read_block.ensures.1 refl c.play_slot.ensures c.in-Ran.is
 
-same-length-3 : tie.Need-same-length-3
+same-length-3 : tie.Need-shape_of-table-in-Stopped
 same-length-3 c = search rules
 
-same-length-4 : tie.Need-same-length-4
+same-length-4 : tie.Need-shape_of-out-in-Stopped
 same-length-4 c = search rules
 
-returns-2 : tie.Need-returns-2
+returns-2 : tie.Need-returns-in-Stopped
 returns-2 c =
-    let played = playing c.before.before.before.before in
-    let answer = played.before.before.before.before.before in
-    let block = answer.before.before in
-    let read = block.before.before in
-    let start = read.before.before.before.before.before in
-    next-stopped _ _ _ _ _ _ start.pre.0 start.pre.1.0 _ read.clock-of.ensures block.read-block.ensures.0 answer.count.given.1 _ _
-    block.read-block.ensures.1 refl played.play-slot.ensures c.before.before.written2.given.1 _ _ _ _ c.over.ensures
+    next-stopped _ _ _ _ _ _ c.requires.0 c.requires.1.0 _ c.clock_of-clock.ensures c.read_block.ensures.0 c.in-Slot.is _ _
+    c.read_block.ensures.1 refl c.play_slot.ensures c.in-Stopped.is _ _ _ _ c.over.ensures
 
-same-length-5 : tie.Need-same-length-5
+same-length-5 : tie.Need-shape_of-table-in-End
 same-length-5 c = search rules
 
-same-length-6 : tie.Need-same-length-6
+same-length-6 : tie.Need-shape_of-out-in-End
 same-length-6 c = search rules
 
-returns-3 : tie.Need-returns-3
+returns-3 : tie.Need-returns-in-End
 returns-3 c =
-    let put = c.before.before.before in
-    let block = put.before.before.before.before in
-    let read = block.before.before in
-    let start = read.before.before.before.before.before in
-    let size = line-le End read.clock-of.result (fits32-i _ (omega (arith, read.clock-of.type-inv))) in
-    next-end _ _ _ _ _ _ start.requires.0 start.requires.1.0 _ read.clock-of.ensures block.read-block.ensures.0 _ _ _ _ _ _
-    c.over2.ensures put.before.before.enum_told.given.1
-    (wrote-put (omega (arith, size, start.requires.1.1)) (omega (arith, start.well-formed)) put.put-line.ensures)
+    let size = line-le End c.clock_of-clock.result (fits32-i _ (omega (arith, c.clock_of-clock.type_inv))) in
+    next-end _ _ _ _ _ _ c.requires.0 c.requires.1.0 _ c.clock_of-clock.ensures c.read_block.ensures.0 _ _ _ _ _ _
+    c.over-in-End.ensures c.in-End.is
+    (wrote-put (omega (arith, size, c.requires.1.1)) (omega (arith, c.well_formed)) c.put_line.ensures)
 
-same-length-7 : tie.Need-same-length-7
+same-length-7 : tie.Need-shape_of-table-in-Bad
 same-length-7 c = search rules
 
-same-length-8 : tie.Need-same-length-8
+same-length-8 : tie.Need-shape_of-out-in-Bad
 same-length-8 c = search rules
 
-returns-4 : tie.Need-returns-4
+returns-4 : tie.Need-returns-in-Bad
 unfolding refusal_text
 returns-4 c =
-    let put = c.before.before.before in
-    let told = put.before.before.before in
-    let block = told.before.before in
-    let read = block.before.before in
-    let start = read.before.before.before.before.before in
-    let a = start.args in
-    next-bad _ _ _ _ _ _ start.requires.0 start.requires.1.0 _ read.clock-of.ensures block.read-block.ensures.0 _ _ _ _ _ _
-    c.over3.ensures told.k.given.1
-    (wrote-refusal BadLine (a.line + told.k.given.0.0) (omega (arith, line-room read, put.before)) start.requires.1.1
-    (omega (arith, start.well-formed)) put.put-refusal.ensures)
+    let room = line-room c.before.before.before.before.before.before.before.before in
+    next-bad _ _ _ _ _ _ c.requires.0 c.requires.1.0 _ c.clock_of-clock.ensures c.read_block.ensures.0 _ _ _ _ _ _
+    c.over-in-Bad.ensures c.in-Bad.is
+    (wrote-refusal BadLine (c.args.line + c.in-Bad.k) (omega (arith, room)) c.requires.1.1
+    (omega (arith, c.well_formed)) c.put_refusal-written.ensures)
 
-same-length-9 : tie.Need-same-length-9
+same-length-9 : tie.Need-shape_of-table-in-More
 same-length-9 c = search rules
 
-returns-5 : tie.Need-returns-5
+returns-5 : tie.Need-returns-in-More
 returns-5 c =
-    let block = c.before.before in
-    let read = block.before.before in
-    let start = read.before.before.before.before.before in
-    next_more _ _ _ _ _ _ start.requires.0 start.requires.1.0 _ read.clock-of.ensures block.read-block.ensures.0 c.enum-told2.given.1
+    next_more _ _ _ _ _ _ c.requires.0 c.requires.1.0 _ c.clock_of-clock.ensures c.read_block.ensures.0 c.in-More.is
 
 pub next_turn_spec : {M : Type 1} → statement M
 next_turn_spec =
