@@ -1,5 +1,6 @@
 // A slot of the crossbar on the table that a host keeps: its cells, and the memory of its fair outputs.
 #![tactic(auto)]
+
 ghost use Rattle.std.specs.Prelude.{true, ◌≡◌, ◌≤◌, length, take};
 ghost use Rattle.std.proofs.Math.Option.{some};
 ghost use Rattle.laws.specs.Lists.{all?};

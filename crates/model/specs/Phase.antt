@@ -14,7 +14,7 @@ use Rattle.cell.specs.Flow.{same_flow}
 use Rattle.cell.specs.Limits.{section_room}
 use Rattle.cell.specs.Order.{over}
 use Rattle.matching.specs.Matching.{matched, proposals}
-use Rattle.model.specs.State.{Place, listed, crossed, buffered, Entry, is_listed, is_crossed}
+use Rattle.model.specs.State.{Place, crossed, buffered, Entry, is_listed, is_crossed}
 
 -- An entry and its number, 64 × input + its position in the section of its input.
 pub record Waiting : Type 0 where

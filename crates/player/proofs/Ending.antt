@@ -24,6 +24,8 @@ over-finished : (stage : Stage) (l : ℕ) (table : List ℕ) → Over (standing 
 unfolding standing
 over-finished Ended l table o = inl refl
 over-finished TurnedBack l table o = inr refl
+over-finished Opening l table o = elim o [ ]
+over-finished Playing l table o = elim o [ ]
 
 -- the round is one of a driver that had the text and gets nothing more
 pub finished : (engine : Engine) (last : Bool) (stage : Stage) (l : ℕ) (text table buffer table' buffer' : List ℕ)

@@ -16,11 +16,11 @@ unfolding request_of
 asks_nothing zero word h = refl
 asks_nothing (suc n) word h = absurd (omega arith)
 
-pub asks-much : (n : ℕ) (word : List ℕ) → 1 < n → Unknown ≡ request_of n word
+pub asks_much : (n : ℕ) (word : List ℕ) → 1 < n → Unknown ≡ request_of n word
 unfolding request_of
-asks-much zero word h = absurd (omega arith)
-asks-much (suc zero) word h = absurd (omega arith)
-asks-much (suc (suc n)) word h = refl
+asks_much zero word h = absurd (omega arith)
+asks_much (suc zero) word h = absurd (omega arith)
+asks_much (suc (suc n)) word h = refl
 
 same : (a b : List ℕ) → a ≡ b → same_bytes a b ≡ true
 same a b h = ap (same_bytes a) (sym h) ∙ same_bytes-refl a

@@ -71,6 +71,7 @@ pub fn oq_player(input: Stdin, output: Stdout, error: Stderr, words: usize, word
 }
 
 // By what is asked for.
+#[tactic(auto, unfolding(crate::specs::Program::Answered))]
 fn answer(streams: Streams, engine: Engine, words: usize, word: &[u8]) -> u32
     ensures { Answered (request_of words word.now) result }
 {
@@ -83,6 +84,7 @@ fn answer(streams: Streams, engine: Engine, words: usize, word: &[u8]) -> u32
 }
 
 // By the arguments.
+#[tactic(auto, using(crate::proofs::Requests::asks_nothing, crate::proofs::Requests::asks_much))]
 fn request_of(words: usize, word: &[u8]) -> Request
     ensures { result ≡ request_of words word.now }
 {

@@ -3,7 +3,7 @@
 --     line k n       the line with key k and number n
 --     read_line k t   the number of the line with key k at the start of t, and the text after it; none if t does not
 --                    begin with such a line
-use Rattle.std.specs.Prelude.{ℕ, zero, suc, ◌+◌, ◌*◌, ◌-◌, ◌/◌, ◌%◌, Bool, true, false, cond, not, ◌&&◌, ◌||◌, List, [], ◌∷◌, ◌++◌, ltb, leb, eqb}
+use Rattle.std.specs.Prelude.{ℕ, zero, suc, ◌+◌, ◌*◌, ◌-◌, ◌/◌, ◌%◌, Bool, true, false, cond, not, ◌&&◌, List, [], ◌∷◌, ◌++◌, ltb, leb, eqb}
 use Rattle.std.proofs.Math.Option.{Option, none, some, bind, map}
 use Rattle.laws.specs.Lists.{all?}
 use Rattle.cell.specs.Limits.{fits32}

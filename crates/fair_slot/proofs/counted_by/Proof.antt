@@ -4,33 +4,31 @@ use Rattle.fair_slot.proofs.Calls.{counted-refused, counted_ran}
 use Rattle.fair_slot.proofs.counted_by.Statement.{statement}
 use Rattle.fair_slot.proofs.counted_by.Tie as tie
 
-enum_told : tie.Need-enum-told
+enum_told : tie.Need-enum_told-1
 enum_told c = search rules
 
-enum-told-2 : tie.Need-enum-told-2
+enum-told-2 : tie.Need-enum_told-in_default
 enum-told-2 c = search rules
 
 counted-requires : tie.Need-counted-requires
 counted-requires c κs = search rules
 
-returns : tie.Need-returns
+returns : tie.Need-returns-in_default
 returns c =
-    let told = c.before in
-    let a = told.before.before.before.args in
-    counted-refused a.fault told.enum-told2.given.1 a.many a.answer.now a.t _ c.counted.ensures
+    let a = c.args in
+    counted-refused a.fault c.in_default.is a.many a.answer.now a.t _ c.counted.ensures
 
-departures-in-requires : tie.Need-departures-in-requires
-departures-in-requires c κs = c.before.before.before.requires c.enum_told.given.1
+departures-in-requires : tie.Need-departures_in-requires
+departures-in-requires c κs = c.requires c.in-Clear.is
 
 counted-requires-2 : tie.Need-counted-requires-2
 counted-requires-2 c κs = search rules
 
-returns-2 : tie.Need-returns-2
+returns-2 : tie.Need-returns
 returns-2 c =
-    let told = c.before.before in
-    let a = told.before.before.before.args in
-    counted_ran a.fault told.enum_told.given.1 a.many _ a.answer.now a.t _
-    c.before.departures-in.ensures c.counted2.ensures
+    let a = c.args in
+    counted_ran a.fault c.in-Clear.is a.many _ a.answer.now a.t _
+    c.departures_in.ensures c.counted-2.ensures
 
 pub counted_by_spec : {M : Type 1} → statement M
 counted_by_spec =

@@ -12,38 +12,37 @@ use Rattle.fair_slot.proofs.Tables.{Parts, parts, memory-part}
 use Rattle.fair_slot.proofs.fault_of.Statement.{statement}
 use Rattle.fair_slot.proofs.fault_of.Tie as tie
 
-known : (c : tie.After-shared-slice-known) → Parts c.before.args.table.now
-known c = parts _ (known_bytes _ c.shared-slice-known.given) c.before.requires.0
+known : (c : tie.After-shared_slice_known-1) → Parts c.args.table.now
+known c = parts _ (known_bytes _ c.shared_slice_known-1.given) c.requires.0
 
-sub-fair-fault : tie.Need-overflow_sub-fair-fault
+sub-fair-fault : tie.Need-slice_bounds-fair_fault-count
 sub-fair-fault c = search rules
 
-part-fair-fault-start : tie.Need-slice-bounds-fair-fault-start
+part-fair-fault-start : tie.Need-slice_bounds-fair_fault-start
 part-fair-fault-start c = search rules
 
-part-fair-fault-end : tie.Need-slice-bounds-fair-fault-end
+part-fair-fault-end : tie.Need-slice_bounds-fair_fault-end
 part-fair-fault-end c = let size = (known c).size in omega arith
 
-sub-fair-fault-2 : tie.Need-overflow_sub-fair-fault-2
+sub-fair-fault-2 : tie.Need-slice_bounds-fair_fault-count-2
 sub-fair-fault-2 c = let size = (known c.before).size in omega arith
 
-part-fair-fault-start-2 : tie.Need-slice-bounds-fair-fault-start-2
+part-fair-fault-start-2 : tie.Need-slice_bounds-fair_fault-start-2
 part-fair-fault-start-2 c = let size = (known c.before).size in omega arith
 
-part-fair-fault-end-2 : tie.Need-slice-bounds-fair-fault-end-2
+part-fair-fault-end-2 : tie.Need-slice_bounds-fair_fault-end-2
 part-fair-fault-end-2 c = search rules
 
-fair-fault-requires : tie.Need-fair-fault-requires
+fair-fault-requires : tie.Need-fair_fault-requires
 fair-fault-requires c κs =
-    let looked = c.before.before in
-    let table = looked.before.args.table.now in
-    ((known looked).core, (ap length (memory-part table) ∙ (known looked).remembers, looked.before.requires.1))
+    let table = c.args.table.now in
+    ((known c.before.before).core, (ap length (memory-part table) ∙ (known c.before.before).remembers, c.requires.1))
 
 returns : tie.Need-returns
 unfolding fair_of
 returns c =
-    let a = c.before.before.before.before.args in
-    c.fair-fault.ensures
+    let a = c.args in
+    c.fair_fault.ensures
     ∙ ap (λ l. fair_fault_in (state_of (core_in a.table.now)) (memory_of l) (take a.many a.records))
     (memory-part a.table.now)
 

@@ -12,45 +12,36 @@ number-requires c κs = search rules
 cast-result : tie.Need-overflow_cast-result
 cast-result c = search rules
 
-returns : tie.Need-returns
-returns c = slot-tally _ _ _ _ c.before.if1.true _ c.number.ensures
-
-read-requires : tie.Need-read-requires
+read-requires : tie.Need-read-before-requires
 read-requires c κs = search rules
 
-take-slot-requires : tie.Need-take-slot-requires
+take-slot-requires : tie.Need-take_slot-fault-requires
 take-slot-requires c κs = search rules
 
-counted-by-requires : tie.Need-counted-by-requires
+counted-by-requires : tie.Need-counted_by-after-requires
 counted-by-requires c κs =
-    let called = c.before.before.before.before.before in
-    λ e. omega (arith, clear_room _ _ _ _ called.take-slot.ensures.0 e, called.take-slot.auto.1.1.0)
+    λ e. omega (arith, clear_room _ _ _ _ c.take_slot-fault.ensures.0 e, c.take_slot-fault.auto.answer)
 
 write-requires : tie.Need-write-requires
 write-requires c κs = search rules
 
-result-of-requires : tie.Need-result-of-requires
+result-of-requires : tie.Need-result_of-requires
 result-of-requires c κs = search rules
 
-same_length : tie.Need-same-length
+same_length : tie.Need-shape_of-table
 same_length c = search rules
 
-same-length-2 : tie.Need-same-length-2
+same-length-2 : tie.Need-shape_of-answer
 same-length-2 c = search rules
 
-same-length-3 : tie.Need-same-length-3
+same-length-3 : tie.Need-shape_of-tally
 same-length-3 c = search rules
 
-returns-2 : tie.Need-returns-2
-returns-2 c =
-    let wrote = c.before.before.before in
-    let counted = wrote.before.before in
-    let called = counted.before.before.before.before.before.before in
-    let read = called.before.before.before in
-    let test = read.before.before in
-    slot-called _ _ _ _ test.if1.false called.take-slot.result _ _ _ called.take-slot.ensures
-    read.read.result counted.counted-by.result read.read.ensures counted.counted-by.ensures wrote.write.ensures _
-    c.result-of.ensures
+returns : tie.Need-returns
+returns c =
+    slot-called _ _ _ _ (omega arith) c.take_slot-fault.result _ _ _ c.take_slot-fault.ensures
+    c.read-before.result c.counted_by-after.result c.read-before.ensures c.counted_by-after.ensures c.write.ensures _
+    c.result_of.ensures
 
 pub oq_slot_spec : {M : Type 1} → statement M
 oq_slot_spec =
@@ -58,7 +49,8 @@ oq_slot_spec =
     (tie.spec
     number-requires
     cast-result
-    returns
+    -- the tally has another length
+    (λ c. slot-tally _ _ _ _ (λ e. omega arith) _ c.number.ensures)
     read-requires
     take-slot-requires
     counted-by-requires
@@ -67,4 +59,4 @@ oq_slot_spec =
     same_length
     same-length-2
     same-length-3
-    returns-2)
+    returns)

@@ -1,7 +1,6 @@
 -- Each rule in turn: one that is broken, or none.
 use mathlib.Core.Bool.{true, false}
 use mathlib.Core.Path.{◌≡◌, sym, ◌∙◌, ap, ap₂}
-use borrow.Author.Tests.{not-true, not-false}
 use borrow.Author.Rules.{rules}
 use Rattle.laws.specs.Lists.{all?, between}
 use Rattle.laws.proofs.Tests.{clash, by-fail, same}

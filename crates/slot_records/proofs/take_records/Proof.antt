@@ -1,7 +1,6 @@
 -- The table, the room for the answer, then as on a sound table.
 use mathlib.Core.Path.{refl, sym, ◌∙◌}
 use borrow.Author.Rules.{rules}
-use borrow.Author.Tests.{not-true, not-false}
 use Rattle.layout.specs.Table.{state_of, IsTable}
 use Rattle.layout.proofs.Table.{is-table, is_table-some}
 use Rattle.slot_view.proofs.Handed.{handed-sets}

@@ -1,6 +1,5 @@
 -- `trace_line_reader::read_line` meets its contract: a line is its key and what is read behind it. Assumes nothing.
 use borrow.Author.Rules.{rules}
-use borrow.Author.Tests.{not-true, not-false}
 use native.Mathlib.Omega.{arith}
 use mathlib.Core.Path.{sym, ap, ◌∙◌}
 use lib.ListN.{drop}

@@ -29,170 +29,160 @@ use Rattle.oq.proofs.Held.{fault-leaves, clear-rankable, fair-leaves}
 use Rattle.oq.proofs.slot.fair_slot.Statement.{statement}
 use Rattle.oq.proofs.slot.fair_slot.Tie as tie
 
-module _ (c : tie.After-slice-known) where
-  abbrev start : tie.Start
-  start = c.before
-
+module _ (c : tie.After-slice_known-1) where
   abbrev table : List ℕ
-  table = start.args.table.now
+  table = c.args.table.now
 
   abbrev records : List Arrival
-  records = take start.args.many start.args.records
+  records = take c.args.many c.args.records
 
   bytes : bytes? table ≡ true
-  bytes = known_bytes _ c.slice-known.given
+  bytes = known_bytes _ c.slice_known-1.given
 
   size : length table ≡ fair_size
-  size = whole-size table bytes start.pre.0
+  size = whole-size table bytes c.requires.0
 
   -- the numbers of the records are of 32 bits
   fits : all? arrival_fits records ≡ true
   fits =
-      let held = start.args.records in
-      let many = start.args.many in
-      let w = start.good.1.0 in
-      let first : length records ≡ many = held-length held many w.1.0.1 start.pre.1 in
+      let held = c.args.records in
+      let many = c.args.many in
+      let w = c.well_formed.1.0 in
+      let first : length records ≡ many = held-length held many w.1.0.1 c.requires.1 in
       all?-places arrival_fits no_record records (λ k less.
       ap arrival_fits (get_or-take many held k no_record (omega arith))
-      ∙ held_fits held w.0 w.1.1 k (omega (arith, w.1.0.1, start.pre.1)) no_record)
+      ∙ held_fits held w.0 w.1.1 k (omega (arith, w.1.0.1, c.requires.1)) no_record)
 
--- where the table was looked at, from where the fault was
-abbrev known_of : tie.After-fault-of → tie.After-slice-known
-known_of c = c.before.before.before
+-- where the table was looked at, from where no fault was found
+abbrev known-clear : tie.In-Clear → tie.After-slice_known-1
+known-clear c = c.before.before.before
 
--- from where none was found
-abbrev known-clear : tie.After-enum-told → tie.After-slice-known
-known-clear c = known_of c.before.before
-
-clear : (c : tie.After-enum-told)
+clear : (c : tie.In-Clear)
     → let known = known-clear c in
     fair_fault_in (state_of (core_in (table known))) (memory_of (memory_in (table known))) (records known) ≡ Clear
-clear c = sym c.before.before.fault-of.ensures ∙ c.enum_told.given.1
+clear c = sym c.fault_of-fault.ensures ∙ c.in-Clear.is
 
--- and from where the cells took the slot
-abbrev told_of : tie.After-sound-slot → tie.After-enum-told
-told_of c = c.before.before.before.before.before.before
+-- from where the cells took the slot
+abbrev known-served : tie.After-sound_slot-served → tie.After-slice_known-1
+known-served c = known-clear c.before.before.before.before.before
 
-core-size : (c : tie.After-sound-slot) → length c.sound-slot.new.0 ≡ table_size
+core-size : (c : tie.After-sound_slot-served) → length c.sound_slot-served.new.table ≡ table_size
 core-size c =
-    let known = known-clear (told_of c) in
-    c.sound-slot.auto.0 ∙ decode-length _ _ (core-table (table known) (bytes known) (start known).pre.0).0
+    let known = known-served c in
+    c.sound_slot-served.auto.table ∙ decode-length _ _ (core-table (table known) (bytes known) c.requires.0).0
 
 -- where the cells took the slot, from where the ranks were remembered
-abbrev sound-of : tie.After-remember → tie.After-sound-slot
-sound-of c = c.before.before.before.before.before.before.before
+abbrev sound-of : tie.After-remember → tie.After-sound_slot-served
+sound-of c = c.before.before.before.before.before.before
 
-memory-length : (c : tie.After-remember) → length c.remember.new.0 ≡ memory_size
+memory-length : (c : tie.After-remember) → length c.remember.new.memory ≡ memory_size
 memory-length c =
-    let called = sound-of c in
-    let known = known-clear (told_of called) in
-    let t = (start known).pre.0 in
-    c.remember.auto.0
-    ∙ ap length (two-memory (table known) (bytes known) t called.sound-slot.last.0 (core-size called))
+    let known = known-served (sound-of c) in
+    let t = c.requires.0 in
+    c.remember.auto.memory
+    ∙ ap length (two-memory (table known) (bytes known) t c.sound_slot-served.new.table (core-size (sound-of c)))
     ∙ memory-size (table known) (bytes known) t
 
-fault-of-requires : tie.Need-fault-of-requires
+fault-of-requires : tie.Need-fault_of-fault-requires
 fault-of-requires c κs = search rules
 
-enum_told : tie.Need-enum-told
+enum_told : tie.Need-enum_told-1
 enum_told c = search rules
 
-enum-told-2 : tie.Need-enum-told-2
+enum-told-2 : tie.Need-enum_told-in_default
 enum-told-2 c = search rules
 
-same_length : tie.Need-same-length
+same_length : tie.Need-shape_of-table-in_default
 same_length c = search rules
 
-returns : tie.Need-returns
+returns : tie.Need-returns-in_default
 returns c =
-    let looked = c.before.before in
-    let known = known_of looked in
-    fault-leaves (table known) (bytes known) (start known).pre.0 (records known) (start known).args.answer.now _
-    c.enum-told2.given.1 looked.fault-of.ensures
+    let known = c.before.before.before in
+    fault-leaves (table known) (bytes known) c.requires.0 (records known) c.args.answer.now _
+    c.in_default.is c.fault_of-fault.ensures
 
-sub-make-ranks : tie.Need-overflow_sub-make-ranks
+sub-make-ranks : tie.Need-slice_bounds-make_ranks-count
 sub-make-ranks c = omega (arith, size (known-clear c))
 
-part-make-ranks-start : tie.Need-slice-bounds-make-ranks-start
-part-make-ranks-start c = omega (arith, size (known-clear c.before))
+part-make-ranks-start : tie.Need-slice_bounds-make_ranks-start
+part-make-ranks-start c = omega (arith, size (known-clear c))
 
-part-make-ranks-end : tie.Need-slice-bounds-make-ranks-end
+part-make-ranks-end : tie.Need-slice_bounds-make_ranks-end
 part-make-ranks-end c = search rules
 
-make-ranks-requires : tie.Need-make-ranks-requires
+make-ranks-requires : tie.Need-make_ranks-made-requires
 make-ranks-requires c κs =
-    let told = c.before.before in
-    let known = known-clear told in
-    let t = (start known).pre.0 in
+    let known = known-clear c.before in
+    let t = c.requires.0 in
     let part = memory-part (table known) (bytes known) t in (
       ap length part ∙ memory-size (table known) (bytes known) t,
-      (start known).pre.1,
+      c.requires.1,
       ap (λ l. all? (rankable (memory_of l)) (records known)) part
-          ∙ clear-rankable (table known) (bytes known) t (records known) (start known).args.answer.now (clear told),
+          ∙ clear-rankable (table known) (bytes known) t (records known) c.args.answer.now (clear c.before),
     )
 
-sub-sound-slot : tie.Need-overflow_sub-sound-slot
+sub-sound-slot : tie.Need-slice_bounds-sound_slot-count
 sub-sound-slot c = search rules
 
-part-sound-slot-start : tie.Need-slice-bounds-sound-slot-start
+part-sound-slot-start : tie.Need-slice_bounds-sound_slot-start
 part-sound-slot-start c = search rules
 
-part-sound-slot-end : tie.Need-slice-bounds-sound-slot-end
-part-sound-slot-end c = omega (arith, size (known-clear c.before.before.before))
+part-sound-slot-end : tie.Need-slice_bounds-sound_slot-end
+part-sound-slot-end c = omega (arith, size (known-clear c.before.before))
 
-sound-slot-requires : tie.Need-sound-slot-requires
+sound-slot-requires : tie.Need-sound_slot-served-requires
 sound-slot-requires c κs =
-    let known = known-clear c.before.before.before.before.before in
-    (core-table (table known) (bytes known) (start known).pre.0, ((start known).pre.2, (start known).pre.1))
+    let known = known-clear c.before.before.before.before in
+    (core-table (table known) (bytes known) c.requires.0, (c.requires.2, c.requires.1))
 
-sub-remember : tie.Need-overflow_sub-remember
+sub-remember : tie.Need-slice_bounds-remember-count
 sub-remember c =
     let called = c.before.before.before.before in
-    let known = known-clear (told_of called) in
-    omega (arith, two_size (table known) (bytes known) (start known).pre.0 called.sound-slot.new.0 (core-size called))
+    let known = known-served called in
+    omega (arith, two_size (table known) (bytes known) c.requires.0 c.sound_slot-served.new.table (core-size called))
 
-part-remember-start : tie.Need-slice-bounds-remember-start
+part-remember-start : tie.Need-slice_bounds-remember-start
 part-remember-start c =
     let called = c.before.before.before.before in
-    let known = known-clear (told_of called) in
-    omega (arith, two_size (table known) (bytes known) (start known).pre.0 called.sound-slot.new.0 (core-size called))
+    let known = known-served called in
+    omega (arith, two_size (table known) (bytes known) c.requires.0 c.sound_slot-served.new.table (core-size called))
 
-part-remember-end : tie.Need-slice-bounds-remember-end
+part-remember-end : tie.Need-slice_bounds-remember-end
 part-remember-end c = search rules
 
 remember-requires : tie.Need-remember-requires
 remember-requires c κs =
-    let called = c.before.before.before.before.before.before in
-    let known = known-clear (told_of called) in
-    let t = (start known).pre.0 in (
-      ap length (two-memory (table known) (bytes known) t called.sound-slot.new.0 (core-size called)) ∙ memory-size (table known) (bytes known) t,
-      (start known).pre.1,
-      omega (arith, (start known).pre.2, called.sound-slot.auto.1.1.1.0),
+    let called = c.before.before.before.before.before in
+    let known = known-served called in
+    let t = c.requires.0 in (
+      ap length (two-memory (table known) (bytes known) t c.sound_slot-served.new.table (core-size called))
+          ∙ memory-size (table known) (bytes known) t,
+      c.requires.1,
+      omega (arith, c.requires.2, c.sound_slot-served.auto.answer),
     )
 
-same-length-2 : tie.Need-same-length-2
+same-length-2 : tie.Need-shape_of-table
 same-length-2 c =
     let called = sound-of c.before.before in
-    let known = known-clear (told_of called) in
-    three-size (table known) (bytes known) (start known).pre.0 called.sound-slot.last.0 (core-size called)
-    c.before.before.remember.new.0 (memory-length c.before.before)
+    let known = known-served called in
+    three-size (table known) (bytes known) c.requires.0 c.sound_slot-served.new.table (core-size called)
+    c.remember.new.memory (memory-length c.before.before)
 
-same-length-3 : tie.Need-same-length-3
+same-length-3 : tie.Need-shape_of-answer
 same-length-3 c = search rules
 
-returns-2 : tie.Need-returns-2
+returns-2 : tie.Need-returns
 returns-2 c =
     let remembers = c.before.before in
     let called = sound-of remembers in
-    let made = called.before.before.before in
-    let told = told_of called in
+    let told = called.before.before.before.before.before in
     let known = known-clear told in
-    let t = (start known).pre.0 in
-    fair-leaves (table known) (bytes known) t (records known) (start known).args.answer.now (clear told) _
-    (made.make-ranks.ensures
+    let t = c.requires.0 in
+    fair-leaves (table known) (bytes known) t (records known) c.args.answer.now (clear told) _
+    (c.make_ranks-made.ensures
     ∙ ap (λ l. map (make (memory_of l)) (records known)) (memory-part (table known) (bytes known) t))
-    (fits known) called.sound-slot.result _ _ (core-size called) called.sound-slot.ensures _
-    (known_bytes _ c.slice-known5.given) (memory-length remembers) remembers.remember.ensures
+    (fits known) c.sound_slot-served.result _ _ (core-size called) c.sound_slot-served.ensures _
+    (known_bytes _ c.slice_known-5-1.given) (memory-length remembers) c.remember.ensures
 
 pub fair_slot_spec : {M : Type 1} → statement M
 fair_slot_spec =

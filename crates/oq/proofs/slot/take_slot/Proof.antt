@@ -11,69 +11,60 @@ use Rattle.oq.proofs.Slots.{lent-clear, lent-refuses, lent-held}
 use Rattle.oq.proofs.slot.take_slot.Statement.{statement}
 use Rattle.oq.proofs.slot.take_slot.Tie as tie
 
--- the start, from where the lent bytes have been looked at
-abbrev start_of : tie.After-lent-fault → tie.Start
-start_of c = c.before.before.before.before.before
-
 -- nothing was found there
-module _ (c : tie.After-enum-told) where
+module _ (c : tie.In-Clear) where
   abbrev table : List ℕ
-  table = (start_of c.before.before).args.table.now
+  table = c.args.table.now
 
   abbrev arrivals : List ℕ
-  arrivals = (start_of c.before.before).args.arrivals.now
+  arrivals = c.args.arrivals.now
 
   abbrev answer : List ℕ
-  answer = (start_of c.before.before).args.answer.now
+  answer = c.args.answer.now
 
   found : Lent table arrivals (length answer) Clear
-  found = lent-clear table arrivals (length answer) _ c.enum_told.given.1 c.before.before.lent-fault.ensures
+  found = lent-clear table arrivals (length answer) _ c.in-Clear.is c.lent_fault-fault.ensures
 
-lent-fault-requires : tie.Need-lent-fault-requires
+lent-fault-requires : tie.Need-lent_fault-fault-requires
 lent-fault-requires c κs = search rules
 
-enum_told : tie.Need-enum-told
+enum_told : tie.Need-enum_told-1
 enum_told c = search rules
 
-enum-told-2 : tie.Need-enum-told-2
+enum-told-2 : tie.Need-enum_told-in_default
 enum-told-2 c = search rules
 
-same_length : tie.Need-same-length
+same_length : tie.Need-shape_of-table-in_default
 same_length c = search rules
 
-returns : tie.Need-returns
+returns : tie.Need-returns-in_default
 returns c =
-    let looked = c.before.before in
-    let a = (start_of looked).args in
-    lent-refuses a.table.now a.arrivals.now a.answer.now _ c.enum-told2.given.1
-    looked.lent-fault.ensures
+    let a = c.args in
+    lent-refuses a.table.now a.arrivals.now a.answer.now _ c.in_default.is
+    c.lent_fault-fault.ensures
 
-read-records-requires : tie.Need-read-records-requires
+read-records-requires : tie.Need-read_records-records-requires
 read-records-requires c κs = search rules
 
-few-requires : tie.Need-few-requires
+few-requires : tie.Need-few-many-requires
 few-requires c κs = search rules
 
-held-slot-requires : tie.Need-held-slot-requires
+held-slot-requires : tie.Need-held_slot-requires
 held-slot-requires c κs =
-    let few = c.before.before in
-    let told = few.before.before in
-    ((found told).0, omega (arith, few.few.ensures), (found told).2)
+    let clear = found c.before.before.before.before in
+    (clear.0, omega (arith, c.few-many.ensures), clear.2)
 
-same-length-2 : tie.Need-same-length-2
+same-length-2 : tie.Need-shape_of-table
 same-length-2 c = search rules
 
-same-length-3 : tie.Need-same-length-3
+same-length-3 : tie.Need-shape_of-answer
 same-length-3 c = search rules
 
-returns-2 : tie.Need-returns-2
+returns-2 : tie.Need-returns
 returns-2 c =
-    let called = c.before.before.before.before in
-    let few = called.before.before.before in
-    let records = few.before in
-    let told = records.before in
-    lent-held (table told) (arrivals told) (answer told) (found told) records.read-records.result few.few.result
-    few.few.ensures records.read-records.ensures called.held-slot.result _ _ called.held-slot.ensures
+    let told = c.before.before.before.before.before.before.before.before.before in
+    lent-held (table told) (arrivals told) (answer told) (found told) c.read_records-records.result c.few-many.result
+    c.few-many.ensures c.read_records-records.ensures c.held_slot.result _ _ c.held_slot.ensures
 
 pub take_slot_spec : {M : Type 1} → statement M
 take_slot_spec =
