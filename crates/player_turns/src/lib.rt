@@ -3,6 +3,7 @@
 // between the turns. Its theorems are on the definitions: both switches write the text that the PIFO switch would, and
 // turn by turn it is the same text however the trace arrives.
 #![tactic(auto)]
+
 ghost use Rattle.std.specs.Prelude.{◌≡◌, ◌+◌, ◌*◌, ◌≤◌, length, take};
 ghost use Rattle.trace.specs.Flat.{arrivals_from};
 ghost use Rattle.trace.specs.Piece.{next_in, header_in};

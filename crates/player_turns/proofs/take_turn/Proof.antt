@@ -10,82 +10,72 @@ use Rattle.player_turns.proofs.take_turn.Statement.{statement}
 use Rattle.player_turns.proofs.take_turn.Tie as tie
 use Rattle.player_turns.specs.Code.{Turned}
 
-enum_told : tie.Need-enum-told
+enum_told : tie.Need-enum_told-1
 enum_told c = search rules
 
-header-turn-requires : tie.Need-header-turn-requires
+header-turn-requires : tie.Need-header_turn-requires
 header-turn-requires c κs = search rules
 
-enum-told-2 : tie.Need-enum-told-2
+enum-told-2 : tie.Need-enum_told-in-Playing
 enum-told-2 c = search rules
 
-next-turn-requires : tie.Need-next-turn-requires
+next-turn-requires : tie.Need-next_turn-requires
 next-turn-requires c κs =
-    let told = c.before.before in
-    let start = told.before.before.before.before.before in
-    (start.requires.0.good told.enum-told2.given.1, (start.requires.0.few told.enum-told2.given.1, start.requires.1))
+    (c.requires.0.good c.in-Playing.is, (c.requires.0.few c.in-Playing.is, c.requires.1))
 
-enum-told-3 : tie.Need-enum-told-3
+enum-told-3 : tie.Need-enum_told-in-Ended
 enum-told-3 c = search rules
 
 over-requires : tie.Need-over-requires
 over-requires c κs = search rules
 
-enum-told-4 : tie.Need-enum-told-4
+enum-told-4 : tie.Need-enum_told-in-TurnedBack
 enum-told-4 c = search rules
 
-over-requires-2 : tie.Need-over-requires-2
+over-requires-2 : tie.Need-over-requires-in-TurnedBack
 over-requires-2 c κs = search rules
 
-same_length : tie.Need-same-length
+same_length : tie.Need-shape_of-table-in-Opening
 same_length c = search rules
 
-same-length-2 : tie.Need-same-length-2
+same-length-2 : tie.Need-shape_of-out-in-Opening
 same-length-2 c = search rules
 
-returns : tie.Need-returns
+returns : tie.Need-returns-in-Opening
 unfolding turn standing
 returns c =
-    let taken = c.before.before.before.before in
-    let told = taken.before.before.before in
-    let a = told.before.before.before.before.before.args in
-    let r = taken.header-turn.result in
+    let a = c.args in
+    let r = c.header_turn.result in
     subst
     (λ s. Turned a.engine (turn (machine_of a.engine) a.last (standing s a.line a.table.now) a.text.now)
     a.text.now a.table.now a.out.now
-    taken.header-turn.new.1.1.0 taken.header-turn.new.1.1.1.0 r.stage r.line r.used r.written)
-    (sym told.enum_told.given.1) (taken.header-turn.ensures a.engine)
+    c.header_turn.new.table c.header_turn.new.out r.stage r.line r.used r.written)
+    (sym c.in-Opening.is) (c.header_turn.ensures a.engine)
 
-same-length-3 : tie.Need-same-length-3
+same-length-3 : tie.Need-shape_of-table-in-Playing
 same-length-3 c = search rules
 
-same-length-4 : tie.Need-same-length-4
+same-length-4 : tie.Need-shape_of-out-in-Playing
 same-length-4 c = search rules
 
-returns-2 : tie.Need-returns-2
+returns-2 : tie.Need-returns-in-Playing
 unfolding turn standing state_of clock_in
 returns-2 c =
-    let taken = c.before.before.before.before in
-    let told = taken.before.before.before in
-    let a = told.before.before.before.before.before.args in
-    let r = taken.next-turn.result in
+    let a = c.args in
+    let r = c.next_turn.result in
     subst
     (λ s. Turned a.engine (turn (machine_of a.engine) a.last (standing s a.line a.table.now) a.text.now)
     a.text.now a.table.now a.out.now
-    taken.next-turn.new.1.1.1.1.0 taken.next-turn.new.1.1.1.1.1.0 r.stage r.line r.used r.written)
-    (sym told.enum-told2.given.1) taken.next-turn.ensures
+    c.next_turn.new.table c.next_turn.new.out r.stage r.line r.used r.written)
+    (sym c.in-Playing.is) c.next_turn.ensures
 
-returns-3 : tie.Need-returns-3
+returns-3 : tie.Need-returns-in-Ended
 returns-3 c =
-    let told = c.before in
-    let start = told.before.before.before.before.before in
-    rests _ at-end _ _ _ _ _ _ start.requires.0.size told.enum-told3.given.1 _ _ _ _ c.over.ensures
+    rests _ at-end _ _ _ _ _ _ c.requires.0.size c.in-Ended.is _ _ _ _ c.over.ensures
 
-returns-4 : tie.Need-returns-4
+returns-4 : tie.Need-returns-in-TurnedBack
 returns-4 c =
-    let told = c.before in
-    let start = told.before.before.before.before.before in
-    rests _ at-refusal _ _ _ _ _ _ start.requires.0.size told.enum-told4.given.1 _ _ _ _ c.over2.ensures
+    rests _ at-refusal _ _ _ _ _ _ c.requires.0.size c.in-TurnedBack.is _ _ _ _ c.over-in-TurnedBack.ensures
 
 pub take_turn_spec : {M : Type 1} → statement M
 take_turn_spec =

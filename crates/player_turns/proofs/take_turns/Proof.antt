@@ -10,100 +10,90 @@ use Rattle.layout.proofs.Parts.{part-behind}
 use Rattle.player_turns.proofs.Taking.{Going, going-none, going-room, going-length}
 use Rattle.player_turns.proofs.Taking.{going-stops, all-within, all_room, all-length, going_on, going-ends}
 
-abbrev invariant-loop : tie.invariant-loop
+abbrev invariant-loop : tie.invariant-loop-out
 invariant-loop engine line text last table₀ out₀ stage₀ line₀ used₀ written₀ table out stage line' used written =
     Going engine last (standing stage₀ line table₀) text table₀ out₀ table out stage line' used written
 
-abbrev decreases-loop : tie.decreases-loop
+abbrev decreases-loop : tie.decreases-loop-out
 decreases-loop engine line text last table₀ out₀ stage₀ line₀ used₀ written₀ table out stage line' used written = length out₀ - written
 
 -- the turn that was taken, from where both buffers are back, and the loop's test before it
-abbrev turn : tie.After-slice-known4 invariant-loop decreases-loop → tie.After-take-turn invariant-loop decreases-loop
+abbrev turn : tie.After-slice_known-in-loop-out-2-1 invariant-loop decreases-loop → tie.After-take_turn-turn invariant-loop decreases-loop
 turn c = c.before.before.before.before
 
-abbrev at-loop : tie.After-take-turn invariant-loop decreases-loop → tie.At-loop invariant-loop decreases-loop
+abbrev at-loop : tie.After-take_turn-turn invariant-loop decreases-loop → tie.At-loop-out invariant-loop decreases-loop
 at-loop c = c.before.before.before.before.before
 
-loop-holds : tie.Need-loop-init invariant-loop decreases-loop
-loop-holds c = going-none _ _ _ _ _ _ _ _ refl c.before.before.before.requires
+loop-holds : tie.Need-loop-out-init invariant-loop decreases-loop
+loop-holds c = going-none _ _ _ _ _ _ _ _ refl c.requires
 
-sub-loop : tie.Need-overflow_sub-loop invariant-loop decreases-loop
-sub-loop c = going-room _ _ _ _ _ _ c.loop.invariant
+sub-loop : tie.Need-overflow_sub-out invariant-loop decreases-loop
+sub-loop c = going-room _ _ _ _ _ _ c.loop-out.invariant
 
-sub-take-turn : tie.Need-overflow_sub-take-turn invariant-loop decreases-loop
-sub-take-turn c = c.before.loop.invariant.within
+sub-take-turn : tie.Need-slice_bounds-take_turn-count invariant-loop decreases-loop
+sub-take-turn c = c.loop-out.invariant.within
 
-part-take-turn-start : tie.Need-slice-bounds-take-turn-start invariant-loop decreases-loop
-part-take-turn-start c = c.before.loop.invariant.within
+part-take-turn-start : tie.Need-slice_bounds-take_turn-start invariant-loop decreases-loop
+part-take-turn-start c = c.loop-out.invariant.within
 
-part-take-turn-end : tie.Need-slice-bounds-take-turn-end invariant-loop decreases-loop
+part-take-turn-end : tie.Need-slice_bounds-take_turn-end invariant-loop decreases-loop
 part-take-turn-end c = search rules
 
-sub-take-turn-2 : tie.Need-overflow_sub-take-turn-2 invariant-loop decreases-loop
-sub-take-turn-2 c = going-room _ _ _ _ _ _ c.before.before.before.loop.invariant
+sub-take-turn-2 : tie.Need-slice_bounds-take_turn-count-in-loop-out invariant-loop decreases-loop
+sub-take-turn-2 c = going-room _ _ _ _ _ _ c.loop-out.invariant
 
-part-take-turn-start-2 : tie.Need-slice-bounds-take-turn-start-2 invariant-loop decreases-loop
-part-take-turn-start-2 c = going-room _ _ _ _ _ _ c.before.before.before.loop.invariant
+part-take-turn-start-2 : tie.Need-slice_bounds-take_turn-start-in-loop-out invariant-loop decreases-loop
+part-take-turn-start-2 c = going-room _ _ _ _ _ _ c.loop-out.invariant
 
-part-take-turn-end-2 : tie.Need-slice-bounds-take-turn-end-2 invariant-loop decreases-loop
+part-take-turn-end-2 : tie.Need-slice_bounds-take_turn-end-in-loop-out invariant-loop decreases-loop
 part-take-turn-end-2 c = search rules
 
-take-turn-requires : tie.Need-take-turn-requires invariant-loop decreases-loop
+take-turn-requires : tie.Need-take_turn-turn-requires invariant-loop decreases-loop
 take-turn-requires c κs =
-    let at = c.before.before.before.before in
-    let out = at.loop.out in
-    let written = at.loop.written in (
-      at.loop.invariant.stands,
-      omega (arith, c.before.before.before.loop-test.true, ap length (part-behind out written), length-drop written out),
+    let out = c.loop-out.out in
+    let written = c.loop-out.written in (
+      c.loop-out.invariant.stands,
+      omega (arith, c.loop-out-test.true, ap length (part-behind out written), length-drop written out),
     )
 
 add-used : tie.Need-overflow_add-used invariant-loop decreases-loop
 add-used c =
-    let took = turn c.before in
-    let start = (at-loop took).before.before.before.before in
-    omega (arith, all-within _ _ _ _ _ _ (at-loop took).loop.inv took.take-turn.ensures took.take-turn.kept.1.1.1.1.1.1.0)
+    omega (arith, all-within _ _ _ _ _ _ c.loop-out.invariant c.take_turn-turn.ensures c.take_turn-turn.auto.out)
 
 add-written : tie.Need-overflow_add-written invariant-loop decreases-loop
 add-written c =
-    let took = turn c.before.before in
-    let start = (at-loop took).before.before.before.before in
-    omega (arith, all_room _ _ _ _ _ _ (at-loop took).loop.inv took.take-turn.ensures took.take-turn.kept.1.1.1.1.1.1.0)
+    omega (arith, all_room _ _ _ _ _ _ c.loop-out.invariant c.take_turn-turn.ensures c.take_turn-turn.auto.out)
 
-loop-less : tie.Need-loop-smaller invariant-loop decreases-loop
+loop-less : tie.Need-loop-out-smaller invariant-loop decreases-loop
 loop-less c =
-    let took = turn c.before.before.before.before in
-    omega (arith, all_room _ _ _ _ _ _ (at-loop took).loop.inv took.take-turn.ensures took.take-turn.kept.1.1.1.1.1.1.0, c.if1.false)
+    omega (arith, all_room _ _ _ _ _ _ c.loop-out.invariant c.take_turn-turn.ensures c.take_turn-turn.auto.out, c.if-turn-eq0.false)
 
-loop-again : tie.Need-loop-preserved invariant-loop decreases-loop
+loop-again : tie.Need-loop-out-preserved invariant-loop decreases-loop
 loop-again c =
-    let took = turn c.before.before.before.before in
-    going_on _ _ _ _ _ _ (at-loop took).loop.inv took.take-turn.ensures took.take-turn.kept.1.1.1.1.1.1.0
-    (λ e. omega (arith, e, c.if1.false))
+    going_on _ _ _ _ _ _ c.loop-out.invariant c.take_turn-turn.ensures c.take_turn-turn.auto.out
+    (λ e. omega (arith, e, c.if-turn-eq0.false))
 
-same_length : tie.Need-same-length invariant-loop decreases-loop
-same_length c = c.before.loop.invariant.stands.size ∙ sym c.before.before.before.before.before.requires.size
+same_length : tie.Need-shape_of-table-after-loop-out invariant-loop decreases-loop
+same_length c = c.loop-out.invariant.stands.size ∙ sym c.requires.size
 
-same-length-2 : tie.Need-same-length-2 invariant-loop decreases-loop
-same-length-2 c = going-length _ _ _ _ _ _ c.before.loop.invariant
+same-length-2 : tie.Need-shape_of-out-after-loop-out invariant-loop decreases-loop
+same-length-2 c = going-length _ _ _ _ _ _ c.loop-out.invariant
 
-returns : tie.Need-returns invariant-loop decreases-loop
-returns c = going-stops _ _ _ _ _ _ _ _ _ _ _ _ c.before.loop.invariant (omega (arith, c.loop-test.false))
+returns : tie.Need-returns-after-loop-out invariant-loop decreases-loop
+returns c = going-stops _ _ _ _ _ _ _ _ _ _ _ _ c.loop-out.invariant (omega (arith, c.loop-out-test.false))
 
-same-length-3 : tie.Need-same-length-3 invariant-loop decreases-loop
+same-length-3 : tie.Need-shape_of-table-then-turn-eq0 invariant-loop decreases-loop
 same-length-3 c =
-    let took = turn c.before.before.before.before in
-    took.take-turn.ensures.stands.size ∙ sym (at-loop took).before.before.before.before.pre.size
+    c.take_turn-turn.ensures.stands.size ∙ sym c.requires.size
 
-same-length-4 : tie.Need-same-length-4 invariant-loop decreases-loop
+same-length-4 : tie.Need-shape_of-out-then-turn-eq0 invariant-loop decreases-loop
 same-length-4 c =
-    let took = turn c.before.before.before.before in
-    all-length _ _ _ _ _ _ (at-loop took).loop.inv took.take-turn.ensures took.take-turn.kept.1.1.1.1.1.1.0
+    all-length _ _ _ _ _ _ c.loop-out.invariant c.take_turn-turn.ensures c.take_turn-turn.auto.out
 
-returns-2 : tie.Need-returns-2 invariant-loop decreases-loop
+returns-2 : tie.Need-returns-then-turn-eq0 invariant-loop decreases-loop
 returns-2 c =
-    let took = turn c.before.before.before.before in
-    going-ends _ _ _ _ _ _ (at-loop took).loop.inv took.take-turn.ensures took.take-turn.kept.1.1.1.1.1.1.0
-    (omega (arith, c.if1.true))
+    going-ends _ _ _ _ _ _ c.loop-out.invariant c.take_turn-turn.ensures c.take_turn-turn.auto.out
+    (omega (arith, c.if-turn-eq0.true))
 
 pub take_turns_spec : {M : Type 1} → statement M
 take_turns_spec =
