@@ -1,6 +1,6 @@
 -- A slot call on what the host lends, for a tally of the right length.
 --     lent_call, LentLeaves    what it comes to, and what it leaves
---     Lent                    what is found before its records are looked at
+--     Lent                     what is found before its records are looked at
 --     table_held, HeldLeaves   a slot with held records on a table, and what it leaves
 --     counted_by               the tally, from what comes of it
 use Rattle.std.specs.Prelude.{ℕ, ◌%◌, ◌≤◌, true, List, ◌≡◌, length}

@@ -1,8 +1,8 @@
 -- The turns of the player, step by step.
---     Turned                            what one turn leaves
---     Closed                            what the last turn answers
+--     Turned                             what one turn leaves
+--     Closed                             what the last turn answers
 --     table_taken, SlotLeft              what a slot leaves
---     slot_text, played_of, SlotPlayed    what a block's slot writes and answers
+--     slot_text, played_of, SlotPlayed   what a block's slot writes and answers
 use Rattle.std.specs.Prelude.{ℕ, List, ◌++◌, ◌≡◌, length, take}
 use Rattle.std.proofs.Math.Option.{Option}
 use Rattle.cell.specs.declared.Cell.{Cell}

@@ -1,11 +1,11 @@
 -- The player as code: which switch plays, where the player stands, what a turn asks, and what it leaves.
---     machine_of        the switch of an engine, as the player sees it
---     TableOf          the tables that the code keeps of it
---     standing         where the player stands, by its stage, the number of the next line and the bytes of the table
---     line_at           the number of the next line, as it is kept between turns
---     Stands           what a turn asks of these
---     table_then, table_after_turns    the table after a turn, and after turns
---     Left, Took                    what a turn leaves, and what turns leave
+--     machine_of                      the switch of an engine, as the player sees it
+--     TableOf                         the tables that the code keeps of it
+--     standing                        where the player stands, by its stage, the number of the next line and the bytes of the table
+--     line_at                         the number of the next line, as it is kept between turns
+--     Stands                          what a turn asks of these
+--     table_then, table_after_turns   the table after a turn, and after turns
+--     Left, Took                      what a turn leaves, and what turns leave
 use Rattle.std.specs.Prelude.{ℕ, zero, suc, ◌+◌, ◌*◌, ◌-◌, ◌≤◌, ◌<◌, List, [], ◌∷◌, Bool, true, ◌⊎◌, ◌≡◌, length, drop}
 use Rattle.model.specs.Oq.{all_buffered}
 use Rattle.model.specs.State.{Switch}

@@ -11,31 +11,28 @@ number-requires c κs = search rules
 cast-result : tie.Need-overflow_cast-result
 cast-result c = search rules
 
-returns : tie.Need-returns
+returns : tie.Need-returns-then-tally-ne-TALLY_BYTES
 returns c =
-    slot-tally _ _ _ _ c.before.if1.true _ c.number.ensures
+    slot-tally _ _ _ _ c.if-tally-ne-TALLY_BYTES.true _ c.number.ensures
 
 slot-requires : tie.Need-slot-requires
 slot-requires c κs = search rules
 
-result-of-requires : tie.Need-result-of-requires
+result-of-requires : tie.Need-result_of-requires
 result-of-requires c κs = search rules
 
-same_length : tie.Need-same-length
+same_length : tie.Need-shape_of-table
 same_length c = search rules
 
-same-length-2 : tie.Need-same-length-2
+same-length-2 : tie.Need-shape_of-answer
 same-length-2 c = search rules
 
-same-length-3 : tie.Need-same-length-3
+same-length-3 : tie.Need-shape_of-tally
 same-length-3 c = search rules
 
-returns-2 : tie.Need-returns-2
+returns-2 : tie.Need-returns
 returns-2 c =
-    let given_back = c.before.before.before.before.before in
-    let called = given_back.before.before in
-    let test = called.before.before.before.before in
-    slot-called _ _ _ _ test.if1.false _ _ _ _ called.slot.ensures _ c.result-of.ensures
+    slot-called _ _ _ _ c.if-tally-ne-TALLY_BYTES.false _ _ _ _ c.slot.ensures _ c.result_of.ensures
 
 pub slot_spec : {M : Type 1} → statement M
 slot_spec =

@@ -2,7 +2,6 @@
 -- Assumes nothing.
 use mathlib.Core.Path.{sym, ◌∙◌}
 use borrow.Author.Rules.{rules}
-use borrow.Author.Tests.{not-true, not-false}
 use Rattle.cell.specs.declared.Refusal.TheVariants.{BrokenTable, ShortBuffer}
 use Rattle.layout.specs.Fair.{fair_number}
 use Rattle.layout.specs.Table.{decode}
@@ -13,54 +12,45 @@ use Rattle.crossbar.proofs.Calls.{older-none}
 use Rattle.crossbar.proofs.convert.convert.Statement.{statement}
 use Rattle.crossbar.proofs.convert.convert.Tie as tie
 
-is-table-requires : tie.Need-is-table-requires
+is-table-requires : tie.Need-is_table-requires
 is-table-requires c κs = search rules
 
 number-requires : tie.Need-number-requires
 number-requires c κs = search rules
 
-returns : tie.Need-returns
+returns : tie.Need-returns-then-not-is_table
 returns c =
-    let asked = c.before.before in
-    let a = asked.before.before.before.args in
+    let a = c.args in
     refuses fair_number a.table.now _ BrokenTable c.number.result
     (convert_call-broken decode a.old.now a.table.now
-    (older-none a.old.now (sym asked.is-table.ensures ∙ not-true _ c.before.if1.true)))
+    (older-none a.old.now (sym c.is_table.ensures ∙ c.if-not-is_table.true)))
     c.number.ensures
 
-number-requires-2 : tie.Need-number-requires-2
+number-requires-2 : tie.Need-number-requires-then-table-lt-FAIR_BYTES
 number-requires-2 c κs = search rules
 
-returns-2 : tie.Need-returns-2
+returns-2 : tie.Need-returns-then-table-lt-FAIR_BYTES
 returns-2 c =
-    let old = c.before.before in
-    let asked = old.before in
-    let a = asked.before.before.before.args in
-    refuses fair_number a.table.now _ ShortBuffer c.number2.result
+    let a = c.args in
+    refuses fair_number a.table.now _ ShortBuffer c.number-then-table-lt-FAIR_BYTES.result
     (convert_call-short decode a.old.now a.table.now _
-    (is-table a.old.now (sym asked.is-table.ensures ∙ not-false _ old.if1.false)) c.before.if2.true)
-    c.number2.ensures
+    (is-table a.old.now (sym c.is_table.ensures ∙ c.if-not-is_table.false)) c.if-table-lt-FAIR_BYTES.true)
+    c.number-then-table-lt-FAIR_BYTES.ensures
 
-write-older-requires : tie.Need-write-older-requires
+write-older-requires : tie.Need-write_older-requires
 write-older-requires c κs =
-    let long = c.before in
-    let old = long.before in
-    (sym old.before.is-table.ensures ∙ not-false _ old.if1.false, long.if2.false)
+    (sym c.is_table.ensures ∙ c.if-not-is_table.false, c.if-table-lt-FAIR_BYTES.false)
 
-same_length : tie.Need-same-length
+same_length : tie.Need-shape_of-table
 same_length c = search rules
 
-returns-3 : tie.Need-returns-3
+returns-3 : tie.Need-returns
 returns-3 c =
-    let wrote = c.before.before in
-    let long = wrote.before.before in
-    let old = long.before in
-    let asked = old.before in
-    let a = asked.before.before.before.args in
+    let a = c.args in
     writes fair_number a.table.now _ _ _
     (convert_call-done decode a.old.now a.table.now _
-    (is-table a.old.now (sym asked.is-table.ensures ∙ not-false _ old.if1.false)) long.if2.false)
-    wrote.write-older.ensures
+    (is-table a.old.now (sym c.is_table.ensures ∙ c.if-not-is_table.false)) c.if-table-lt-FAIR_BYTES.false)
+    c.write_older.ensures
 
 pub convert_spec : {M : Type 1} → statement M
 convert_spec =

@@ -2,85 +2,69 @@
 -- Assumes nothing.
 use mathlib.Core.Path.{sym, ◌∙◌}
 use borrow.Author.Rules.{rules}
-use borrow.Author.Tests.{not-true, not-false}
 use Rattle.crossbar.proofs.CueCalls.{drop-broken, drop-badly-named, drop-lost, drop-done, store_length, inside}
 use Rattle.crossbar.proofs.cues.cue_drop.Statement.{statement}
 use Rattle.crossbar.proofs.cues.cue_drop.Tie as tie
 
-is-store-requires : tie.Need-is-store-requires
+is-store-requires : tie.Need-is_store-requires
 is-store-requires c κs = search rules
 
 number-requires : tie.Need-number-requires
 number-requires c κs = search rules
 
-same_length : tie.Need-same-length
+same_length : tie.Need-shape_of-store-then-not-is_store
 same_length c = search rules
 
-returns : tie.Need-returns
+returns : tie.Need-returns-then-not-is_store
 returns c =
-    let stored = c.before.before in
-    drop-broken _ _ (sym stored.is-store.ensures ∙ not-true _ c.before.if1.true) _ c.number.ensures
+    drop-broken _ _ (sym c.is_store.ensures ∙ c.if-not-is_store.true) _ c.number.ensures
 
-number-of-requires : tie.Need-number-of-requires
+number-of-requires : tie.Need-number_of-number-requires
 number-of-requires c κs = search rules
 
-number-requires-2 : tie.Need-number-requires-2
+number-requires-2 : tie.Need-number-requires-then-number-eq0
 number-requires-2 c κs = search rules
 
-same-length-2 : tie.Need-same-length-2
+same-length-2 : tie.Need-shape_of-store-then-number-eq0
 same-length-2 c = search rules
 
-returns-2 : tie.Need-returns-2
+returns-2 : tie.Need-returns-then-number-eq0
 returns-2 c =
-    let named = c.before.before in
-    let stored = named.before.before in
-    drop-badly-named _ _ (sym stored.is-store.ensures ∙ not-false _ named.before.if1.false)
-    _ named.number_of_lem.ensures c.before.if2.true _ c.number2.ensures
+    drop-badly-named _ _ (sym c.is_store.ensures ∙ c.if-not-is_store.false)
+    _ c.number_of-number.ensures c.if-number-eq0.true _ c.number-then-number-eq0.ensures
 
-place-of-requires : tie.Need-place-of-requires
+place-of-requires : tie.Need-place_of-place-requires
 place-of-requires c κs =
-    let named = c.before.before in
-    let stored = named.before.before in
-    store_length _ (sym stored.is-store.ensures ∙ not-false _ named.before.if1.false)
+    store_length _ (sym c.is_store.ensures ∙ c.if-not-is_store.false)
 
-number-requires-3 : tie.Need-number-requires-3
+number-requires-3 : tie.Need-number-requires-then-place-eq-CUES
 number-requires-3 c κs = search rules
 
-same-length-3 : tie.Need-same-length-3
+same-length-3 : tie.Need-shape_of-store-then-place-eq-CUES
 same-length-3 c = search rules
 
-returns-3 : tie.Need-returns-3
+returns-3 : tie.Need-returns-then-place-eq-CUES
 returns-3 c =
-    let found = c.before.before in
-    let named = found.before.before.before in
-    let stored = named.before.before in
-    drop-lost _ _ (sym stored.is-store.ensures ∙ not-false _ named.before.if1.false)
-    _ named.number_of_lem.ensures found.before.before.if2.false _ found.place-of.ensures
-    c.before.if3.true _ c.number3.ensures
+    drop-lost _ _ (sym c.is_store.ensures ∙ c.if-not-is_store.false)
+    _ c.number_of-number.ensures c.if-number-eq0.false _ c.place_of-place.ensures
+    c.if-place-eq-CUES.true _ c.number-then-place-eq-CUES.ensures
 
-clear-cue-requires : tie.Need-clear-cue-requires
+clear-cue-requires : tie.Need-clear_cue-requires
 clear-cue-requires c κs =
-    let found = c.before.before in
-    let named = found.before.before.before in
-    let stored = named.before.before in
-    let h = sym stored.is-store.ensures ∙ not-false _ named.before.if1.false in (
+    let h = sym c.is_store.ensures ∙ c.if-not-is_store.false in (
       store_length _ h,
-      inside _ _ _ named.number_of_lem.ensures h found.before.before.if2.false _ c.before.if3.false
-          found.place-of.ensures,
+      inside _ _ _ c.number_of-number.ensures h c.if-number-eq0.false _ c.if-place-eq-CUES.false
+          c.place_of-place.ensures,
     )
 
-same-length-4 : tie.Need-same-length-4
+same-length-4 : tie.Need-shape_of-store
 same-length-4 c = search rules
 
-returns-4 : tie.Need-returns-4
+returns-4 : tie.Need-returns
 returns-4 c =
-    let cleared = c.before.before in
-    let found = cleared.before.before.before in
-    let named = found.before.before.before in
-    let stored = named.before.before in
-    drop-done _ _ (sym stored.is-store.ensures ∙ not-false _ named.before.if1.false)
-    _ named.number_of_lem.ensures found.before.before.if2.false _ found.place-of.ensures
-    cleared.before.before.if3.false _ cleared.clear-cue.ensures
+    drop-done _ _ (sym c.is_store.ensures ∙ c.if-not-is_store.false)
+    _ c.number_of-number.ensures c.if-number-eq0.false _ c.place_of-place.ensures
+    c.if-place-eq-CUES.false _ c.clear_cue.ensures
 
 pub cue_drop_spec : {M : Type 1} → statement M
 cue_drop_spec =

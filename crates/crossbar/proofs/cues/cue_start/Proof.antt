@@ -8,19 +8,18 @@ use Rattle.crossbar.proofs.cues.cue_start.Tie as tie
 number-requires : tie.Need-number-requires
 number-requires c κs = search rules
 
-returns : tie.Need-returns
-returns c = store-starts-short _ c.before.if1.true _ c.number.ensures
+returns : tie.Need-returns-then-store-lt-STORE_BYTES
+returns c = store-starts-short _ c.if-store-lt-STORE_BYTES.true _ c.number.ensures
 
-write-no-cues-requires : tie.Need-write-no-cues-requires
+write-no-cues-requires : tie.Need-write_no_cues-requires
 write-no-cues-requires c κs = search rules
 
-same_length : tie.Need-same-length
+same_length : tie.Need-shape_of-store
 same_length c = search rules
 
-returns-2 : tie.Need-returns-2
+returns-2 : tie.Need-returns
 returns-2 c =
-    let wrote = c.before.before in
-    store-starts _ _ wrote.before.before.if1.false wrote.write-no-cues.ensures
+    store-starts _ _ c.if-store-lt-STORE_BYTES.false c.write_no_cues.ensures
 
 pub cue_start_spec : {M : Type 1} → statement M
 cue_start_spec =
