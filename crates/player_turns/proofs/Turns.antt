@@ -27,8 +27,8 @@ use Rattle.trace.specs.declared.Opening.{Opening}
 use Rattle.trace.specs.declared.Opening.TheVariants.{Open, Refused, Short}
 use Rattle.trace.specs.Flat.{arrival_at, arrivals_from}
 use Rattle.trace.specs.Line.{line}
-use Rattle.trace.specs.Piece.{known, more, decided, next_in, header_in, numbers_of, answer_of, opening_of}
-use Rattle.trace.specs.Reader.{from, number, next}
+use Rattle.trace.specs.Piece.{known, decided, next_in, header_in, numbers_of, answer_of, opening_of}
+use Rattle.trace.specs.Reader.{from, next}
 use Rattle.trace.specs.Reader.{slot_ahead, header}
 use Rattle.trace.proofs.Blocks.{block_fits-e, next-exact}
 use Rattle.trace.proofs.Flat.{length-numbers_of}

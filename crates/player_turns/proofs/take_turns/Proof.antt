@@ -15,14 +15,8 @@ invariant-loop engine line text last table₀ out₀ stage₀ line₀ used₀ wr
     Going engine last (standing stage₀ line table₀) text table₀ out₀ table out stage line' used written
 
 abbrev decreases-loop : tie.decreases-loop-out
-decreases-loop engine line text last table₀ out₀ stage₀ line₀ used₀ written₀ table out stage line' used written = length out₀ - written
-
--- the turn that was taken, from where both buffers are back, and the loop's test before it
-abbrev turn : tie.After-slice_known-in-loop-out-2-1 invariant-loop decreases-loop → tie.After-take_turn-turn invariant-loop decreases-loop
-turn c = c.before.before.before.before
-
-abbrev at-loop : tie.After-take_turn-turn invariant-loop decreases-loop → tie.At-loop-out invariant-loop decreases-loop
-at-loop c = c.before.before.before.before.before
+decreases-loop engine line text last table₀ out₀ stage₀ line₀ used₀ written₀ table out stage line' used written =
+    length out₀ - written
 
 loop-holds : tie.Need-loop-out-init invariant-loop decreases-loop
 loop-holds c = going-none _ _ _ _ _ _ _ _ refl c.requires
@@ -66,12 +60,12 @@ add-written c =
 
 loop-less : tie.Need-loop-out-smaller invariant-loop decreases-loop
 loop-less c =
-    omega (arith, all_room _ _ _ _ _ _ c.loop-out.invariant c.take_turn-turn.ensures c.take_turn-turn.auto.out, c.if-turn-eq0.false)
+    omega (arith, all_room _ _ _ _ _ _ c.loop-out.invariant c.take_turn-turn.ensures c.take_turn-turn.auto.out)
 
 loop-again : tie.Need-loop-out-preserved invariant-loop decreases-loop
 loop-again c =
     going_on _ _ _ _ _ _ c.loop-out.invariant c.take_turn-turn.ensures c.take_turn-turn.auto.out
-    (λ e. omega (arith, e, c.if-turn-eq0.false))
+    (λ e. omega arith)
 
 same_length : tie.Need-shape_of-table-after-loop-out invariant-loop decreases-loop
 same_length c = c.loop-out.invariant.stands.size ∙ sym c.requires.size
@@ -81,19 +75,6 @@ same-length-2 c = going-length _ _ _ _ _ _ c.loop-out.invariant
 
 returns : tie.Need-returns-after-loop-out invariant-loop decreases-loop
 returns c = going-stops _ _ _ _ _ _ _ _ _ _ _ _ c.loop-out.invariant (omega (arith, c.loop-out-test.false))
-
-same-length-3 : tie.Need-shape_of-table-then-turn-eq0 invariant-loop decreases-loop
-same-length-3 c =
-    c.take_turn-turn.ensures.stands.size ∙ sym c.requires.size
-
-same-length-4 : tie.Need-shape_of-out-then-turn-eq0 invariant-loop decreases-loop
-same-length-4 c =
-    all-length _ _ _ _ _ _ c.loop-out.invariant c.take_turn-turn.ensures c.take_turn-turn.auto.out
-
-returns-2 : tie.Need-returns-then-turn-eq0 invariant-loop decreases-loop
-returns-2 c =
-    going-ends _ _ _ _ _ _ c.loop-out.invariant c.take_turn-turn.ensures c.take_turn-turn.auto.out
-    (omega (arith, c.if-turn-eq0.true))
 
 pub take_turns_spec : {M : Type 1} → statement M
 take_turns_spec =
@@ -117,6 +98,8 @@ take_turns_spec =
     same_length
     same-length-2
     returns
-    same-length-3
-    same-length-4
-    returns-2)
+    -- the turn wrote nothing
+    (λ c. c.take_turn-turn.ensures.stands.size ∙ sym c.requires.size)
+    (λ c. all-length _ _ _ _ _ _ c.loop-out.invariant c.take_turn-turn.ensures c.take_turn-turn.auto.out)
+    (λ c.
+    going-ends _ _ _ _ _ _ c.loop-out.invariant c.take_turn-turn.ensures c.take_turn-turn.auto.out (omega arith)))
