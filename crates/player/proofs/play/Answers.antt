@@ -1,7 +1,7 @@
 -- Each round is one of a driver, so where it writes nothing the player is over.
 use Rattle.std.proofs.Common.{arith, ◌≡◌, ◌≤◌, ◌⊎◌, inl, inr, sym, refl, ℕ, Bool, true, List, length, take, length-take, length-take-le}
 use Rattle.trace.specs.Piece.{enough}
-use Rattle.player_turns.specs.Turns.{Stands, standing, line_at}
+use Rattle.player_turns.specs.Turns.{standing, line_at}
 use Rattle.player.proofs.Window.{written-fits}
 use Rattle.player.proofs.Ending.{opening-not, finished, status-few}
 use Rattle.player.proofs.play.Goals as goal

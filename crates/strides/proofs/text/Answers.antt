@@ -1,5 +1,5 @@
 -- A line is put in front of those that stand.
-use Rattle.std.proofs.Common.{rules, arith, ◌≡◌, ◌≤◌, ◌-◌, length-set, subst}
+use Rattle.std.proofs.Common.{rules, arith, ◌≡◌, ◌≤◌, subst}
 use Rattle.model.specs.Fair.{stride}
 use Rattle.trace_line_writer.proofs.Pour.{written_byte, written_then}
 use Rattle.strides.specs.Text.{stride_line}
