@@ -3,10 +3,9 @@ use Prim.Native.Nat.{ℕ, zero, suc, ◌+◌, ◌*◌, ◌^◌, ◌/◌, ◌%◌
 use mathlib.Core.Path.{◌≡◌, refl, sym, ◌∙◌, ap, ap₂}
 use mathlib.Core.List.{List, [], ◌∷◌, ◌++◌}
 use native.Mathlib.Nat.{zero-add, one-mul, mul_assoc, pow-zero, pow-succ', suc-add}
-use native.Mathlib.Numerals.{add-one}
 use native.Mathlib.Omega.{arith}
-use lib.ListN.{length, take, drop, set, get_or, length-drop}
-use lib.Seq.{drop-drop, take-add, length-take-le, set_split}
+use lib.ListN.{length, take, drop, get_or, length-drop}
+use lib.Seq.{drop-drop, take-add, length-take-le}
 use Rattle.layout.specs.Number.{bytes_of, number_of, number_at}
 use Rattle.layout.proofs.Number.{length-bytes_of}
 use Rattle.layout.proofs.Put.{put_next}
@@ -74,12 +73,3 @@ pub put-halves : (w at low high n : ℕ) (old mid new : List ℕ) → at + (w + 
 put-halves w at low high n old mid new room first second small whole =
     put_next at w w (bytes_of w low) (bytes_of w high) old mid new (length-bytes_of w low) (length-bytes_of w high) room first second
     ∙ ap (λ bs. put at (w + w) bs old) (sym (bytes_of-halves w w low high small) ∙ ap (bytes_of (w + w)) (sym whole))
-
-pub put_byte : (at b : ℕ) (old : List ℕ) → at + 1 ≤ length old → b < 256
-    → set old at b ≡ take at old ++ (bytes_of 1 b ++ drop (at + 1) old)
-unfolding bytes_of
-put_byte at b old room small =
-    let here : at < length old = omega arith in
-    let same : b ≡ b % 256 = omega arith in
-    set_split old at b here
-    ∙ ap₂ (λ byte next. take at old ++ byte ∷ drop next old) same (sym (add-one at))

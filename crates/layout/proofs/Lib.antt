@@ -23,3 +23,4 @@ pub mod Runs
 pub mod Stores
 pub mod Table
 pub mod Tally
+pub mod Words

@@ -8,11 +8,7 @@ pub fn clear(bytes: &mut [u8], at: usize, count: usize)
     requires { at + count ≤ length bytes.old }
     ensures { bytes.new ≡ put at count (replicate count 0) bytes.old }
 {
-    let mut i = 0;
-    while i < count {
-        bytes[at + i] = 0;
-        i += 1;
-    }
+    bytes[at..at + count].fill(0);
 }
 
 // Whether so many bytes from a place on are zeros.
@@ -20,14 +16,7 @@ pub fn is_clear(bytes: &[u8], at: usize, count: usize) -> bool
     requires { at + count ≤ length bytes.now }
     ensures { result ≡ same_bytes (replicate count 0) (take count (drop at bytes.now)) }
 {
-    let mut i = 0;
-    while i < count {
-        if bytes[at + i] != 0 {
-            return false;
-        }
-        i += 1;
-    }
-    true
+    bytes[at..at + count].iter().all(|b| *b == 0)
 }
 
 // Copies so many bytes from a place of one byte string to a place of another.
@@ -36,9 +25,5 @@ pub fn copy(from: &[u8], start: usize, bytes: &mut [u8], at: usize, count: usize
     ensures { bytes.new
         ≡ put at count (take count (drop start from.now)) bytes.old }
 {
-    let mut i = 0;
-    while i < count {
-        bytes[at + i] = from[start + i];
-        i += 1;
-    }
+    bytes[at..at + count].copy_from_slice(&from[start..start + count]);
 }

@@ -1,6 +1,5 @@
-// Numbers in a byte string, the least significant byte first. Each width is two of the next smaller one.
-// A caller shows that the bytes are there.
-ghost use Rattle.std.specs.Prelude.{◌≡◌, ◌+◌, ◌≤◌, length};
+// Numbers in a byte string, the least significant byte first. A caller shows that the bytes are there.
+ghost use Rattle.std.specs.Prelude.{◌≡◌, ◌+◌, ◌≤◌, length, take, drop};
 ghost use Rattle.layout.specs.Number.{word, number_at, bytes_of};
 ghost use Rattle.layout.specs.Code.{put};
 
@@ -9,7 +8,7 @@ pub fn read_u32(bytes: &[u8], at: usize) -> u32
     requires { at + 4 ≤ length bytes.now }
     ensures { result ≡ word bytes.now at }
 {
-    read_u16(bytes, at) as u32 + 65536 * (read_u16(bytes, at + 2) as u32)
+    u32::from_le_bytes(read_bytes::<4>(bytes, at))
 }
 
 // The number of 64 bits at a place.
@@ -17,7 +16,7 @@ pub fn read_u64(bytes: &[u8], at: usize) -> u64
     requires { at + 8 ≤ length bytes.now }
     ensures { result ≡ number_at 8 at bytes.now }
 {
-    read_u32(bytes, at) as u64 + 4294967296 * (read_u32(bytes, at + 4) as u64)
+    u64::from_le_bytes(read_bytes::<8>(bytes, at))
 }
 
 // Puts a number of 32 bits at a place.
@@ -25,8 +24,7 @@ pub fn write_u32(bytes: &mut [u8], at: usize, n: u32)
     requires { at + 4 ≤ length bytes.old }
     ensures { bytes.new ≡ put at 4 (bytes_of 4 n) bytes.old }
 {
-    write_u16(bytes, at, (n % 65536) as u16);
-    write_u16(bytes, at + 2, (n / 65536) as u16);
+    write_bytes::<4>(bytes, at, &n.to_le_bytes());
 }
 
 // Puts a number of 64 bits at a place.
@@ -34,21 +32,23 @@ pub fn write_u64(bytes: &mut [u8], at: usize, n: u64)
     requires { at + 8 ≤ length bytes.old }
     ensures { bytes.new ≡ put at 8 (bytes_of 8 n) bytes.old }
 {
-    write_u32(bytes, at, (n % 4294967296) as u32);
-    write_u32(bytes, at + 4, (n / 4294967296) as u32);
+    write_bytes::<8>(bytes, at, &n.to_le_bytes());
 }
 
-fn read_u16(bytes: &[u8], at: usize) -> u16
-    requires { at + 2 ≤ length bytes.now }
-    ensures { result ≡ number_at 2 at bytes.now }
+// So many bytes from a place on. Compiled, a read of a number is one load, and a write one store.
+fn read_bytes<const N: usize>(bytes: &[u8], at: usize) -> [u8; N]
+    requires { at + N ≤ length bytes.now }
+    ensures { result ≡ take N (drop at bytes.now) }
 {
-    bytes[at] as u16 + 256 * (bytes[at + 1] as u16)
+    let mut part = [0; N];
+    part.copy_from_slice(&bytes[at..at + N]);
+    part
 }
 
-fn write_u16(bytes: &mut [u8], at: usize, n: u16)
-    requires { at + 2 ≤ length bytes.old }
-    ensures { bytes.new ≡ put at 2 (bytes_of 2 n) bytes.old }
+// Puts so many bytes at a place.
+fn write_bytes<const N: usize>(bytes: &mut [u8], at: usize, part: &[u8; N])
+    requires { at + N ≤ length bytes.old }
+    ensures { bytes.new ≡ put at N part.now bytes.old }
 {
-    bytes[at] = (n % 256) as u8;
-    bytes[at + 1] = (n / 256) as u8;
+    bytes[at..at + N].copy_from_slice(part);
 }
