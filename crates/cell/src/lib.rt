@@ -10,7 +10,7 @@ ghost use Rattle.cell.specs.Refusal.{number};
 use std::num::wrapping_sub_u32;
 
 // A cell in the switch. `slot` is the slot in which it was accepted.
-#[derive(Clone, Copy)]
+#[derive(Clone, Copy, Default)]
 pub struct Cell {
     pub input: u32,
     pub output: u32,
@@ -21,7 +21,7 @@ pub struct Cell {
 }
 
 // A record of the arrivals that a slot is lent: any five numbers.
-#[derive(Clone, Copy)]
+#[derive(Clone, Copy, Default)]
 pub struct Arrival {
     pub input: u32,
     pub output: u32,
@@ -31,7 +31,7 @@ pub struct Arrival {
 }
 
 // What the caller counts: slots run, slots refused, cells in, cells out. A count at its top stays there.
-#[derive(Clone, Copy)]
+#[derive(Clone, Copy, Default)]
 pub struct Tally {
     pub run: u64,
     pub refused: u64,
