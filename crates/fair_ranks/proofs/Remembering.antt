@@ -20,9 +20,8 @@ use Rattle.cell.specs.declared.Arrival.{Arrival}
 use Rattle.cell.specs.declared.Cell.{Cell}
 use Rattle.cell.specs.Limits.{port_limit}
 use Rattle.model.specs.Fair.{Memory, is_fair, flow_index, flow_count, made_rank, make, given_after, left_after, remembered}
-use Rattle.layout.specs.Answer.{departure_size, cell_in, departure_in, departures_in}
+use Rattle.layout.specs.Answer.{departure_size, departure_in, departures_in}
 use Rattle.layout.specs.Memory.{memory_of, left_start, given_start}
-use Rattle.layout.specs.Number.{word}
 use Rattle.layout.proofs.Memory.{length-words_in}
 use Rattle.fair_memory.specs.Code.{with_left, with_given}
 use Rattle.fair_ranks.specs.Code.{given_by, with_record, with_records, with_departure, with_departures}
@@ -121,15 +120,6 @@ module _ (m : Memory) (o : ℕ) where
   departure-kept d c e other =
       let left = sym (cond-fail (is_fair m o) (set m.left o c.rank) m.left other) in
       (λ x. record { fair = m.fair; left = left x; given = m.given }) ∙ sym (ap (with_departure m o) e)
-
--- what the bytes of one say
-pub sent-none : (bs : List ℕ) → eqb (word bs 0) 0 ≡ true → departure_in bs ≡ none
-unfolding departure_in
-sent-none bs h = rw (h, departure_in)
-
-pub sent-some : (bs : List ℕ) → eqb (word bs 0) 0 ≡ false → departure_in bs ≡ some (cell_in bs)
-unfolding departure_in
-sent-some bs h = rw (h, departure_in)
 
 ------------------------------------------------------------------------
 -- the departures

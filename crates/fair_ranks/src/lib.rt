@@ -193,11 +193,10 @@ fn remember_departure(memory: &mut [u8], output: usize, sent: &[u8])
     ensures { memory_of memory.new
         ≡ with_departure (memory_of memory.old) output (departure_in sent.now) }
 {
-    if layout_answer::is_none(sent) {
+    let Some(c) = layout_answer::departure_in(sent) else {
         return;
-    }
+    };
     if fair_memory::is_marked(memory, output as u32) {
-        let c = layout_answer::cell_in(sent);
         fair_memory::write_left(memory, output, c.rank);
     }
 }

@@ -1,2 +1,3 @@
 pub mod Lists
+pub mod Options
 pub mod Order

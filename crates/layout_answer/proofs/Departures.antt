@@ -15,7 +15,7 @@ use Rattle.cell.specs.declared.Cell.{Cell}
 use Rattle.cell.specs.Limits.{port_limit}
 use Rattle.model.specs.Crossbar.{Course, answer_of}
 use Rattle.model.specs.Tally.{is_sent}
-use Rattle.layout.specs.Answer.{departure_size, departure_bytes, departures_bytes, answer_bytes, departure_in, departures_in}
+use Rattle.layout.specs.Answer.{departure_size, departure_bytes, departures_bytes, answer_bytes, cell_in, departure_in, departures_in}
 use Rattle.layout.specs.Host.{filled}
 use Rattle.layout.specs.Number.{bytes_of, number_of, number_at, word}
 use Rattle.layout.proofs.Answer.{length-departure_bytes, answer-parts}
@@ -37,6 +37,14 @@ sent-first bs = go (eqb (word bs 0) 0) refl
     go : (b : Bool) → eqb (word bs 0) 0 ≡ b → is_sent (departure_in bs) ≡ not (eqb (word bs 0) 0)
     go true e = rw (e, departure_in)
     go false e = rw (e, departure_in)
+
+pub none_at_zero : (bs : List ℕ) → word bs 0 ≡ 0 → none ≡ departure_in bs
+unfolding departure_in
+none_at_zero bs h = rw (eq-eqb (word bs 0) 0 h, departure_in)
+
+pub some_elsewhere : (c : Cell) (bs : List ℕ) → (word bs 0 ≡ 0 → ⊥) → c ≡ cell_in bs → some c ≡ departure_in bs
+unfolding departure_in
+some_elsewhere c bs h e = rw (ne_eqb (word bs 0) 0 h, departure_in) (ap some e)
 
 -- that of an output stands where its departure begins
 word_first : (at : ℕ) (bs : List ℕ) → word (take departure_size (drop at bs)) 0 ≡ word bs at

@@ -90,8 +90,8 @@ fn put_sent(out: &mut [u8], at: usize, sent: &[u8]) -> usize
     requires { length sent.now ≡ departure_size }
     ensures { Put out.old at (departure_text (departure_in sent.now)) out.new result }
 {
-    if layout_answer::is_none(sent) {
-        return at;
+    match layout_answer::departure_in(sent) {
+        Some(c) => trace_line_writer::put_departure(out, at, c),
+        None => at,
     }
-    trace_line_writer::put_departure(out, at, layout_answer::cell_in(sent))
 }

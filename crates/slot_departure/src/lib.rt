@@ -3,6 +3,7 @@
 #![tactic(auto)]
 
 ghost use Rattle.std.specs.Prelude.{◌≡◌, map, ◌+◌, ◌*◌, ◌-◌, ◌<◌, ◌≤◌, length, replicate};
+ghost use Rattle.laws.specs.Options.{option_of};
 ghost use Rattle.cell.specs.Limits.{port_limit};
 ghost use Rattle.model.specs.Phase.{waiting};
 ghost use Rattle.model.specs.Crossbar.{leaving, departures_of};
@@ -16,6 +17,7 @@ ghost use Rattle.slot_view.specs.CodeViewed.{BestBuffered};
 ghost use Rattle.slot_departure.specs.Code.{departed, departure_at, Firsts, free_after, closed_one};
 ghost use Rattle.slot_departure.specs.Code.{cleared_from, Removable, removed};
 
+use cell::Cell;
 use layout::{CELLS, DEPARTURE_BYTES, PORTS};
 use layout_table::priority::NOWHERE;
 
@@ -54,15 +56,18 @@ fn send_one(table: &[u8], number: u16, answer: &mut [u8], at: usize)
     ensures { answer.new
         ≡ put at departure_size (departure_bytes (departure_at table.now number)) answer.old }
 {
+    layout_answer::write_departure(answer, at, departure_at(table, number));
+}
+
+// The cell that an output with this choice sends, if it sends one.
+fn departure_at(table: &[u8], number: u16) -> Option<Cell>
+    requires { length table.now ≡ table_size }
+    ensures { option_of result ≡ departure_at table.now number }
+{
     if number >= NOWHERE {
-        layout_answer::write_none(answer, at);
-        return;
+        return None;
     }
-    layout_answer::write_departure(
-        answer,
-        at,
-        layout_table::entry::cell_of(table, number as usize),
-    );
+    Some(layout_table::entry::cell_of(table, number as usize))
 }
 
 // Takes the cells that leave out of the table, input by input.
