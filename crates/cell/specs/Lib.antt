@@ -1,4 +1,5 @@
 pub mod Cell
+pub mod Checked
 pub mod Flow
 pub mod Limits
 pub mod Order

@@ -7,8 +7,6 @@ ghost use Rattle.cell.specs.Order.{first_in_turn, in_turn, wins_tie, key};
 ghost use Rattle.cell.specs.Limits.{ports_in_range, flow_in_range, input_full};
 ghost use Rattle.cell.specs.Refusal.{number};
 
-use std::num::wrapping_sub_u32;
-
 // A cell in the switch. `slot` is the slot in which it was accepted.
 #[derive(Clone, Copy, Default)]
 pub struct Cell {
@@ -39,39 +37,39 @@ pub struct Tally {
     pub departed: u64,
 }
 
-// Why a call is turned back.
+// Why a call is turned back, each with its number.
 #[derive(Clone, Copy)]
 pub enum Refusal {
     // bad size: N is not 1 to 16
-    BadSize,
+    BadSize = 1,
     // broken table: the lent table or cue store is not sound, or its length is wrong
-    BrokenTable,
+    BrokenTable = 2,
     // clock end: the clock is at 4,294,967,295
-    ClockEnd,
+    ClockEnd = 3,
     // no such port: an input or an output is not below N
-    NoSuchPort,
+    NoSuchPort = 4,
     // no such flow: a flow is above 7
-    NoSuchFlow,
+    NoSuchFlow = 5,
     // out of turn: an input is not above the one of the record before
-    InputOrder,
+    InputOrder = 6,
     // falling rank: a cell of higher rank of the same flow is in the switch
-    RankOrder,
+    RankOrder = 7,
     // full: 64 cells of this input are in the switch
-    Full,
+    Full = 8,
     // bad line: the text breaks the grammar
-    BadLine,
+    BadLine = 9,
     // short tray: the buffer for an answer is too short
-    ShortBuffer,
+    ShortBuffer = 10,
     // bad name: the name of a cue is not 1 to 8 lower-case letters
-    BadName,
+    BadName = 11,
     // cues full: four cues are held, and none of this name
-    CuesFull,
+    CuesFull = 12,
     // no such cue: no cue of this name is held
-    NoSuchCue,
+    NoSuchCue = 13,
     // bad weight: at a fair output the rank is not 1 to 1,024
-    BadWeight,
+    BadWeight = 14,
     // rank end: at a fair output the rank made passes 4,294,967,295
-    RankEnd,
+    RankEnd = 15,
 }
 
 impl Refusal {
@@ -79,31 +77,15 @@ impl Refusal {
     pub fn number(self) -> u32
         ensures { result ≡ number self }
     {
-        match self {
-            Refusal::BadSize => 1,
-            Refusal::BrokenTable => 2,
-            Refusal::ClockEnd => 3,
-            Refusal::NoSuchPort => 4,
-            Refusal::NoSuchFlow => 5,
-            Refusal::InputOrder => 6,
-            Refusal::RankOrder => 7,
-            Refusal::Full => 8,
-            Refusal::BadLine => 9,
-            Refusal::ShortBuffer => 10,
-            Refusal::BadName => 11,
-            Refusal::CuesFull => 12,
-            Refusal::NoSuchCue => 13,
-            Refusal::BadWeight => 14,
-            Refusal::RankEnd => 15,
-        }
+        self as u32
     }
 }
 
-// What the checks of a slot's records find: nothing, or the first fault and its record's place, from 1.
+// What turns a slot back, and its record's place, from 1; 0 where it names none.
 #[derive(Clone, Copy)]
-pub enum Fault {
-    Clear,
-    At(Refusal, u32),
+pub struct Fault {
+    pub refusal: Refusal,
+    pub place: u32,
 }
 
 // The switch's size and its clock, the number of the next slot; and its limits. What they make of a table's room and of
@@ -123,7 +105,7 @@ impl Switch {
     pub const CELL_LIMIT: u32 = 64;
 
     // The clock at which no slot can run.
-    pub const CLOCK_END: u32 = 4294967295;
+    pub const CLOCK_END: u32 = u32::MAX;
 
     // A switch of `ports` ports in which no slot has run.
     pub fn fresh(ports: u32, first: u32) -> Self
@@ -136,13 +118,11 @@ impl Switch {
     }
 
     // Whether a switch can have this many ports.
+    #[tactic(auto, unfolding(crate::specs::Limits::ports_in_range))]
     pub fn ports_in_range(ports: u32) -> bool
         ensures { result ≡ ports_in_range ports }
     {
-        if ports < 1 {
-            return false;
-        }
-        ports <= Switch::PORTS
+        (1..=Switch::PORTS).contains(&ports)
     }
 
     // Whether a flow has this number.
@@ -182,7 +162,7 @@ pub fn first_in_turn(ports: u32, slot: u32) -> u32
 pub fn in_turn(start: u32, i: u32, j: u32) -> bool
     ensures { result ≡ in_turn start i j }
 {
-    wrapping_sub_u32(i, start) < wrapping_sub_u32(j, start)
+    i.wrapping_sub(start) < j.wrapping_sub(start)
 }
 
 // Rank and slot of a cell as one number. An output sends the cell with the smaller one; `wins_tie` decides between
