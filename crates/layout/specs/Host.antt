@@ -1,10 +1,9 @@
 -- Results as numbers, buffers filled, and a slot on the table of the cells alone, where ranks stand: 2, 10, 3, then record
 -- by record 4 to 8. Bytes of a buffer past its answer are kept. The host's calls are in Engine, those of cues in Cues.
-use Rattle.std.specs.Prelude.{ℕ, ◌+◌, ◌*◌, true, false, List, ◌++◌, ltb, eqb, length, drop}
+use Rattle.std.specs.Prelude.{ℕ, ◌+◌, ◌*◌, true, false, List, ◌++◌, Ok, Err, ltb, eqb, length, drop}
 use Rattle.std.proofs.Math.Option.{Option, none, some}
 use Rattle.cell.specs.declared.Arrival.{Arrival}
-use Rattle.cell.specs.declared.Fault.{Fault}
-use Rattle.cell.specs.declared.Fault.TheVariants.{Clear, At}
+use Rattle.cell.specs.Checked.{Checked}
 use Rattle.cell.specs.declared.Refusal.TheVariants.{BrokenTable, ShortBuffer}
 use Rattle.cell.specs.Refusal.{number}
 use Rattle.model.specs.State.{Switch}
@@ -23,10 +22,10 @@ unfoldable pub result_of : {A : Type 0} → Outcome A → ℕ
 result_of (done a) = 0
 result_of (refused r place) = number r + 256 * place
 
--- the same of a fault
-abbrev pub fault_result : Fault → ℕ
-fault_result Clear = 0
-fault_result (At r place) = number r + 256 * place
+-- the same of what a check came to
+abbrev pub fault_result : Checked → ℕ
+fault_result (Ok _) = 0
+fault_result (Err fault) = number fault.refusal + 256 * fault.place
 
 -- Slot. The lent table, arrivals and tally are looked at first, then the buffer for the answer; the rest is the slot's.
 unfoldable pub slot_of : Option Switch → Option (List Arrival) → ℕ → ℕ → Outcome Course

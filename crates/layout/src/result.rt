@@ -5,11 +5,11 @@ ghost use Rattle.layout.specs.Host.{fault_result};
 use cell::Fault;
 
 // 0, or the number of the refusal and 256 times the record's place.
-pub fn result_of(fault: Fault) -> u64
-    ensures { result ≡ fault_result fault }
+pub fn result_of(checked: Result<(), Fault>) -> u64
+    ensures { result ≡ fault_result checked }
 {
-    match fault {
-        Fault::Clear => 0,
-        Fault::At(refusal, place) => refusal.number() as u64 + 256 * (place as u64),
+    match checked {
+        Ok(()) => 0,
+        Err(fault) => fault.refusal.number() as u64 + 256 * (fault.place as u64),
     }
 }

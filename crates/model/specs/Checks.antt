@@ -9,8 +9,7 @@ use Rattle.cell.specs.declared.Refusal.{Refusal}
 use Rattle.cell.specs.declared.Refusal.TheVariants.{NoSuchPort, NoSuchFlow, InputOrder, RankOrder, Full}
 use Rattle.cell.specs.Flow.{same_flow}
 use Rattle.cell.specs.Limits.{flow_in_range, input_full}
-use Rattle.cell.specs.declared.Fault.{Fault}
-use Rattle.cell.specs.declared.Fault.TheVariants.{Clear, At}
+use Rattle.cell.specs.Checked.{Checked, no_fault, fault_with}
 
 -- What a call comes to: its result, or a refusal with the record's place (from 1; 0 where it names no record).
 pub data Outcome (A : Type 0) : Type 0 where
@@ -70,6 +69,6 @@ unfoldable pub first_fault : ℕ → List Cell → List Cell → Option (Refusal
 first_fault ports waiting cs = fault_from ports waiting 1 none cs
 
 -- the refusal of an outcome, if it is one
-unfoldable pub refusal_of : {A : Type 0} → Outcome A → Fault
-refusal_of (done a) = Clear
-refusal_of (refused r place) = At r place
+unfoldable pub refusal_of : {A : Type 0} → Outcome A → Checked
+refusal_of (done a) = no_fault
+refusal_of (refused r place) = fault_with r place
