@@ -1,4 +1,5 @@
 pub mod Accord
+pub mod Checked
 pub mod Flow
 pub mod Keys
 pub mod Order

@@ -26,6 +26,7 @@ use Rattle.laws.specs.Lists.{some?, none?, count}
 use Rattle.laws.proofs.Tests.{clash, same, and_i, and_l, or_l, or_cases, or-false-l, or-false-r}
 use Rattle.laws.proofs.Lists.{Passing, some?-e, some?-i, some?-false, some?-map, none?-i, all?-i, get_or-mem}
 use Rattle.laws.proofs.Count.{count-all, count_map}
+use Rattle.cell.specs.Checked.{Checked, no_fault, fault_with}
 use Rattle.cell.specs.declared.Cell.{Cell}
 use Rattle.cell.specs.declared.Refusal.{Refusal}
 use Rattle.cell.specs.declared.Refusal.TheVariants.{NoSuchPort, NoSuchFlow, InputOrder}
@@ -42,8 +43,6 @@ use Rattle.layout.specs.Table.{state_of, IsTable}
 use Rattle.layout.proofs.Records.{entry_at-input}
 use Rattle.layout_table.specs.CodeEntries.{flow_word}
 use Rattle.layout_table.proofs.Entries.{flow-word}
-use Rattle.cell.specs.declared.Fault.{Fault}
-use Rattle.cell.specs.declared.Fault.TheVariants.{Clear, At}
 use Rattle.layout.specs.Code.{ports_in}
 use Rattle.slot_faults.specs.CodeFault.{section_in, InPorts, waiting_fault, fault_at, turn_after, outranks}
 use Rattle.slot_faults.proofs.Stored.{section-sound, section-length, section-entry}
@@ -233,11 +232,11 @@ port-none ports before c p f t = fault-none ports [] before c p f t refl refl
 ------------------------------------------------------------------------
 -- as the code answers it
 
-pub clear-not : {r : Refusal} {place : ℕ} → Clear ≡ At r place → ⊥
+pub clear-not : {r : Refusal} {place : ℕ} → no_fault ≡ fault_with r place → ⊥
 clear-not q = let z : ◌≡◌ {A = ℕ} 0 1 = cc in omega arith
 
 -- what is found is clear where there is no fault
-pub clear_none : (place : ℕ) (o : Option Refusal) → fault_at place o ≡ Clear → o ≡ none
+pub clear_none : (place : ℕ) (o : Option Refusal) → fault_at place o ≡ no_fault → o ≡ none
 unfolding fault_at
 clear_none place none e = refl
 clear_none place (some r) e = absurd (clear-not (sym e))
@@ -253,7 +252,7 @@ turn_by (suc n) =
 -- 4 to 6, and then 7 and 8
 
 -- what the checks of a record's ports, flow and turn say
-abbrev pub PortSays : ℕ → ℕ → ℕ → Cell → Fault → Type 0
+abbrev pub PortSays : ℕ → ℕ → ℕ → Cell → Checked → Type 0
 PortSays ports turn place c found =
     (before : Option Cell) → turn_after before ≡ turn → found ≡ fault_at place (fault ports [] before c)
 
@@ -275,10 +274,10 @@ fault-parts ports waiting before c = go (no_such_port ports c) (no_such_flow c) 
     go false false true = refl
     go false false false = refl
 
-module _ (ports : ℕ) (waiting : List Cell) (turn place : ℕ) (c : Cell) (found : Fault)
+module _ (ports : ℕ) (waiting : List Cell) (turn place : ℕ) (c : Cell) (found : Checked)
     (says : PortSays ports turn place c found) where
   -- a fault that is found without the waiting cells is found with them
-  pub port-found : {r : Refusal} {at : ℕ} → found ≡ At r at → (before : Option Cell) → turn_after before ≡ turn
+  pub port-found : {r : Refusal} {at : ℕ} → found ≡ fault_with r at → (before : Option Cell) → turn_after before ≡ turn
       → found ≡ fault_at place (fault ports waiting before c)
   unfolding fault_at
   port-found bad before e = go (fault ports [] before c) refl
@@ -289,7 +288,7 @@ module _ (ports : ℕ) (waiting : List Cell) (turn place : ℕ) (c : Cell) (foun
           let all = fault-parts ports waiting before c ∙ ap (λ o. then_by o (waiting_fault waiting c)) q in
           says before e ∙ ap (fault_at place) (q ∙ sym all)
 
-  module _ (clear : found ≡ Clear) where
+  module _ (clear : found ≡ no_fault) where
     none_found : (before : Option Cell) → turn_after before ≡ turn → fault ports [] before c ≡ none
     none_found before e = clear_none place _ (sym (says before e) ∙ clear)
 

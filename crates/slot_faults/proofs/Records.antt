@@ -1,5 +1,6 @@
 -- The records of a slot, looked at one by one.
 --     no_record, held-length, held_next    the first records of an array that holds 17
+--     record_next                          the first of the records behind the first n
 --     coming-take, coming-drop             the cells of the first records, and of those behind them
 --     Passed, Says                         the first records have no fault; what the check of the next one says
 --     next-says                            it says so by the cell that the record would become
@@ -12,7 +13,8 @@ use mathlib.Core.List.{List, [], ◌∷◌}
 use mathlib.Core.Option.{Option, none, some}
 use mathlib.Core.Path.{◌≡◌, refl, sym, ap, ap₂, ◌∙◌}
 use lib.ListN.{length, take, drop, get_or, length-map, drop_of_length-le}
-use lib.Seq.{slice-cons, length-take-le}
+use lib.Seq.{slice-cons, drop-cons, length-take-le}
+use Rattle.cell.specs.Checked.{Checked, no_fault, fault_with}
 use Rattle.cell.specs.declared.Arrival.{Arrival}
 use Rattle.cell.specs.declared.Cell.{Cell}
 use Rattle.cell.specs.declared.Refusal.{Refusal}
@@ -24,8 +26,6 @@ use Rattle.model.proofs.Admitted.{faultless, port-input}
 use Rattle.model.proofs.CheckOrder.{faults-first, faults-next}
 use Rattle.layout.specs.Entry.{clock_in}
 use Rattle.layout.specs.Table.{state_of, IsTable}
-use Rattle.cell.specs.declared.Fault.{Fault}
-use Rattle.cell.specs.declared.Fault.TheVariants.{Clear, At}
 use Rattle.layout.specs.Code.{ports_in}
 use Rattle.slot_faults.specs.CodeFault.{coming, fault_at, fault_by, fault_of, turn_after}
 use Rattle.slot_faults.proofs.Faults.{clear-not}
@@ -44,6 +44,10 @@ module _ (held : List Arrival) (many : ℕ) (all : length held ≡ 17) (enough :
 
   pub held_next : (n : ℕ) → n < many → drop n (take many held) ≡ get_or held n no_record ∷ drop (n + 1) (take many held)
   held_next n less = rw add-one (slice-cons n many held no_record less (omega arith))
+
+pub record_next : (records : List Arrival) (n : ℕ) → n < length records
+    → drop n records ≡ get_or records n no_record ∷ drop (n + 1) records
+record_next records n less = rw add-one (drop-cons records n no_record less)
 
 ------------------------------------------------------------------------
 -- their cells
@@ -72,11 +76,11 @@ pub record Passed (s : Switch) (records : List Arrival) (n turn : ℕ) : Type 0 
       ≡ fault_from s.ports (cells s) (n + 1) before (drop n (coming s records))
 
 -- what the check of a record says
-abbrev pub Says : Switch → ℕ → ℕ → Arrival → Fault → Type 0
+abbrev pub Says : Switch → ℕ → ℕ → Arrival → Checked → Type 0
 Says s turn place a found =
     (before : Option Cell) → turn_after before ≡ turn → found ≡ fault_at place (fault_by s before a)
 
-pub next-says : (table : List ℕ) → IsTable table → (turn place clock : ℕ) (a : Arrival) (c : Cell) (found : Fault)
+pub next-says : (table : List ℕ) → IsTable table → (turn place clock : ℕ) (a : Arrival) (c : Cell) (found : Checked)
     → clock ≡ clock_in table → c ≡ accepted clock a
     → ((before : Option Cell) → turn_after before ≡ turn
     → found ≡ fault_at place (fault (ports_in table) (cells (state_of table)) before c))
@@ -93,7 +97,7 @@ module _ (s : Switch) (records : List Arrival) where
 
   -- the next record
   module _ (n turn : ℕ) (p : Passed s records n turn) (a : Arrival) (here : drop n records ≡ a ∷ drop (n + 1) records)
-      (found : Fault) (says : Says s turn (n + 1) a found) where
+      (found : Checked) (says : Says s turn (n + 1) a found) where
     next : drop n (coming s records) ≡ accepted s.clock a ∷ drop (n + 1) (coming s records)
     unfolding coming
     next =
@@ -109,7 +113,7 @@ module _ (s : Switch) (records : List Arrival) where
     found-is : (o : Option Refusal) → fault_by s p.before a ≡ o → found ≡ fault_at (n + 1) o
     found-is o e = says p.before p.after ∙ ap (fault_at (n + 1)) e
 
-    pub passed-fault : {r : Refusal} {place : ℕ} → found ≡ At r place
+    pub passed-fault : {r : Refusal} {place : ℕ} → found ≡ fault_with r place
         → found ≡ fault_of (first_fault s.ports (cells s) (coming s records))
     unfolding fault_at fault_of
     passed-fault bad = go (fault_by s p.before a) refl
@@ -119,7 +123,7 @@ module _ (s : Switch) (records : List Arrival) where
         go none e = absurd (clear-not (sym (found-is none e) ∙ bad))
         go (some r) e = found-is (some r) e ∙ sym (ap fault_of (rest_at ∙ faults-first _ _ (n + 1) p.before _ _ e))
 
-    module _ (clear : found ≡ Clear) where
+    module _ (clear : found ≡ no_fault) where
       none_here : fault_by s p.before a ≡ none
       unfolding fault_at
       none_here = go (fault_by s p.before a) refl
@@ -144,7 +148,7 @@ module _ (s : Switch) (records : List Arrival) where
 
   -- behind the last record
   pub passed-all : (n turn : ℕ) → n ≡ length records → Passed s records n turn
-      → Clear ≡ fault_of (first_fault s.ports (cells s) (coming s records))
+      → no_fault ≡ fault_of (first_fault s.ports (cells s) (coming s records))
   unfolding coming fault_from fault_of
   passed-all n turn whole p =
       let past : length (coming s records) ≤ n = omega (arith, length-map records (accepted s.clock)) in

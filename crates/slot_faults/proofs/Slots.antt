@@ -13,6 +13,8 @@ use borrow.Author.Tests.{ltb-true, ltb-false, eq-eqb, ne_eqb}
 use lib.Dec.{ltb, eqb}
 use lib.ListN.{length, take, drop, length-map, take-append-drop}
 use lib.Seq.{length-take-le, take_all}
+use Rattle.std.specs.Prelude.{Ok, Err}
+use Rattle.cell.specs.Checked.{Checked, no_fault, fault_with}
 use Rattle.cell.specs.declared.Arrival.{Arrival}
 use Rattle.cell.specs.declared.Cell.{Cell}
 use Rattle.cell.specs.declared.Refusal.{Refusal}
@@ -25,8 +27,6 @@ use Rattle.model.specs.Crossbar.{run, slot}
 use Rattle.model.specs.Oq.{run_oq, slot_oq}
 use Rattle.model.proofs.Admitted.{few-records}
 use Rattle.model.proofs.CheckOrder.{faults-first, faults-next}
-use Rattle.cell.specs.declared.Fault.{Fault}
-use Rattle.cell.specs.declared.Fault.TheVariants.{Clear, At}
 use Rattle.slot_faults.specs.CodeFault.{coming, fault_in, fault_of}
 use Rattle.slot_faults.proofs.Faults.{clear-not}
 use Rattle.slot_faults.proofs.Records.{coming-take}
@@ -42,14 +42,14 @@ by_checks x b o =
       | false ↦ elim o [ some f ↦ refused f.0 f.1 | none ↦ done x ]
     ]
 
-abbrev by_fault : {A : Type 0} → A → Fault → Outcome A
-by_fault x f = elim f [ Clear ↦ done x | At r place ↦ refused r place ]
+abbrev by_fault : {A : Type 0} → A → Checked → Outcome A
+by_fault x f = elim f [ Ok _ ↦ done x | Err fault ↦ refused fault.refusal fault.place ]
 
 module _ (s : Switch) (records : List Arrival) where
   abbrev first : Option (Refusal × ℕ)
   first = first_fault s.ports (cells s) (coming s records)
 
-  pub fault-end : s.clock ≡ clock_end → fault_in s records ≡ At ClockEnd 0
+  pub fault-end : s.clock ≡ clock_end → fault_in s records ≡ fault_with ClockEnd 0
   unfolding fault_in
   fault-end e = rw (eq-eqb s.clock clock_end e, fault_in)
 
@@ -58,22 +58,22 @@ module _ (s : Switch) (records : List Arrival) where
   fault-early early = rw (ne_eqb s.clock clock_end early, fault_in)
 
   -- by whether the clock is at its end, and by the first fault of a record
-  by-fault : (P : Bool → Option (Refusal × ℕ) → Fault → Type 0) → P true first (At ClockEnd 0)
+  by-fault : (P : Bool → Option (Refusal × ℕ) → Checked → Type 0) → P true first (fault_with ClockEnd 0)
       → ((o : Option (Refusal × ℕ)) → P false o (fault_of o)) → P (eqb s.clock clock_end) first (fault_in s records)
   unfolding fault_in
   by-fault P late early = go (eqb s.clock clock_end)
     where
-      go : (b : Bool) → P b first (elim b [ true ↦ At ClockEnd 0 | false ↦ fault_of first ])
+      go : (b : Bool) → P b first (elim b [ true ↦ fault_with ClockEnd 0 | false ↦ fault_of first ])
       go true = late
       go false = early first
 
-  pub fault-clear : fault_in s records ≡ Clear
+  pub fault-clear : fault_in s records ≡ no_fault
       → (eqb s.clock clock_end ≡ false) × (first_fault s.ports (cells s) (coming s records) ≡ none)
   unfolding fault_of
   fault-clear =
-      by-fault (λ b o f. f ≡ Clear → (b ≡ false) × (o ≡ none)) (λ e. absurd (clear-not (sym e))) each
+      by-fault (λ b o f. f ≡ no_fault → (b ≡ false) × (o ≡ none)) (λ e. absurd (clear-not (sym e))) each
     where
-      each : (o : Option (Refusal × ℕ)) → fault_of o ≡ Clear → (false ≡ false) × (o ≡ none)
+      each : (o : Option (Refusal × ℕ)) → fault_of o ≡ no_fault → (false ≡ false) × (o ≡ none)
       each none e = (refl, refl)
       each (some f) e = absurd (clear-not (sym e))
 
@@ -86,12 +86,18 @@ module _ (s : Switch) (records : List Arrival) where
       each (some f) = refl
 
   pub slot-fault : slot s (some records)
-      ≡ elim (fault_in s records) [ Clear ↦ done (run s (coming s records)) | At r place ↦ refused r place ]
+      ≡ elim (fault_in s records) [
+        | Ok _ ↦ done (run s (coming s records))
+        | Err fault ↦ refused fault.refusal fault.place
+      ]
   unfolding slot coming
   slot-fault = checked (run s (coming s records))
 
   pub slot-oq-fault : slot_oq s (some records)
-      ≡ elim (fault_in s records) [ Clear ↦ done (run_oq s (coming s records)) | At r place ↦ refused r place ]
+      ≡ elim (fault_in s records) [
+        | Ok _ ↦ done (run_oq s (coming s records))
+        | Err fault ↦ refused fault.refusal fault.place
+      ]
   unfolding slot_oq coming
   slot-oq-fault = checked (run_oq s (coming s records))
 
@@ -153,13 +159,13 @@ module _ (ports : ℕ) (waiting : List Cell) where
 -- no records are behind the seventeenth, or the first seventeen have the fault of all
 pub seventeen-tell : (s : Switch) (records : List Arrival) → s.ports ≤ port_limit
     → (take 17 records ≡ records)
-    ⊎ ((r : Refusal) × (place : ℕ) × (fault_in s (take 17 records) ≡ At r place) × (fault_in s records ≡ At r place))
+    ⊎ ((r : Refusal) × (place : ℕ) × (fault_in s (take 17 records) ≡ fault_with r place) × (fault_in s records ≡ fault_with r place))
 unfolding coming fault_in fault_of
 seventeen-tell s records p = go (ltb (length records) 17) refl (eqb s.clock clock_end) refl
   where
     go : (b : Bool) → ltb (length records) 17 ≡ b → (d : Bool) → eqb s.clock clock_end ≡ d
         → (take 17 records ≡ records)
-        ⊎ ((r : Refusal) × (place : ℕ) × (fault_in s (take 17 records) ≡ At r place) × (fault_in s records ≡ At r place))
+        ⊎ ((r : Refusal) × (place : ℕ) × (fault_in s (take 17 records) ≡ fault_with r place) × (fault_in s records ≡ fault_with r place))
     go true e d q = inl (take_all 17 records (omega (arith, ltb-true (length records) 17 e)))
     go false e true q = inr (ClockEnd, 0, rw (q, fault_in), rw (q, fault_in))
     go false e false q =

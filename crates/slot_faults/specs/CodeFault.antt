@@ -1,6 +1,7 @@
 -- Scope 6, refusals 3 to 8: what turns a slot back, by its table and its records.
 use Rattle.std.specs.Prelude.{ℕ, ◌+◌, ◌<◌, Bool, true, false, cond, ◌&&◌, List, [], map, ltb, eqb, get_or}
 use Rattle.std.proofs.Math.Option.{Option, none, some}
+use Rattle.cell.specs.Checked.{Checked, no_fault, fault_with}
 use Rattle.cell.specs.declared.Arrival.{Arrival}
 use Rattle.cell.specs.declared.Cell.{Cell}
 use Rattle.cell.specs.declared.Refusal.{Refusal}
@@ -11,8 +12,6 @@ use Rattle.cell.specs.Limits.{clock_end, flow_limit}
 use Rattle.model.specs.State.{Entry, Switch, cells}
 use Rattle.model.specs.Checks.{falling_rank, full, fault, first_fault}
 use Rattle.layout.specs.Table.{state_of}
-use Rattle.cell.specs.declared.Fault.{Fault}
-use Rattle.cell.specs.declared.Fault.TheVariants.{Clear, At}
 
 -- the entries of an input
 abbrev pub section_in : List ℕ → ℕ → List Entry
@@ -37,20 +36,20 @@ unfoldable pub waiting_fault : List Cell → Cell → Option Refusal
 waiting_fault waiting c = cond (falling_rank waiting c) (some RankOrder) (cond (full waiting c) (some Full) none)
 
 -- the fault of the record at this place, as the code answers it
-unfoldable pub fault_at : ℕ → Option Refusal → Fault
-fault_at place none = Clear
-fault_at place (some r) = At r place
+unfoldable pub fault_at : ℕ → Option Refusal → Checked
+fault_at place none = no_fault
+fault_at place (some r) = fault_with r place
 
 -- the first fault of the records, as the code answers it
-unfoldable pub fault_of : Option (Refusal × ℕ) → Fault
-fault_of none = Clear
-fault_of (some f) = At f.0 f.1
+unfoldable pub fault_of : Option (Refusal × ℕ) → Checked
+fault_of none = no_fault
+fault_of (some f) = fault_with f.0 f.1
 
 -- the fault of a slot's records: the clock's end, or the first fault of a record, or none
-unfoldable pub fault_in : Switch → List Arrival → Fault
+unfoldable pub fault_in : Switch → List Arrival → Checked
 fault_in s records =
     elim (eqb s.clock clock_end) [
-      | true ↦ At ClockEnd 0
+      | true ↦ fault_with ClockEnd 0
       | false ↦ fault_of (first_fault s.ports (cells s) (coming s records))
     ]
 

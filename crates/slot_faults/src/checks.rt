@@ -15,49 +15,61 @@ use cell::{Cell, Fault, Refusal, Switch};
 use layout::CELLS;
 
 // The checks of one record, in their order. `turn` is the lowest input whose turn it is.
-pub(crate) fn check_record(table: &[u8], turn: u32, place: u32, c: Cell) -> Fault
+pub(crate) fn check_record(table: &[u8], turn: u32, place: u32, c: Cell) -> Result<(), Fault>
     requires { IsTable table.now }
     ensures { (before : Option Cell) → turn_after before ≡ turn → result
         ≡ fault_at place (fault (ports_in table.now) (cells (state_of table.now)) before c) }
 {
-    let found = port_fault(table, turn, place, c);
-    let Fault::Clear = found else {
-        return found;
-    };
+    port_fault(table, turn, place, c)?;
     waiting_fault(table, place, c)
 }
 
 // The checks that look at no waiting cell, 4 to 6.
-pub fn port_fault(table: &[u8], turn: u32, place: u32, c: Cell) -> Fault
+pub fn port_fault(table: &[u8], turn: u32, place: u32, c: Cell) -> Result<(), Fault>
     requires { IsTable table.now }
     ensures { (before : Option Cell) → turn_after before ≡ turn → result
         ≡ fault_at place (fault (ports_in table.now) [] before c) }
 {
     if no_such_port(table, c) {
-        return Fault::At(Refusal::NoSuchPort, place);
+        return Err(Fault {
+            refusal: Refusal::NoSuchPort,
+            place,
+        });
     }
     if no_such_flow(c) {
-        return Fault::At(Refusal::NoSuchFlow, place);
+        return Err(Fault {
+            refusal: Refusal::NoSuchFlow,
+            place,
+        });
     }
     if out_of_turn(turn, c) {
-        return Fault::At(Refusal::InputOrder, place);
+        return Err(Fault {
+            refusal: Refusal::InputOrder,
+            place,
+        });
     }
-    Fault::Clear
+    Ok(())
 }
 
 // The checks by the waiting cells, 7 and 8, of a record that passes 4 and 5.
-pub fn waiting_fault(table: &[u8], place: u32, c: Cell) -> Fault
+pub fn waiting_fault(table: &[u8], place: u32, c: Cell) -> Result<(), Fault>
     requires table { IsTable table.now }
     requires in_ports { InPorts (ports_in table.now) c }
     ensures { result ≡ fault_at place (waiting_fault (cells (state_of table.now)) c) }
 {
     if falling_rank(table, c) {
-        return Fault::At(Refusal::RankOrder, place);
+        return Err(Fault {
+            refusal: Refusal::RankOrder,
+            place,
+        });
     }
     if input_full(table, c) {
-        return Fault::At(Refusal::Full, place);
+        return Err(Fault {
+            refusal: Refusal::Full,
+            place,
+        });
     }
-    Fault::Clear
+    Ok(())
 }
 
 // 4: an input or output is N or more.
@@ -66,13 +78,11 @@ fn no_such_port(table: &[u8], c: Cell) -> bool
     ensures { result ≡ no_such_port (ports_in table.now) c }
 {
     let ports = layout_table::header::ports_of(table);
-    if ports <= c.input as usize {
-        return true;
-    }
-    ports <= c.output as usize
+    ports <= c.input as usize || ports <= c.output as usize
 }
 
 // 5: a flow is above 7.
+#[tactic(auto, unfolding(model::specs::Checks::no_such_flow))]
 fn no_such_flow(c: Cell) -> bool
     ensures { result ≡ no_such_flow c }
 {
@@ -98,10 +108,8 @@ fn falling_rank(table: &[u8], c: Cell) -> bool
     let end = layout_table::header::end_of(table, input);
     let flow = layout_table::entry::flow_word(c);
     let mut falling = false;
-    let mut k = CELLS * input;
-    while k < end {
-        falling = falling | outranked(table, k, c, flow);
-        k += 1;
+    for k in CELLS * input..end {
+        falling |= outranked(table, k, c, flow);
     }
     falling
 }

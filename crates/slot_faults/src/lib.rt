@@ -3,7 +3,7 @@
 
 pub mod checks;
 
-ghost use Rattle.std.specs.Prelude.{◌≡◌, ◌+◌, ◌≤◌, ◌<◌, take};
+ghost use Rattle.std.specs.Prelude.{◌≡◌, ◌+◌, ◌≤◌, ◌<◌, length};
 ghost use Rattle.std.proofs.Math.Option.{Option};
 ghost use Rattle.cell.specs.declared.Cell.{Cell};
 ghost use Rattle.cell.specs.Cell.{accepted};
@@ -15,45 +15,41 @@ ghost use Rattle.slot_faults.specs.CodeFault.{coming, fault_at, fault_by, fault_
 
 use cell::{Arrival, Cell, Fault, Refusal, Switch};
 use checks::check_record;
-use layout::HELD;
 
-// What turns a slot back, of a sound table and the first of the held records: 3, then record by record 4 to 8. The
+// What turns a slot back, of a sound table and no more records than are looked at: 3, then record by record 4 to 8. The
 // first fault is found, with the record's place.
-pub fn first_fault(table: &[u8], records: [Arrival; HELD], many: usize) -> Fault
+pub fn first_fault(table: &[u8], records: &[Arrival]) -> Result<(), Fault>
     requires table { IsTable table.now }
-    requires many_le_held_limit { many ≤ held_limit }
-    ensures { result ≡ fault_in (state_of table.now) (take many records) }
+    requires many_le_held_limit { length records.now ≤ held_limit }
+    ensures { result ≡ fault_in (state_of table.now) records.now }
 {
     if layout_table::header::clock_of(table) == Switch::CLOCK_END {
-        return Fault::At(Refusal::ClockEnd, 0);
+        return Err(Fault {
+            refusal: Refusal::ClockEnd,
+            place: 0,
+        });
     }
-    check_records(table, records, many)
+    check_records(table, records)
 }
 
-// Looks at the first of the held records one by one, up to one that has a fault.
-fn check_records(table: &[u8], records: [Arrival; HELD], many: usize) -> Fault
+// Looks at the records one by one, up to one that has a fault.
+fn check_records(table: &[u8], records: &[Arrival]) -> Result<(), Fault>
     requires table { IsTable table.now }
-    requires many_le_held_limit { many ≤ held_limit }
+    requires many_le_held_limit { length records.now ≤ held_limit }
     ensures { result
         ≡ fault_of (first_fault (state_of table.now).ports (cells (state_of table.now))
-        (coming (state_of table.now) (take many records))) }
+        (coming (state_of table.now) records.now)) }
 {
     let mut turn = 0;
-    let mut n = 0;
-    while n < many {
-        let a = records[n];
-        let fault = check_next(table, turn, n, a);
-        let Fault::Clear = fault else {
-            return fault;
-        };
-        turn = a.input + 1;
-        n += 1;
+    for (n, record) in records.iter().enumerate() {
+        check_next(table, turn, n, *record)?;
+        turn = record.input + 1;
     }
-    Fault::Clear
+    Ok(())
 }
 
 // Looks at the record behind the first n. `turn` is the lowest input whose turn it is.
-fn check_next(table: &[u8], turn: u32, n: usize, a: Arrival) -> Fault
+fn check_next(table: &[u8], turn: u32, n: usize, a: Arrival) -> Result<(), Fault>
     requires table { IsTable table.now }
     requires n_lt_held_limit { n < held_limit }
     ensures { (before : Option Cell) → turn_after before ≡ turn → result
@@ -64,6 +60,7 @@ fn check_next(table: &[u8], turn: u32, n: usize, a: Arrival) -> Fault
 }
 
 // The cell that a record becomes where it is accepted in this slot.
+#[tactic(auto, unfolding(cell::specs::Cell::accepted))]
 pub fn cell_of(a: Arrival, clock: u32) -> Cell
     ensures { result ≡ accepted clock a }
 {
