@@ -22,6 +22,7 @@ use Rattle.laws.specs.Lists.{all?, pairwise, update}
 use Rattle.laws.proofs.Tests.{and_i}
 use Rattle.laws.proofs.Lists.{get_or-mem, all?-append}
 use Rattle.laws.proofs.Pairwise.{pairwise-append-l, pairwise-split}
+use Rattle.cell.specs.Checked.{no_fault}
 use Rattle.cell.specs.declared.Arrival.{Arrival}
 use Rattle.cell.specs.declared.Cell.{Cell}
 use Rattle.cell.specs.declared.Refusal.{Refusal}
@@ -41,7 +42,6 @@ use Rattle.layout.specs.Number.{bytes_of}
 use Rattle.layout.specs.Table.{state_of, encode, decode, IsTable}
 use Rattle.layout.proofs.Number.{below-fits32}
 use Rattle.layout.proofs.Table.{state_of-encode, decode-encode, sound-clock, sound-ports}
-use Rattle.cell.specs.declared.Fault.TheVariants.{Clear}
 use Rattle.layout.specs.Code.{ports_in}
 use Rattle.slot_arrival.specs.CodeArrival.{raised, entered, arrived, Arriving, MayEnter}
 use Rattle.slot_view.proofs.Placed.{decode-ports, decode-count}
@@ -114,7 +114,7 @@ clock-raised table t clock new e w =
 -- the slot of a table
 
 -- the records may come where no fault is found
-pub arriving : (table : List ℕ) (records : List Arrival) → IsTable table → fault_in (state_of table) records ≡ Clear
+pub arriving : (table : List ℕ) (records : List Arrival) → IsTable table → fault_in (state_of table) records ≡ no_fault
     → Arriving table records
 unfolding fits32
 arriving table records t clear =
