@@ -1,8 +1,8 @@
 -- The best crosspoint cell of an output by its row of keys.
 --     leading-keys             the least keys are those of the cells whose numbers are held
 --     leading-bests            and these cells are the best
---     leading-none, .., -more  output by output
-use Prim.Native.Nat.{ℕ, ◌+◌, ◌%◌, ◌<◌, ◌≤◌, ◌^◌, min}
+--     leading-more             output by output
+use Prim.Native.Nat.{ℕ, ◌+◌, ◌%◌, ◌<◌, ◌≤◌, ◌^◌}
 use native.Mathlib.Nat.{min-eq_left, min-eq_right}
 use native.Mathlib.Omega.{arith}
 use mathlib.Core.Bool.{true}
@@ -181,13 +181,6 @@ module _ (table : List ℕ) (r : Readable table) (bytes : bytes? table ≡ true)
 -- output by output
 
 module _ (ports : ℕ) (cross keys : List (List ℕ)) where
-  pub leading-none : {numbers least : List ℕ} → length numbers ≡ 16 → LeadingTo ports cross keys 0 numbers least
-  leading-none b = record { best-size = b; each = λ o h. absurd (omega arith) }
-
-  pub leading-to : {m n : ℕ} {numbers least : List ℕ} → m ≡ n → LeadingTo ports cross keys m numbers least
-      → LeadingTo ports cross keys n numbers least
-  leading-to {numbers = numbers} {least = least} e w = subst (λ n. LeadingTo ports cross keys n numbers least) e w
-
   pub leading-more : (n number : ℕ) {numbers least : List ℕ} → n < 16 → Leading ports cross keys n number (get_or least n 0)
       → LeadingTo ports cross keys n numbers least → LeadingTo ports cross keys (n + 1) (set numbers n number) least
   leading-more n number {numbers} {least} l f w =
@@ -197,10 +190,3 @@ module _ (ports : ℕ) (cross keys : List (List ℕ)) where
         each = set_both (λ o x y. Leading ports cross keys o x (get_or least o 0)) numbers numbers n number number inside inside
             w.each f;
       }
-
-------------------------------------------------------------------------
--- the smaller of a number and none, as a branch finds it
-
-pub smaller-came : {x n : ℕ} → ((x < nowhere) × (n ≡ x)) ⊎ ((nowhere ≤ x) × (n ≡ nowhere)) → n ≡ min x nowhere
-smaller-came (inl (some, e)) = e ∙ sym (min-eq_left (omega (arith, some)))
-smaller-came (inr (none, e)) = e ∙ sym (min-eq_right none)

@@ -2,7 +2,7 @@
 --     least-all                     the least of a row, part by part
 --     round-came                    the member of a set that comes first in a round
 --     inputs-some, leads            some input has the least key, and which of them leads
---     least-none, .., least_more    output by output
+--     least_more                    output by output
 use Prim.Native.Nat.{ℕ, ◌+◌, ◌%◌, ◌^◌, ◌<◌, ◌≤◌, min}
 use native.Mathlib.Nat.{min-eq_left, min-eq_right, zero-add, mod-lt}
 use native.Mathlib.Omega.{arith}
@@ -12,7 +12,7 @@ use mathlib.Core.Logic.{◌⊎◌, inl, inr, ◌≢◌}
 use mathlib.Core.List.{List, []}
 use borrow.Author.Tests.{ltb-true, ltb-false, eqb-true, lt-ltb, le-ltb, eq-eqb}
 use lib.Dec.{ltb, eqb}
-use lib.ListN.{length, get_or, set, length-set}
+use lib.ListN.{get_or, set, length-set}
 use Rattle.laws.proofs.Compared.{Compared, below, equal, above, compare}
 use Rattle.laws.proofs.Tests.{clash, by-fail, and_i, and_l, and_r, not-false-i}
 use Rattle.sets.specs.Sets.{positions, has, first_of}
@@ -211,12 +211,6 @@ module _ (ports : ℕ) (row : List ℕ) {key inputs start : ℕ} (least : key �
 -- output by output
 
 module _ (keys : List (List ℕ)) where
-  pub least-none : {least holders : List ℕ} → length least ≡ 16 → length holders ≡ 16 → LeastTo keys 0 least holders
-  least-none l h = record { least_size = l; holders-size = h; each = λ o b. absurd (omega arith) }
-
-  pub least-to : {m n : ℕ} {least holders : List ℕ} → m ≡ n → LeastTo keys m least holders → LeastTo keys n least holders
-  least-to {least = least} {holders = holders} e w = subst (λ n. LeastTo keys n least holders) e w
-
   pub least_more : (n key inputs : ℕ) {least holders : List ℕ} → n < 16 → key ≡ least_of (get_or keys n [])
       → inputs ≡ holders_of (get_or keys n []) key → LeastTo keys n least holders
       → LeastTo keys (n + 1) (set least n key) (set holders n inputs)

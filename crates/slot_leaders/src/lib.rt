@@ -2,7 +2,7 @@
 // of the cells at the crosspoints; where two have one key, the round of its slot decides between their inputs.
 #![tactic(auto)]
 
-ghost use Rattle.std.specs.Prelude.{◌≡◌, [], ◌+◌, ◌≤◌, ◌<◌, min, length, get_or};
+ghost use Rattle.std.specs.Prelude.{◌≡◌, [], ◌+◌, ◌≤◌, ◌<◌, length, get_or};
 ghost use Rattle.sets.specs.Sets.{positions};
 ghost use Rattle.cell.specs.Limits.{port_limit};
 ghost use Rattle.slot_leaders.specs.CodeKeys.{least_of_four, least_of, holders_of, LeastTo, FirstInRound, LeadingTo};
@@ -26,13 +26,10 @@ pub fn best_of_each(
 {
     let mut holders = [0; PORTS];
     least_of_each(keys, least, &mut holders);
-    let mut output = 0;
-    while output < PORTS {
+    for output in 0..PORTS {
         let slot = (least[output] % 4294967296) as u32;
         let input = first_in_round(holders[output], cell::first_in_turn(ports, slot) as usize);
-        let number = cross[input][output];
-        best[output] = if number < NOWHERE { number } else { NOWHERE };
-        output += 1;
+        best[output] = cross[input][output].min(NOWHERE);
     }
 }
 
@@ -41,12 +38,10 @@ fn least_of_each(keys: &[[u64; PORTS]; PORTS], least: &mut [u64; PORTS], holders
     requires { (length least.old ≡ port_limit) × (length holders.old ≡ port_limit) }
     ensures { LeastTo keys.now port_limit least.new holders.new }
 {
-    let mut output = 0;
-    while output < PORTS {
+    for output in 0..PORTS {
         let key = least_key(keys, output);
         least[output] = key;
         holders[output] = holders_of(keys, output, key);
-        output += 1;
     }
 }
 
@@ -59,7 +54,7 @@ fn least_key(keys: &[[u64; PORTS]; PORTS], output: usize) -> u64
     let b = least_of_four(keys, output, 4);
     let c = least_of_four(keys, output, 8);
     let d = least_of_four(keys, output, 12);
-    lesser(lesser(a, b), lesser(c, d))
+    a.min(b).min(c.min(d))
 }
 
 // The least of the keys of an output from an input on.
@@ -67,16 +62,10 @@ fn least_of_four(keys: &[[u64; PORTS]; PORTS], output: usize, from: usize) -> u6
     requires { (output < port_limit) × (from + 4 ≤ port_limit) }
     ensures { result ≡ least_of_four (get_or keys.now output []) from }
 {
-    lesser(
-        lesser(keys[output][from], keys[output][from + 1]),
-        lesser(keys[output][from + 2], keys[output][from + 3]),
-    )
-}
-
-fn lesser(a: u64, b: u64) -> u64
-    ensures { result ≡ min a b }
-{
-    if a < b { a } else { b }
+    let row = &keys[output];
+    row[from]
+        .min(row[from + 1])
+        .min(row[from + 2].min(row[from + 3]))
 }
 
 // The inputs with a key at an output, as a set.
@@ -85,9 +74,7 @@ fn holders_of(keys: &[[u64; PORTS]; PORTS], output: usize, key: u64) -> u64
     ensures { result ≡ holders_of (get_or keys.now output []) key }
 {
     let mut holders = 0;
-    let mut input = PORTS;
-    while 0 < input {
-        input -= 1;
+    for input in (0..PORTS).rev() {
         holders = sets::push(holders, keys[output][input] == key);
     }
     holders
