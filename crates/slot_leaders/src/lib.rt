@@ -2,7 +2,7 @@
 // of the cells at the crosspoints; where two have one key, the round of its slot decides between their inputs.
 #![tactic(auto)]
 
-ghost use Rattle.std.specs.Prelude.{◌≡◌, [], ◌+◌, ◌≤◌, ◌<◌, length, get_or};
+ghost use Rattle.std.specs.Prelude.{◌≡◌, ◌+◌, ◌≤◌, ◌<◌, length};
 ghost use Rattle.sets.specs.Sets.{positions};
 ghost use Rattle.cell.specs.Limits.{port_limit};
 ghost use Rattle.slot_leaders.specs.CodeKeys.{least_of_four, least_of, holders_of, LeastTo, FirstInRound, LeadingTo};
@@ -39,43 +39,41 @@ fn least_of_each(keys: &[[u64; PORTS]; PORTS], least: &mut [u64; PORTS], holders
     ensures { LeastTo keys.now port_limit least.new holders.new }
 {
     for output in 0..PORTS {
-        let key = least_key(keys, output);
+        let row = &keys[output];
+        let key = least_key(row);
         least[output] = key;
-        holders[output] = holders_of(keys, output, key);
+        holders[output] = holders_of(row, key);
     }
 }
 
-// The least key of an output. A tree of minima is made without branches, and a longer chain is not.
-fn least_key(keys: &[[u64; PORTS]; PORTS], output: usize) -> u64
-    requires { output < port_limit }
-    ensures { result ≡ least_of (get_or keys.now output []) }
+// The least key of an output, by its row. A tree of minima is made without branches, and a longer chain is not.
+fn least_key(row: &[u64; PORTS]) -> u64
+    ensures { result ≡ least_of row.now }
 {
-    let a = least_of_four(keys, output, 0);
-    let b = least_of_four(keys, output, 4);
-    let c = least_of_four(keys, output, 8);
-    let d = least_of_four(keys, output, 12);
+    let a = least_of_four(row, 0);
+    let b = least_of_four(row, 4);
+    let c = least_of_four(row, 8);
+    let d = least_of_four(row, 12);
     a.min(b).min(c.min(d))
 }
 
-// The least of the keys of an output from an input on.
-fn least_of_four(keys: &[[u64; PORTS]; PORTS], output: usize, from: usize) -> u64
-    requires { (output < port_limit) × (from + 4 ≤ port_limit) }
-    ensures { result ≡ least_of_four (get_or keys.now output []) from }
+// The least of four keys of a row.
+fn least_of_four(row: &[u64; PORTS], from: usize) -> u64
+    requires { from + 4 ≤ port_limit }
+    ensures { result ≡ least_of_four row.now from }
 {
-    let row = &keys[output];
-    row[from]
-        .min(row[from + 1])
-        .min(row[from + 2].min(row[from + 3]))
+    let first = row[from].min(row[from + 1]);
+    let second = row[from + 2].min(row[from + 3]);
+    first.min(second)
 }
 
-// The inputs with a key at an output, as a set.
-fn holders_of(keys: &[[u64; PORTS]; PORTS], output: usize, key: u64) -> u64
-    requires { output < port_limit }
-    ensures { result ≡ holders_of (get_or keys.now output []) key }
+// The inputs with a key in a row, as a set.
+fn holders_of(row: &[u64; PORTS], key: u64) -> u64
+    ensures { result ≡ holders_of row.now key }
 {
     let mut holders = 0;
     for input in (0..PORTS).rev() {
-        holders = sets::push(holders, keys[output][input] == key);
+        holders = sets::push(holders, row[input] == key);
     }
     holders
 }
