@@ -63,13 +63,6 @@ module _ (listed scheduled urgent : ℕ) where
     entered-first e = rw (lt-leb nowhere scheduled h, eq-eqb (first_of listed) (scheduled % section_room) e)
 
 module _ (listed scheduled old : List ℕ) where
-  pub entered-start : length old ≡ 16 → Entered listed scheduled old 0 old
-  entered-start size = record { size = size; done = λ i l. absurd (omega arith); later = λ i l. refl }
-
-  pub entered-to : {m n : ℕ} {new : List ℕ} → m ≡ n → Entered listed scheduled old m new
-      → Entered listed scheduled old n new
-  entered-to {new = new} e w = subst (λ n. Entered listed scheduled old n new) e w
-
   pub entered-more : (n v : ℕ) {new : List ℕ} → n < 16
       → v ≡ entered (get_or listed n 0) (get_or scheduled n 0) (get_or new n 0) → Entered listed scheduled old n new
       → Entered listed scheduled old (n + 1) (set new n v)

@@ -18,6 +18,14 @@ use layout::{CELLS, PORTS};
 use layout_table::priority::NOWHERE;
 use slot_view::{Choice, NO_KEY};
 
+// What leads at the crosspoints: the keys of the cells there, and the best cell of each output with its key.
+#[derive(Clone, Copy)]
+struct Leaders<'a> {
+    keys: &'a [[u64; PORTS]; PORTS],
+    best: &'a [u16; PORTS],
+    least: &'a [u64; PORTS],
+}
+
 // What the walk finds: the number of the scheduled cell, 1,024 where there is none, and the positions of the urgent
 // cells.
 #[derive(Clone, Copy)]
@@ -50,17 +58,14 @@ pub fn choose(
         &mut best,
         &mut least,
     );
+    let leaders = Leaders {
+        keys,
+        best: &best,
+        least: &least,
+    };
     let mut scheduled = [NOWHERE; PORTS];
     let mut candidates = [0; PORTS];
-    let urgent = scan_each(
-        table,
-        heads,
-        keys,
-        &best,
-        &least,
-        &mut scheduled,
-        &mut candidates,
-    );
+    let urgent = scan_each(table, heads, leaders, &mut scheduled, &mut candidates);
     if urgent {
         enter_scheduled(listed, &scheduled, &mut candidates);
     }
@@ -76,27 +81,22 @@ pub fn choose(
 fn scan_each(
     table: &[u8],
     heads: &[u64; PORTS],
-    keys: &[[u64; PORTS]; PORTS],
-    best: &[u16; PORTS],
-    least: &[u64; PORTS],
+    leaders: Leaders,
     scheduled: &mut [u16; PORTS],
     urgent: &mut [u64; PORTS],
 ) -> bool
-    requires best_known { BestKnown table.now keys.now best.now least.now }
+    requires best_known { BestKnown table.now leaders.keys.now leaders.best.now leaders.least.now }
     requires by_index { (input : ℕ) → input < port_limit → get_or heads.now input 0
         ≡ head_set table.now (places_in table.now) input }
     requires scheduled_value { (scheduled.old ≡ replicate port_limit nowhere) × (urgent.old ≡ replicate port_limit 0) }
     ensures { ScannedAll table.now scheduled.new urgent.new result }
 {
     let mut some = false;
-    let ports = layout_table::header::ports_of(table);
-    let mut input = 0;
-    while input < ports {
-        let found = scan(table, heads[input], keys, best, least, input);
+    for input in 0..layout_table::header::ports_of(table) {
+        let found = scan(table, heads[input], leaders, input);
         scheduled[input] = found.scheduled;
         urgent[input] = found.urgent;
-        some = some | (found.urgent != 0);
-        input += 1;
+        some |= found.urgent != 0;
     }
     some
 }
@@ -104,15 +104,8 @@ fn scan_each(
 // Rules 1 to 3 for an input, along the heads of its list. The first whose crosspoint is empty is scheduled; up to there
 // a head is asked with none, since it stands before the one to come, and from there on with that. Nothing branches on
 // which heads are urgent, as that would be guessed badly.
-fn scan(
-    table: &[u8],
-    heads: u64,
-    keys: &[[u64; PORTS]; PORTS],
-    best: &[u16; PORTS],
-    least: &[u64; PORTS],
-    input: usize,
-) -> Found
-    requires best_known { BestKnown table.now keys.now best.now least.now }
+fn scan(table: &[u8], heads: u64, leaders: Leaders, input: usize) -> Found
+    requires best_known { BestKnown table.now leaders.keys.now leaders.best.now leaders.least.now }
     requires input_bound { (input < ports_in table.now) × (heads ≡ head_set table.now (places_in table.now) input) }
     ensures { Scanned table.now input result.scheduled result.urgent }
 {
@@ -120,18 +113,18 @@ fn scan(
     let mut left = heads;
     while left != 0 {
         let position = sets::first(left);
-        if is_ready(table, keys, input, position) {
+        if is_ready(table, leaders.keys, input, position) {
             break;
         }
         left = sets::rest(left);
-        let member = is_urgent(table, keys, best, least, input, position, CELLS);
+        let member = is_urgent(table, leaders, input, position, CELLS);
         urgent = sets::with_if(urgent, position, member);
     }
     let scheduled = sets::first(left);
     while left != 0 {
         let position = sets::first(left);
         left = sets::rest(left);
-        let member = is_urgent(table, keys, best, least, input, position, scheduled);
+        let member = is_urgent(table, leaders, input, position, scheduled);
         urgent = sets::with_if(urgent, position, member);
     }
     Found {
@@ -160,14 +153,12 @@ fn is_ready(table: &[u8], keys: &[[u64; PORTS]; PORTS], input: usize, position: 
 // would be guessed badly.
 fn is_urgent(
     table: &[u8],
-    keys: &[[u64; PORTS]; PORTS],
-    best: &[u16; PORTS],
-    least: &[u64; PORTS],
+    leaders: Leaders,
     input: usize,
     position: usize,
     scheduled: usize,
 ) -> bool
-    requires best_known { BestKnown table.now keys.now best.now least.now }
+    requires best_known { BestKnown table.now leaders.keys.now leaders.best.now leaders.least.now }
     requires cell_at { CellAt table.now input position }
     ensures { result ≡ is_urgent (ports_in table.now) (crosspoints (waiting_in table.now))
         (scheduled_at table.now input scheduled) (cell_at table.now input position) }
@@ -176,17 +167,18 @@ fn is_urgent(
     let output = layout_table::entry::output_of(table, k) as usize;
     let key = layout_table::entry::key_of(table, k);
     // Whether it is blocked: its crosspoint holds a cell of lower output priority. Of one input the keys decide.
-    let held = keys[output][input];
+    let held = leaders.keys[output][input];
     let blocked = (key < held) & (held != NO_KEY);
     // Its place: before the scheduled cell.
     if position >= scheduled {
         return false;
     }
     // The crosspoints of its output: over every cell there, so over the best.
-    let rival = least[output];
+    let rival = leaders.least[output];
     if key == rival {
-        return blocked
-            & layout_table::priority::goes_first(table, key, k, rival, best[output] as usize);
+        let best = leaders.best[output] as usize;
+        let first = layout_table::priority::goes_first(table, key, k, rival, best);
+        return blocked & first;
     }
     blocked & (key < rival)
 }
@@ -197,10 +189,8 @@ fn enter_scheduled(listed: &[u64; PORTS], scheduled: &[u16; PORTS], candidates: 
     ensures { Entered listed.now scheduled.now candidates.old port_limit
         candidates.new }
 {
-    let mut input = 0;
-    while input < PORTS {
+    for input in 0..PORTS {
         candidates[input] = enter(listed[input], scheduled[input], candidates[input]);
-        input += 1;
     }
 }
 
