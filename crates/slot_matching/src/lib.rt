@@ -30,14 +30,12 @@ pub fn find_matching(table: &[u8], candidates: [u64; PORTS]) -> Matched
     let mut left = candidates;
     let mut held = [NOWHERE; PORTS];
     let mut proposals: u32 = 0;
-    let mut input = 0;
-    while input < PORTS {
+    for input in 0..PORTS {
         let mut asked = next_in(left[input], input);
         while asked < NOWHERE {
             asked = propose(table, &mut left, &mut held, asked);
             proposals += 1;
         }
-        input += 1;
     }
     Matched { held, proposals }
 }
