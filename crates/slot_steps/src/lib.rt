@@ -19,18 +19,17 @@ use layout_table::priority::{NOWHERE, better};
 use slot_view::NO_KEY;
 
 // The cell that goes straight to an output: the match that it holds, unless that is the scheduled cell of its input.
+#[tactic(auto, unfolding(crate::specs::CodeSteps::straight_to))]
 pub fn straight_number(scheduled: &[u16; PORTS], held: &[u16; PORTS], output: usize) -> u16
     requires { output < port_limit }
     ensures { result ≡ straight_to scheduled.now held.now output }
 {
     let number = held[output];
-    if number >= NOWHERE {
-        return NOWHERE;
+    if number >= NOWHERE || number == scheduled[number as usize / CELLS] {
+        NOWHERE
+    } else {
+        number
     }
-    if number == scheduled[number as usize / CELLS] {
-        return NOWHERE;
-    }
-    number
 }
 
 // A straight cell goes to the buffer of its output, and its ports are marked.
@@ -64,14 +63,16 @@ pub fn straight_to(
 }
 
 // The cell that an input sends: its scheduled cell, unless one of its cells went straight.
+#[tactic(auto, unfolding(crate::specs::CodeSteps::send_of))]
 pub fn send_number(scheduled: &[u16; PORTS], straight: &[bool; PORTS], input: usize) -> u16
     requires { input < port_limit }
     ensures { result ≡ send_of straight.now scheduled.now input }
 {
     if straight[input] {
-        return NOWHERE;
+        NOWHERE
+    } else {
+        scheduled[input]
     }
-    scheduled[input]
 }
 
 // A cell goes to its crosspoint.
@@ -105,14 +106,16 @@ pub fn send(
 }
 
 // The cell that an output takes: the best at its crosspoints, unless a straight cell came to it.
+#[tactic(auto, unfolding(crate::specs::CodeSteps::take_of))]
 pub fn pull_number(crossed: &[u16; PORTS], straight: &[bool; PORTS], output: usize) -> u16
     requires { output < port_limit }
     ensures { result ≡ take_of straight.now crossed.now output }
 {
     if straight[output] {
-        return NOWHERE;
+        NOWHERE
+    } else {
+        crossed[output]
     }
-    crossed[output]
 }
 
 // A cell goes from its crosspoint to the buffer of its output.
@@ -141,6 +144,7 @@ pub fn pull(
 }
 
 // What stands at a crosspoint, and its key.
+#[tactic(auto, unfolding(slot_view::specs::CodeView::cross_with))]
 fn fill(
     cross: &mut [[u16; PORTS]; PORTS],
     keys: &mut [[u64; PORTS]; PORTS],
@@ -158,6 +162,7 @@ fn fill(
 }
 
 // A cell is the best of its output, unless the one so far is better.
+#[tactic(auto, unfolding(crate::specs::CodeSteps::entered))]
 fn enter(table: &[u8], best: &mut [u16; PORTS], number: u16)
     requires table_len { (length table.now ≡ table_size) × (length best.old ≡ port_limit) × (number < nowhere) }
     requires number_bound { (entry_at table.now number).cell.output < port_limit }
@@ -168,6 +173,7 @@ fn enter(table: &[u8], best: &mut [u16; PORTS], number: u16)
 }
 
 // A head leaves the list of its input.
+#[tactic(auto, unfolding(crate::specs::CodeSteps::left, crate::specs::CodeSteps::left_heads))]
 fn leave_list(table: &[u8], listed: &mut [u64; PORTS], heads: &mut [u64; PORTS], k: usize)
     requires { (length table.now ≡ table_size) × (length listed.old ≡ port_limit) × (length heads.old ≡ port_limit)
         × (k < entry_limit) }
