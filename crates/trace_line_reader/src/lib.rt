@@ -25,23 +25,20 @@ pub fn read_line(text: &[u8], key: Key) -> Line
 {
     let mark = key_text(key);
     // a line has more behind its key; with this test first the compiler drops those of starts_with and read_number
-    if text.len() <= mark.1 {
+    if text.len() <= mark.len() {
         return Line::Bad;
     }
     if !begins(text, key) {
         return Line::Bad;
     }
-    read_number(text, mark.1)
+    read_number(text, mark.len())
 }
 
 // Whether the text begins with this key and `=`.
 pub fn begins(text: &[u8], key: Key) -> bool
     ensures { result ≡ begins key (from 0 text.now) }
 {
-    let mark = key_text(key);
-    let bytes = mark.0;
-    let size = mark.1;
-    starts_with(text, &bytes[..size])
+    starts_with(text, key_text(key))
 }
 
 // Whether the text begins with these very bytes.

@@ -54,8 +54,7 @@ pub fn put_refusal(out: &mut [u8], at: usize, refusal: Refusal, fault: usize) ->
 pub fn line_length(key: Key, n: usize) -> usize
     ensures { result ≡ length (line key n) }
 {
-    let text = key_text(key);
-    text.1 + digits(n) + 1
+    key_text(key).len() + digits(n) + 1
 }
 
 // The lines of a cell: its ports and its fields.
@@ -149,10 +148,7 @@ fn write_key(out: &mut [u8], end: usize, key: Key) -> usize
     requires { Room (key_text key) end (length out.old) }
     ensures { Written out.old end (key_text key) out.new result }
 {
-    let text = key_text(key);
-    let bytes = text.0;
-    let size = text.1;
-    write_text(out, end, &bytes[..size])
+    write_text(out, end, key_text(key))
 }
 
 // Any text.
