@@ -15,8 +15,9 @@ ghost use Rattle.slot_faults.specs.CodeFault.{section_in};
 ghost use Rattle.slot_arrival.specs.CodeArrival.{raised, entered, MayEnter, enter_place, moved_up, opened_with};
 
 use cell::{Arrival, Cell};
-use layout::{CELLS, PORTS};
+use layout::CELLS;
 use slot_faults::cell_of;
+use slot_view::Sets;
 
 // The clock moves on by one, before a cell of the slot enters: so the table is sound whenever one has.
 pub fn raise_clock(table: &mut [u8])
@@ -30,25 +31,17 @@ pub fn raise_clock(table: &mut [u8])
 
 // Lets the cell of a record enter the list of its input, which has room for it. The clock has risen: the cell's slot is
 // the one before. The sets of the table's cells by place follow it.
-pub fn arrive(
-    table: &mut [u8],
-    listed: &mut [u64; PORTS],
-    heads: &mut [u64; PORTS],
-    crossed: &mut [u64; PORTS],
-    buffered: &mut [u64; PORTS],
-    a: Arrival,
-)
+pub fn arrive(table: &mut [u8], sets: &mut Sets, a: Arrival)
     requires may_enter { MayEnter a table.old }
-    requires sets_of { SetsOf table.old (places_in table.old) listed.old heads.old crossed.old buffered.old }
+    requires sets_of { SetsOf table.old (places_in table.old) sets.old.listed sets.old.heads sets.old.crossed sets.old.buffered }
     ensures table_after { table.new
         ≡ encode (entered (accepted (clock_in table.old - 1) a) (state_of table.old)) }
-    ensures sets_of_2 { SetsOf table.new (places_in table.new) listed.new heads.new
-        crossed.new buffered.new }
+    ensures sets_of_2 { SetsOf table.new (places_in table.new) sets.new.listed sets.new.heads sets.new.crossed sets.new.buffered }
 {
     let clock = layout_table::header::clock_of(table);
     let at = enter(table, cell_of(a, clock - 1));
     let input = a.input as usize;
-    open_sets(listed, heads, crossed, buffered, input, at - CELLS * input);
+    open_sets(sets, input, at - CELLS * input);
 }
 
 // Lets a cell enter the list of its input, which has room for it. Gives the number of its entry.
@@ -70,26 +63,23 @@ fn enter(table: &mut [u8], c: Cell) -> usize
 
 // The sets of an input when a listed cell has come to a position: the cells from there on stand one later. It is a
 // head if it comes to the front.
-fn open_sets(
-    listed: &mut [u64; PORTS],
-    heads: &mut [u64; PORTS],
-    crossed: &mut [u64; PORTS],
-    buffered: &mut [u64; PORTS],
-    input: usize,
-    position: usize,
-)
+fn open_sets(sets: &mut Sets, input: usize, position: usize)
     requires input_lt_port_limit { (input < port_limit) × (position < section_room) }
-    requires input_bound { (get_or listed.old input 0 < 2 ^ 63) × (get_or heads.old input 0 < 2 ^ 63)
-        × (get_or crossed.old input 0 < 2 ^ 63) × (get_or buffered.old input 0 < 2 ^ 63) }
-    ensures listed_after { listed.new ≡ opened_with true listed.old input position }
-    ensures heads_after { heads.new ≡ opened_with (eqb position 0) heads.old input position }
-    ensures crossed_after { crossed.new ≡ opened_with false crossed.old input position }
-    ensures buffered_after { buffered.new ≡ opened_with false buffered.old input position }
+    requires input_bound { (get_or sets.old.listed input 0 < 2 ^ 63) × (get_or sets.old.heads input 0 < 2 ^ 63)
+        × (get_or sets.old.crossed input 0 < 2 ^ 63) × (get_or sets.old.buffered input 0 < 2 ^ 63) }
+    ensures listed_after { sets.new.listed ≡ opened_with true sets.old.listed input position }
+    ensures heads_after { sets.new.heads ≡ opened_with (eqb position 0) sets.old.heads input position }
+    ensures crossed_after { sets.new.crossed ≡ opened_with false sets.old.crossed input position }
+    ensures buffered_after { sets.new.buffered ≡ opened_with false sets.old.buffered input position }
 {
-    listed[input] = sets::with(sets::open(listed[input], position), position);
-    heads[input] = sets::with_if(sets::open(heads[input], position), position, position == 0);
-    crossed[input] = sets::open(crossed[input], position);
-    buffered[input] = sets::open(buffered[input], position);
+    sets.listed[input] = sets::with(sets::open(sets.listed[input], position), position);
+    sets.heads[input] = sets::with_if(
+        sets::open(sets.heads[input], position),
+        position,
+        position == 0,
+    );
+    sets.crossed[input] = sets::open(sets.crossed[input], position);
+    sets.buffered[input] = sets::open(sets.buffered[input], position);
 }
 
 // The number that a new cell gets: it stands right after the last cell of its flow in the list, or in front if the

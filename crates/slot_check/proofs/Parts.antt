@@ -16,7 +16,7 @@ use Rattle.laws.proofs.Numbers.{length-numbers_from}
 use Rattle.cell.specs.Limits.{section_room, port_limit}
 use Rattle.model.specs.State.{Entry, is_listed}
 use Rattle.model.proofs.Shapes.{append-split}
-use Rattle.model.specs.Sound.{sound_entry, sound_section, sound_sections, sound, together, other_slot, other_crosspoint}
+use Rattle.model.specs.Sound.{sound_entry, sound_section, sound_sections, together, other_slot, other_crosspoint}
 use Rattle.layout.specs.Number.{bytes_of, same_bytes}
 use Rattle.layout.specs.Table.{header_size, entry_size, section_size, table_size, entry_bytes, entries_bytes, section_bytes, sections_bytes, counts_bytes}
 use Rattle.layout.specs.Entry.{entry_at, count_in}

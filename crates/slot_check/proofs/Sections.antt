@@ -110,8 +110,8 @@ pub record Found (bs : List ℕ) (first end low high : ℕ) : Type 0 where
 
 module _ (ports clock : ℕ) (bs : List ℕ) (bytes : bytes? bs ≡ true) (size : length bs ≡ table_size)
     (ports-few : ports ≤ port_limit) (first end : ℕ) (room : first + section_room ≤ entry_limit) (start : first ≤ end)
-    (few : end ≤ first + section_room) (good again : Bool) (low high : ℕ)
-    (w : Collected ports clock bs first end good again low high) (t : good ≡ true) where
+    (few : end ≤ first + section_room) (again : Bool) (low high : ℕ) (w : Collected bs first end again low high)
+    (entries : all? (is_entry ports clock bs) (between first end) ≡ true) where
   abbrev run : List Entry
   run = entries_between bs first end
 
@@ -120,9 +120,6 @@ module _ (ports clock : ℕ) (bs : List ℕ) (bytes : bytes? bs ≡ true) (size 
 
   whole : first + n ≡ end
   whole = omega arith
-
-  entries : all? (is_entry ports clock bs) (between first end) ≡ true
-  entries = sym w.entries ∙ t
 
   places : (j : ℕ) → j < n → (1 ≤ place_byte_at bs (first + j)) × (place_byte_at bs (first + j) ≤ 3)
   places j h =
@@ -138,13 +135,13 @@ module _ (ports clock : ℕ) (bs : List ℕ) (bytes : bytes? bs ≡ true) (size 
   kept-range p = all?-i in_range (keep p run) (λ e m. all?-e in_range ranges (mem-keep-in p run m))
 
   listed_of : minus low high ≡ set_from (λ k. is_listed (entry_at bs k).place) first n
-  listed_of = ap₂ minus (w.lows t) (w.highs t) ∙ listed-set bs first n (omega arith) places
+  listed_of = ap₂ minus w.lows w.highs ∙ listed-set bs first n (omega arith) places
 
   crossed-of : minus high low ≡ set_from (λ k. is_crossed (entry_at bs k).place) first n
-  crossed-of = ap₂ minus (w.highs t) (w.lows t) ∙ crossed-set bs first n (omega arith) places
+  crossed-of = ap₂ minus w.highs w.lows ∙ crossed-set bs first n (omega arith) places
 
   buffered-of : both low high ≡ set_from (λ k. is_buffered (entry_at bs k).place) first n
-  buffered-of = ap₂ both (w.lows t) (w.highs t) ∙ buffered-set bs first n (omega arith) places
+  buffered-of = ap₂ both w.lows w.highs ∙ buffered-set bs first n (omega arith) places
 
   listed-run : entries_in bs first (minus low high) ≡ keep (λ e. is_listed e.place) run
   listed-run =

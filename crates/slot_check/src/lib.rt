@@ -1,10 +1,10 @@
 // Whether bytes are a table: those of one sound state (scope 5.1). The header first, then input by
 // input the count, the unused records, the entries in one pass, and what is asked of the entries together. The
 // questions on a section's records are those of `slot_section`; the slots that may be the same are compared here. The
-// sets of positions that the check makes of a section are handed on.
+// sets of positions that the check makes of the sections are handed on.
 #![tactic(auto)]
 
-ghost use Rattle.std.specs.Prelude.{true, false, not, ◌||◌, ◌≡◌, ◌+◌, ◌-◌, ◌*◌, ◌/◌, ◌%◌, ◌<◌, ◌≤◌, length};
+ghost use Rattle.std.specs.Prelude.{not, ◌||◌, is_some, ◌≡◌, ◌+◌, ◌-◌, ◌*◌, ◌/◌, ◌%◌, ◌<◌, ◌≤◌, length, IfSome};
 ghost use Rattle.laws.specs.Lists.{some?, all?, pairwise, between};
 ghost use Rattle.cell.specs.Limits.{port_limit, section_room};
 ghost use Rattle.model.specs.Sound.{other_slot};
@@ -19,10 +19,18 @@ use cell::Switch;
 use layout::{CELLS, PORTS, TABLE_BYTES, word};
 use layout_table::{entry, header};
 
-// Whether a section is sound; and if it is, its cells by their places, as sets of positions, and the heads of its list.
+// The cells of each input by their places, as sets of positions, and the heads of its list.
+#[derive(Clone, Copy)]
+pub struct Sets {
+    pub listed: [u64; PORTS],
+    pub heads: [u64; PORTS],
+    pub crossed: [u64; PORTS],
+    pub buffered: [u64; PORTS],
+}
+
+// The same of one input.
 #[derive(Clone, Copy)]
 struct Sorted {
-    sound: bool,
     listed: u64,
     heads: u64,
     crossed: u64,
@@ -33,105 +41,79 @@ struct Sorted {
 pub fn is_table(bytes: &[u8]) -> bool
     ensures { result ≡ is_table bytes.now }
 {
-    let mut listed = [0u64; PORTS];
-    let mut heads = [0u64; PORTS];
-    let mut crossed = [0u64; PORTS];
-    let mut buffered = [0u64; PORTS];
-    sort_table(bytes, &mut listed, &mut heads, &mut crossed, &mut buffered)
+    sort_table(bytes).is_some()
 }
 
-// Whether the bytes are a table; and if they are, the cells of each input by their places, as sets of positions, and
-// the heads of its list.
-pub fn sort_table(
-    bytes: &[u8],
-    listed: &mut [u64; PORTS],
-    heads: &mut [u64; PORTS],
-    crossed: &mut [u64; PORTS],
-    buffered: &mut [u64; PORTS],
-) -> bool
-    ensures value { result ≡ is_table bytes.now }
-    ensures handed { is_table bytes.now ≡ true → Handed bytes.now listed.new
-        heads.new crossed.new buffered.new }
+// The cells of a table by their places; `None` if the bytes are no table.
+pub fn sort_table(bytes: &[u8]) -> Option<Sets>
+    ensures value { is_some result ≡ is_table bytes.now }
+    ensures handed { IfSome result (λ s. Handed bytes.now s.listed s.heads s.crossed s.buffered) }
 {
     if bytes.len() != TABLE_BYTES {
-        return false;
+        return None;
     }
     if word::read_u32(bytes, header::LAYOUT_AT) != header::LAYOUT {
-        return false;
+        return None;
     }
     let ports = word::read_u32(bytes, header::PORTS_AT);
     if !Switch::ports_in_range(ports) {
-        return false;
+        return None;
     }
     if word::read_u32(bytes, header::ZEROS_AT) != 0 {
-        return false;
+        return None;
     }
-    are_sections(
-        bytes,
-        ports,
-        header::clock_of(bytes),
-        listed,
-        heads,
-        crossed,
-        buffered,
-    )
+    sort_sections(bytes, ports, header::clock_of(bytes))
 }
 
-// Whether each of the sixteen sections is one of a table, and the sets of each. The marks serve all of them: each pass
-// over a section has a greater mark of its own, so they are cleared once.
-fn are_sections(
+// The sets of the sixteen sections; `None` unless each is one of a table. The marks serve all of them: each pass over a
+// section has a greater mark of its own, so they are cleared once.
+fn sort_sections(bytes: &[u8], ports: u32, clock: u32) -> Option<Sets>
+    requires { (length bytes.now ≡ table_size) × (ports ≤ port_limit) }
+    ensures value { is_some result ≡ all? (is_section ports clock bytes.now) (between 0 port_limit) }
+    ensures handed { IfSome result (λ s. Handed bytes.now s.listed s.heads s.crossed s.buffered) }
+{
+    let mut sets = Sets {
+        listed: [0; PORTS],
+        heads: [0; PORTS],
+        crossed: [0; PORTS],
+        buffered: [0; PORTS],
+    };
+    let mut marks = [0u8; 256];
+    for input in 0..PORTS {
+        let section = sort_section(bytes, ports, clock, input, &mut marks)?;
+        sets.listed[input] = section.listed;
+        sets.heads[input] = section.heads;
+        sets.crossed[input] = section.crossed;
+        sets.buffered[input] = section.buffered;
+    }
+    Some(sets)
+}
+
+// The sets of an input's section; `None` unless it is one of a table. An input that the switch does not have has no
+// entries.
+fn sort_section(
     bytes: &[u8],
     ports: u32,
     clock: u32,
-    listed: &mut [u64],
-    heads: &mut [u64],
-    crossed: &mut [u64],
-    buffered: &mut [u64],
-) -> bool
-    requires bytes_len { (length bytes.now ≡ table_size) × (ports ≤ port_limit) }
-    requires listed_len { (length listed.old ≡ port_limit) × (length heads.old ≡ port_limit)
-        × (length crossed.old ≡ port_limit)
-        × (length buffered.old ≡ port_limit) }
-    ensures value { result ≡ all? (is_section ports clock bytes.now) (between 0 port_limit) }
-    ensures handed { result ≡ true → Handed bytes.now listed.new heads.new
-        crossed.new buffered.new }
-{
-    let mut marks = [0u8; 256];
-    let mut i = 0;
-    while i < PORTS {
-        let section = is_section(bytes, ports, clock, i, &mut marks);
-        if !section.sound {
-            return false;
-        }
-        listed[i] = section.listed;
-        heads[i] = section.heads;
-        crossed[i] = section.crossed;
-        buffered[i] = section.buffered;
-        i += 1;
-    }
-    true
-}
-
-// Whether the section of an input is one of a table, and its sets. An input that the switch does not have has no
-// entries.
-fn is_section(bytes: &[u8], ports: u32, clock: u32, input: usize, marks: &mut [u8; 256]) -> Sorted
+    input: usize,
+    marks: &mut [u8; 256],
+) -> Option<Sorted>
     requires bytes_len { (length bytes.now ≡ table_size) × (ports ≤ port_limit) × (input < port_limit) }
     requires marks_below { MarksBelow (2 * input + 1) marks.old }
-    ensures sound_value { result.sound ≡ is_section ports clock bytes.now input }
-    ensures sorts { result.sound ≡ true → Sorts bytes.now input (count_in bytes.now input)
-        result.listed result.heads result.crossed result.buffered }
+    ensures sound_value { is_some result ≡ is_section ports clock bytes.now input }
+    ensures sorts { IfSome result (λ s. Sorts bytes.now input (count_in bytes.now input) s.listed s.heads s.crossed s.buffered) }
     ensures marks_below_2 { MarksBelow (2 * input + 3) marks.new }
 {
     let count = header::count_of(bytes, input);
     if room(ports, input) < count {
-        return unsound();
+        return None;
     }
     let first = CELLS * input;
     let end = first + count;
     if !slot_section::are_unused(bytes, end, first + CELLS) {
-        return unsound();
+        return None;
     }
-    are_sound(
+    sort_entries(
         bytes,
         ports,
         clock,
@@ -142,19 +124,6 @@ fn is_section(bytes: &[u8], ports: u32, clock: u32, input: usize, marks: &mut [u
     )
 }
 
-// What is said of a section that is not sound.
-fn unsound() -> Sorted
-    ensures { result.sound ≡ false }
-{
-    Sorted {
-        sound: false,
-        listed: 0,
-        heads: 0,
-        crossed: 0,
-        buffered: 0,
-    }
-}
-
 // How many entries an input may have.
 fn room(ports: u32, input: usize) -> usize
     ensures { result ≡ room_of ports input }
@@ -162,9 +131,9 @@ fn room(ports: u32, input: usize) -> usize
     if input < ports as usize { CELLS } else { 0 }
 }
 
-// Whether the records of a section from the first up to an end are sound entries, one by one and together; and their
-// sets.
-fn are_sound(
+// The sets of the records of a section from the first up to an end; `None` unless they are sound entries, one by one
+// and together.
+fn sort_entries(
     bytes: &[u8],
     ports: u32,
     clock: u32,
@@ -172,35 +141,30 @@ fn are_sound(
     end: usize,
     mark: u8,
     marks: &mut [u8; 256],
-) -> Sorted
+) -> Option<Sorted>
     requires bytes_len { (length bytes.now ≡ table_size) × (ports ≤ port_limit) × (mark < 255) × MarksBelow mark marks.old }
     requires section_room_bound { (first + section_room ≤ entry_limit) × (first % section_room ≡ 0) }
     requires first_le_end { (first ≤ end) × (end ≤ first + section_room) }
-    ensures sound_value { result.sound ≡ are_sound ports clock bytes.now first end }
-    ensures sorts { result.sound ≡ true → Sorts bytes.now (first / section_room) (end - first)
-        result.listed result.heads result.crossed result.buffered }
+    ensures sound_value { is_some result ≡ are_sound ports clock bytes.now first end }
+    ensures sorts { IfSome result (λ s. Sorts bytes.now (first / section_room) (end - first) s.listed s.heads s.crossed s.buffered) }
     ensures marks_below { MarksBelow (mark + 2) marks.new }
 {
-    let places = slot_section::collect(bytes, ports, clock, first, end, mark, marks);
-    if !places.good {
-        return unsound();
-    }
+    let places = slot_section::collect(bytes, ports, clock, first, end, mark, marks)?;
     if !slots_differ(bytes, places.again, first, end) {
-        return unsound();
+        return None;
     }
     let crossed = sets::minus(places.high, places.low);
     if !slot_section::crosspoints_differ(bytes, first, crossed) {
-        return unsound();
+        return None;
     }
     let listed = sets::minus(places.low, places.high);
-    let flows = slot_section::flows_together(bytes, first, listed, mark + 1, marks);
-    Sorted {
-        sound: flows.together,
+    let heads = slot_section::flows_together(bytes, first, listed, mark + 1, marks)?;
+    Some(Sorted {
         listed,
-        heads: flows.heads,
+        heads,
         crossed,
         buffered: sets::both(places.low, places.high),
-    }
+    })
 }
 
 // Whether no two entries have one slot; asked only if two may. Entries are compared whose slots have one low byte,

@@ -13,11 +13,11 @@ ghost use Rattle.layout.specs.Code.{ports_in};
 ghost use Rattle.layout_table.specs.CodeEntries.{better_of};
 ghost use Rattle.slot_view.specs.CodeView.{InTable, places_in};
 ghost use Rattle.slot_view.specs.CodeViewed.{key_at, listed_set, head_set, crossed_set, buffered_set, Buffered};
-ghost use Rattle.slot_view.specs.CodeViewed.{SetsOf, NoSets, Occupied, Blank};
+ghost use Rattle.slot_view.specs.CodeViewed.{SetsOf, Occupied, Blank};
 ghost use Rattle.slot_loading.specs.Code.{Sorted, Crossed, CrossedBelow, BestBelow};
 
 use layout::{CELLS, PORTS};
-use slot_view::NO_KEY;
+use slot_view::{NO_KEY, Sets};
 
 // Above every flow word.
 const NO_FLOW: u16 = 65535;
@@ -30,56 +30,47 @@ struct Places {
     buffered: u64,
 }
 
-// Sorts the cells of each input by their places. The arrays are lent with no cell in them.
-pub fn fill_sets(
-    table: &[u8],
-    listed: &mut [u64; PORTS],
-    heads: &mut [u64; PORTS],
-    crossed: &mut [u64; PORTS],
-    buffered: &mut [u64; PORTS],
-)
-    requires table { IsTable table.now }
-    requires no_sets { NoSets listed.old heads.old crossed.old buffered.old }
-    ensures { SetsOf table.now (places_in table.now) listed.new
-        heads.new crossed.new buffered.new }
+// Sorts the cells of each input by their places.
+pub fn fill_sets(table: &[u8]) -> Sets
+    requires { IsTable table.now }
+    ensures { SetsOf table.now (places_in table.now) result.listed result.heads result.crossed result.buffered }
 {
-    let ports = layout_table::header::ports_of(table);
-    let mut input = 0;
-    while input < ports {
+    let mut sets = Sets {
+        listed: [0; PORTS],
+        heads: [0; PORTS],
+        crossed: [0; PORTS],
+        buffered: [0; PORTS],
+    };
+    for input in 0..layout_table::header::ports_of(table) {
         let places = sort(table, input);
-        listed[input] = places.listed;
-        heads[input] = heads_of(table, input, places.listed);
-        crossed[input] = places.crossed;
-        buffered[input] = places.buffered;
-        input += 1;
+        sets.listed[input] = places.listed;
+        sets.heads[input] = heads_of(table, input, places.listed);
+        sets.crossed[input] = places.crossed;
+        sets.buffered[input] = places.buffered;
     }
+    sets
 }
 
-// The crosspoints with their keys, and the best buffered cell of each output, from the sets. The other arrays are lent
-// blank.
+// The crosspoints with their keys, and the best buffered cell of each output, from the sets. The arrays are lent blank.
 pub fn load(
     table: &[u8],
-    crossed: &[u64; PORTS],
-    buffered: &[u64; PORTS],
+    sets: &Sets,
     cross: &mut [[u16; PORTS]; PORTS],
     keys: &mut [[u64; PORTS]; PORTS],
     best: &mut [u16; PORTS],
 )
     requires table { IsTable table.now }
-    requires by_index { (input : ℕ) → input < port_limit → get_or crossed.now input 0
+    requires by_index { (input : ℕ) → input < port_limit → get_or sets.now.crossed input 0
         ≡ crossed_set table.now (places_in table.now) input }
-    requires by_index_2 { (input : ℕ) → input < port_limit → get_or buffered.now input 0
+    requires by_index_2 { (input : ℕ) → input < port_limit → get_or sets.now.buffered input 0
         ≡ buffered_set table.now (places_in table.now) input }
     requires blank { Blank cross.old keys.old best.old }
     ensures { Occupied table.now cross.new keys.new best.new }
 {
     let mut rivals = [NO_KEY; PORTS];
-    let ports = layout_table::header::ports_of(table);
-    let mut input = 0;
-    while input < ports {
-        load_crossed(table, input, crossed[input], cross, keys);
-        load_buffered(table, input, buffered[input], best, &mut rivals);
-        input += 1;
+    for input in 0..layout_table::header::ports_of(table) {
+        load_crossed(table, input, sets.crossed[input], cross, keys);
+        load_buffered(table, input, sets.buffered[input], best, &mut rivals);
     }
 }
 

@@ -216,20 +216,14 @@ module _ (ports clock : ℕ) (bs : List ℕ) (from to mark : ℕ) (marks : List 
 
     -- a record that is out of reach is no entry
     pub collecting-stop : from < k → reached ports clock bs (k - 1) ≡ false
-        → Collected ports clock bs from to false again low high
+        → false ≡ all? (is_entry ports clock bs) (between from to)
     collecting-stop more broken =
         let inside : k - 1 < to = omega (arith, w.end) in
-        record {
-          entries =
-              sym (by-fail _ (λ all.
-              clash
-              (entry-passes ports clock bs known size few (k - 1) (omega arith)
-              (between-each (is_entry ports clock bs) from to (k - 1) all (omega arith) inside)).reach
-              broken));
-          lows = λ good. absurd (clash good refl);
-          highs = λ good. absurd (clash good refl);
-          slots = λ good. absurd (clash good refl);
-        }
+        sym (by-fail _ (λ all.
+        clash
+        (entry-passes ports clock bs known size few (k - 1) (omega arith)
+        (between-each (is_entry ports clock bs) from to (k - 1) all (omega arith) inside)).reach
+        broken))
 
     -- the sets together have as many positions as there are records exactly if each has a place
     placed-all : to - k ≤ section_room → eqb (size_of (either low high)) (to - k) ≡ all? (placed bs) (between k to)
@@ -239,34 +233,36 @@ module _ (ports clock : ℕ) (bs : List ℕ) (from to mark : ℕ) (marks : List 
         ∙ ap (λ s. eqb (size_of s) (to - k)) (either-set_from (low_place bs) (high_place bs) k (to - k) fits)
         ∙ set_from-full (placed bs) k (to - k) fits
 
-    pub collecting-end : to ≤ from + section_room → k ≤ from
-        → Collected ports clock bs from to
-        (eqb (bit_and bits spare_bits) 0 && eqb (size_of (either low high)) (to - from)) again low high
-    collecting-end fits h =
+    -- all are entries exactly if the words and the places say so
+    pub collecting-all : to ≤ from + section_room → k ≤ from
+        → (eqb (bit_and bits spare_bits) 0 && eqb (size_of (either low high)) (to - from))
+        ≡ all? (is_entry ports clock bs) (between from to)
+    collecting-all fits h =
         let e : k ≡ from = omega (arith, w.start) in
         let words = eqb (bit_and bits spare_bits) 0 in
         let places = eqb (size_of (either low high)) (to - k) in
         let all_Placed = placed-all (omega arith) in
         let run = between k to in
-        let found : Collected ports clock bs k to (words && places) again low high =
-        record {
-          entries =
-              same (words && places) (all? (is_entry ports clock bs) run)
-              (λ t.
-              all?-i (is_entry ports clock bs) run
-              (λ j m.
-              passes-entry ports clock bs known size few j (omega (arith, between-mem k to m))
-              (record {
-                word = all?-e (no_spare bs) (sym w.words ∙ and_l words places t) m;
-                place = all?-e (placed bs) (sym all_Placed ∙ and_r words places t) m;
-                reach = all?-e (reached ports clock bs) w.reach m;
-              })))
-              (λ t.
-              and_i words places
-              (w.words ∙ all?-mono (is_entry ports clock bs) (no_spare bs) run (λ j m is. (passed m is).word) t)
-              (all_Placed ∙ all?-mono (is_entry ports clock bs) (placed bs) run (λ j m is. (passed m is).place) t));
-          lows = λ _. w.lows;
-          highs = λ _. w.highs;
-          slots = λ _. w.slots;
-        } in
+        let found : (words && places) ≡ all? (is_entry ports clock bs) (between k to) =
+        same (words && places) (all? (is_entry ports clock bs) run)
+        (λ t.
+        all?-i (is_entry ports clock bs) run
+        (λ j m.
+        passes-entry ports clock bs known size few j (omega (arith, between-mem k to m))
+        (record {
+          word = all?-e (no_spare bs) (sym w.words ∙ and_l words places t) m;
+          place = all?-e (placed bs) (sym all_Placed ∙ and_r words places t) m;
+          reach = all?-e (reached ports clock bs) w.reach m;
+        })))
+        (λ t.
+        and_i words places
+        (w.words ∙ all?-mono (is_entry ports clock bs) (no_spare bs) run (λ j m is. (passed m is).word) t)
+        (all_Placed ∙ all?-mono (is_entry ports clock bs) (placed bs) run (λ j m is. (passed m is).place) t)) in
+        rw e at found
+
+    pub collecting-end : k ≤ from → Collected bs from to again low high
+    collecting-end h =
+        let e : k ≡ from = omega (arith, w.start) in
+        let found : Collected bs k to again low high =
+        record { lows = w.lows; highs = w.highs; slots = w.slots } in
         rw e at found

@@ -1,6 +1,6 @@
 -- What is asked of the records of one input's section, as the code asks it.
 use Rattle.std.specs.Prelude.{ℕ, ◌+◌, ◌-◌, ◌/◌, ◌%◌, ◌<◌, Bool, true, false, cond, not, ◌&&◌, ◌≡◌, List, map, ltb, eqb, length, get_or, replicate}
-use Rattle.laws.specs.Lists.{all?, pairwise, between, none?, up_to}
+use Rattle.laws.specs.Lists.{pairwise, none?, up_to}
 use Rattle.sets.specs.Sets.{set_from, members, has, set_of}
 use Rattle.cell.specs.Flow.{same_flow}
 use Rattle.cell.specs.Limits.{port_limit, section_room, flow_in_range}
@@ -38,13 +38,12 @@ low_place bs k = eqb (place_byte_at bs k % 2) 1
 unfoldable pub high_place : List ℕ → ℕ → Bool
 high_place bs k = eqb (place_byte_at bs k / 2 % 2) 1
 
--- what a pass over the records from one up to another finds: whether each is an entry; and if so, the sets of their
--- places' digits, and no two entries of one slot unless `again`
-pub record Collected (ports clock : ℕ) (bs : List ℕ) (from to : ℕ) (good again : Bool) (low high : ℕ) : Type 0 where
-  pub entries : good ≡ all? (is_entry ports clock bs) (between from to)
-  pub lows : good ≡ true → low ≡ set_from (low_place bs) from (to - from)
-  pub highs : good ≡ true → high ≡ set_from (high_place bs) from (to - from)
-  pub slots : good ≡ true → again ≡ false → pairwise other_slot (entries_between bs from to) ≡ true
+-- what a pass over the records from one up to another finds, where each is an entry: the sets of their places' digits,
+-- and no two entries of one slot unless `again`
+pub record Collected (bs : List ℕ) (from to : ℕ) (again : Bool) (low high : ℕ) : Type 0 where
+  pub lows : low ≡ set_from (low_place bs) from (to - from)
+  pub highs : high ≡ set_from (high_place bs) from (to - from)
+  pub slots : again ≡ false → pairwise other_slot (entries_between bs from to) ≡ true
 
 -- the marks, one for each byte, are all below this one
 pub record MarksBelow (mark : ℕ) (marks : List ℕ) : Type 0 where

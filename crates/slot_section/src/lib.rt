@@ -3,34 +3,26 @@
 // listed ones of each flow stand together. What a pass learns on its way, the places and the heads, is handed on.
 #![tactic(auto)]
 
-ghost use Rattle.std.specs.Prelude.{true, ◌≡◌, ℕ, ◌+◌, ◌%◌, ◌≤◌, eqb, length};
+ghost use Rattle.std.specs.Prelude.{true, is_some, ◌≡◌, ℕ, ◌+◌, ◌%◌, ◌≤◌, eqb, length, IfSome};
 ghost use Rattle.laws.specs.Lists.{all?, pairwise, between};
 ghost use Rattle.cell.specs.Limits.{port_limit, section_room};
 ghost use Rattle.model.specs.Sound.{together};
 ghost use Rattle.layout.specs.Entry.{entry_at};
 ghost use Rattle.layout.specs.Table.{table_size, entry_limit};
 ghost use Rattle.layout.specs.Code.{HasEntry};
-ghost use Rattle.slot_section.specs.Code.{is_unused, in_range, in_reach, Collected, MarksBelow};
+ghost use Rattle.slot_section.specs.Code.{is_entry, is_unused, in_range, in_reach, Collected, MarksBelow};
 ghost use Rattle.slot_section.specs.Code.{entries_in, other_output, breaks_flow, heads_in};
 
 use layout::word;
 use layout_table::entry;
 
-// What one pass over the entries of a section finds: whether all are entries, whether two may have one slot, and the
-// low and the high digits of their places, as sets of positions.
+// What one pass over the entries of a section finds: whether two may have one slot, and the low and the high digits of
+// their places, as sets of positions.
 #[derive(Clone, Copy)]
 pub struct Places {
-    pub good: bool,
     pub again: bool,
     pub low: u64,
     pub high: u64,
-}
-
-// Whether the cells of each flow stand together, and which of them are the first of their flow.
-#[derive(Clone, Copy)]
-pub struct Flows {
-    pub together: bool,
-    pub heads: u64,
 }
 
 // So many unused records are gathered together: their number is known, and the processor's wide registers serve.
@@ -86,7 +78,8 @@ fn record_bits(bytes: &[u8], k: usize) -> u64
 // One pass over the entries of a section, from the last to the first, so that the digits of their places can be pushed
 // into sets. The low bytes of their slots are marked: where one is met again, two entries may have one slot. The first
 // words are gathered, and asked for spare bits once, as the places are: a test that no sound table fails need not cost
-// instructions at each cell. Without spare bits a place is at most 3, and in one of the sets it is not 0.
+// instructions at each cell. Without spare bits a place is at most 3, and in one of the sets it is not 0. `None` if a
+// record is no entry.
 pub fn collect(
     bytes: &[u8],
     ports: u32,
@@ -95,26 +88,20 @@ pub fn collect(
     to: usize,
     mark: u8,
     marks: &mut [u8; 256],
-) -> Places
+) -> Option<Places>
     requires bytes_len { (length bytes.now ≡ table_size) × (from ≤ to) × (to ≤ entry_limit) × (to ≤ from + section_room) }
     requires ports_le_port_limit { (ports ≤ port_limit) × MarksBelow mark marks.old }
-    ensures collected { Collected ports clock bytes.now from to result.good result.again result.low result.high }
+    ensures entries { is_some result ≡ all? (is_entry ports clock bytes.now) (between from to) }
+    ensures collected { IfSome result (λ p. Collected bytes.now from to p.again p.low p.high) }
     ensures marks_below { MarksBelow (mark + 1) marks.new }
 {
     let mut again = false;
     let mut bits = 0;
     let mut low = 0;
     let mut high = 0;
-    let mut k = to;
-    while from < k {
-        k -= 1;
+    for k in (from..to).rev() {
         if !in_reach(bytes, ports, clock, k) {
-            return Places {
-                good: false,
-                again,
-                low,
-                high,
-            };
+            return None;
         }
         bits = bits | word::read_u32(bytes, entry::start_of(k));
         let byte = entry::slot_byte_of(bytes, k) as usize;
@@ -126,12 +113,10 @@ pub fn collect(
     }
     let plain = bits & SPARE_BITS == 0;
     let placed = sets::size(sets::either(low, high)) == to - from;
-    Places {
-        good: plain & placed,
-        again,
-        low,
-        high,
+    if !(plain & placed) {
+        return None;
     }
+    Some(Places { again, low, high })
 }
 
 // Whether the output of a record is one of the switch's, and its slot before the clock.
@@ -164,21 +149,21 @@ pub fn crosspoints_differ(bytes: &[u8], first: usize, crossed: u64) -> bool
     !twice
 }
 
-// Whether of the entries at these positions the cells of each flow stand together in output priority, and which are the
-// first of their flow. They are of one input, so none ties with another, whatever the number of ports. `last` is the flow
-// of the entry before; the flows passed are marked. Nothing branches on them, as that would be guessed badly.
+// Which of the entries at these positions are the first of their flow; `None` unless the cells of each flow stand
+// together in output priority. They are of one input, so none ties with another, whatever the number of ports. `last` is
+// the flow of the entry before; the flows passed are marked. Nothing branches on them, as that would be guessed badly.
 pub fn flows_together(
     bytes: &[u8],
     first: usize,
     listed: u64,
     mark: u8,
     marks: &mut [u8; 256],
-) -> Flows
+) -> Option<u64>
     requires bytes_len { (length bytes.now ≡ table_size) × (first + section_room ≤ entry_limit) × (first % section_room ≡ 0) }
     requires listed_value { all? in_range (entries_in bytes.now first listed) ≡ true }
     requires marks_below { MarksBelow mark marks.old }
-    ensures by_index { (ports : ℕ) → result.together ≡ together ports (entries_in bytes.now first listed) }
-    ensures heads_value { result.heads ≡ heads_in bytes.now first listed }
+    ensures by_index { (ports : ℕ) → is_some result ≡ together ports (entries_in bytes.now first listed) }
+    ensures heads_value { IfSome result (λ heads. heads ≡ heads_in bytes.now first listed) }
     ensures marks_below_2 { MarksBelow (mark + 1) marks.new }
 {
     let mut broken = false;
@@ -199,10 +184,10 @@ pub fn flows_together(
         last_key = key;
         left = sets::rest(left);
     }
-    Flows {
-        together: !broken,
-        heads,
+    if broken {
+        return None;
     }
+    Some(heads)
 }
 
 // Whether an entry breaks its flow: the one before it is of its flow and does not go first, or is of another flow and

@@ -1,7 +1,9 @@
-// What the steps of a slot share: the choice of a phase, and in specs/ the view of a table.
+// What the steps of a slot share: the choice of a phase, the sets of a table's cells by their places, which its check
+// makes, and in specs/ the view of a table.
 #![tactic(auto)]
 
 use layout::PORTS;
+pub use slot_check::Sets;
 
 // Above the key of every cell.
 pub const NO_KEY: u64 = 18446744073709551615;
