@@ -4,7 +4,6 @@
 
 use cell::Refusal;
 use std::io::Stdout;
-use trace::Output;
 use trace_reader::Verdict;
 
 fn main(rt: HostRuntime) {
@@ -186,11 +185,11 @@ fn write(output: Stdout, name: &[u8], ports: u32, first: u32, counts: &[u32], nu
     let mut out = [0u8; 256];
     print(output, name);
     match trace_writer::write(ports, first, counts, numbers, &mut out) {
-        Output::Text(length) => {
+        Ok(length) => {
             print(output, b":\n");
             print_first(output, &out, length);
         }
-        Output::TurnedBack(refusal) => {
+        Err(refusal) => {
             print(output, b": ");
             refused(output, refusal, 0);
         }

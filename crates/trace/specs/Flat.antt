@@ -1,11 +1,11 @@
 -- Contents as a program lends them to the writer: for each slot the number of its arrivals, and for each arrival five
 -- numbers, input, output, flow, rank, tag, one after the other.
 use Rattle.std.specs.Prelude.{ℕ, zero, suc, ◌+◌, ◌*◌, Bool, true, false, List, [], ◌∷◌, ◌++◌, eqb, length, drop, get_or}
+use Rattle.std.specs.Prelude.{Result, Ok, Err}
 use Rattle.cell.specs.declared.Arrival.{Arrival}
+use Rattle.cell.specs.declared.Refusal.{Refusal}
 use Rattle.cell.specs.declared.Refusal.TheVariants.{BadSize, BadLine}
 use Rattle.cell.specs.Limits.{ports_in_range}
-use Rattle.trace.specs.declared.Output.{Output}
-use Rattle.trace.specs.declared.Output.TheVariants.{Text, TurnedBack}
 use Rattle.trace.specs.Contents.{Contents, Written, wrote, turned_back, write}
 
 unfoldable pub arrival_at : List ℕ → Arrival
@@ -43,9 +43,9 @@ write_flat ports first counts ns room =
     ]
 
 -- What the writer answers: the length of the text, or the refusal.
-unfoldable pub output_of : Written → Output
-output_of (wrote t) = Text (length t)
-output_of (turned_back r) = TurnedBack r
+unfoldable pub output_of : Written → Result ℕ Refusal
+output_of (wrote t) = Ok (length t)
+output_of (turned_back r) = Err r
 
 -- the buffer after the call: a refusal writes nothing, and bytes past the text are kept
 unfoldable pub buffer_after : Written → List ℕ → List ℕ

@@ -53,12 +53,3 @@ pub enum Answer {
     // More text is needed.
     More,
 }
-
-// What the writer answers.
-#[derive(Clone, Copy)]
-pub enum Output {
-    // The length of the text, which stands at the start of the buffer.
-    Text(usize),
-    // A refusal; nothing was written.
-    TurnedBack(Refusal),
-}

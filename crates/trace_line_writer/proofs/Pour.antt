@@ -11,8 +11,9 @@ use mathlib.Core.List.{List, [], ◌∷◌, ◌++◌, append_assoc}
 use mathlib.Core.Path.{◌≡◌, refl, sym, ap, ◌∙◌}
 use borrow.Author.Tests.{leb-true, leb-false, le-leb, lt-leb}
 use lib.Dec.{leb}
-use lib.ListN.{length, length-append, get_or, take, drop, set, length-set}
-use lib.Seq.{take-suc, set_comm, sets, length-sets, sets-eq}
+use lib.ListN.{length, length-append, take, drop, set, length-set}
+use lib.Seq.{set_comm, sets, length-sets, sets-eq, drop-drop}
+use borrow.Rule.Slice.PartMut.{put_mid}
 use Rattle.trace.proofs.Flat.{sets-append}
 use Rattle.trace_line_writer.specs.Writing.{last_place, place_after, with_text, Ends, Put}
 use Rattle.trace_line_writer.specs.Code.{Tried, Written}
@@ -102,6 +103,20 @@ written_then {b} {i} {s} {t} p q =
 pub written_byte : (b : List ℕ) (end a : ℕ) → 1 ≤ end → Written b end (a ∷ []) (set b (end - 1) a) (end - 1)
 written_byte b end a h = record { bytes = refl; starts = omega arith }
 
+-- a text that is copied to before a place
+pub written_part : {b t c : List ℕ} {end : ℕ} → length t ≤ end → end ≤ length b → c ≡ t
+    → Written b end t (put_mid (end - length t) (end - (end - length t)) b c) (end - length t)
+written_part {b} {t} {end} h k e =
+    let i : ℕ = end - length t in
+    let n : i + (end - i) ≡ i + length t = omega arith in
+    record {
+      bytes =
+          ap (λ x. take i b ++ (x ++ drop (end - i) (drop i b))) e
+          ∙ ap (λ x. take i b ++ (t ++ x)) (drop-drop (end - i) i b ∙ ap (λ m. drop m b) n)
+          ∙ sym (sets-eq t b i (omega arith) ∙ append_assoc (take i b) t (drop (i + length t) b));
+      starts = omega arith;
+    }
+
 -- a loop: what is left to write, and the whole
 
 pub record Left (b₀ : List ℕ) (end : ℕ) (whole b : List ℕ) (to : ℕ) (t : List ℕ) : Type 0 where
@@ -112,9 +127,6 @@ pub record Left (b₀ : List ℕ) (end : ℕ) (whole b : List ℕ) (to : ℕ) (t
   pub same : length b ≡ length b₀
 
 module _ {b₀ : List ℕ} {end : ℕ} {whole : List ℕ} where
-  pub left-start : length whole ≤ end → Left b₀ end whole b₀ end whole
-  left-start h = record { bytes = refl; place = refl; room = h; within = omega arith; same = refl }
-
   module _ {b : List ℕ} {place : ℕ} where
     -- the last byte
     pub left-byte : {s t : List ℕ} (a : ℕ) → t ≡ s ++ (a ∷ []) → Left b₀ end whole b place t
@@ -135,14 +147,6 @@ module _ {b₀ : List ℕ} {end : ℕ} {whole : List ℕ} where
           within = omega (arith, r.within);
           same = length-set b (place - 1) a ∙ r.same;
         }
-
-    -- the last of the first i bytes of a text
-    pub left-next : (text : List ℕ) (i : ℕ) → 0 < i → i ≤ length text → Left b₀ end whole b place (take i text)
-        → Left b₀ end whole (set b (place - 1) (get_or text (i - 1) 0)) (place - 1) (take (i - 1) text)
-    left-next text i h k =
-        let e : i ≡ suc (i - 1) = omega arith in
-        let l : i - 1 < length text = omega arith in
-        left-byte (get_or text (i - 1) 0) (ap (λ n. take n text) e ∙ take-suc text (i - 1) 0 l)
 
     pub left-done : Left b₀ end whole b place [] → Written b₀ end whole b place
     left-done r =

@@ -1,8 +1,8 @@
 -- Contents lent as two lists:
---     all?-drop-                   a test of what is left of a list
+--     all_few-                     the test that no count is above the limit
 --     fit_together-, fit_left-       the test that the lists fit together, count by count
 --     length-, -fits               the arrivals and the slots that the lists hold
---     flat_has_text-                 whether they are the contents of some text
+--     has_text-flat                 whether they are the contents of some text
 --     arrivals_text-, slots_text-    their text, one by one
 use Prim.Native.Nat.{ℕ, zero, suc, ◌+◌, ◌*◌, ◌-◌, ◌≤◌, ◌<◌}
 use native.Mathlib.Omega.{arith}
@@ -10,35 +10,46 @@ use native.Mathlib.Numerals.{add-one}
 use mathlib.Core.Bool.{Bool, true, false, ◌&&◌, and-true, and_comm}
 use mathlib.Core.List.{List, [], ◌∷◌, ◌++◌, append_assoc}
 use mathlib.Core.Path.{◌≡◌, refl, sym, ap, ap₂, ◌∙◌}
-use borrow.Author.Tests.{eqb-true, eq-eqb, ne_eqb}
+use borrow.Author.Tests.{eqb-true, eq-eqb, ne_eqb, leb-true, le-leb}
 use mir.Syntax.{w32}
 use mir.Val.{Fits}
 use lib.Dec.{leb, eqb}
 use lib.ListN.{length, get_or, drop, drop_of_length-le}
-use lib.Seq.{drop-cons, drop-drop, get_or-drop}
+use lib.Seq.{drop-cons, get_or-drop}
+use Rattle.std.specs.Bool.{MatchBool}
+use Rattle.std.specs.List.{AllWithin, HoldsAt}
 use Rattle.laws.specs.Lists.{all?}
 use Rattle.laws.proofs.Tests.{same}
-use Rattle.laws.proofs.Lists.{all?-nil, all?-cons}
+use Rattle.laws.proofs.Lists.{all?-nil, all?-cons, all?-at, all?-places}
 use Rattle.cell.specs.Cell.{arrival_fits}
 use Rattle.cell.specs.Limits.{fits32, clock_end}
 use Rattle.trace.specs.declared.Key.TheVariants.{Slot, End}
 use Rattle.trace.specs.Line.{line}
-use Rattle.trace.specs.Contents.{arrival_text, arrivals_text, slots_text, block_fits, has_text}
+use Rattle.trace.specs.Contents.{arrival_text, arrivals_text, slots_text, block_limit, block_fits, has_text}
 use Rattle.trace.specs.Flat.{arrival_at, arrivals_from, slots_from, total, fit_together, contents_of}
 use Rattle.trace.proofs.Tests.{all?-both, fits32-i}
 use Rattle.trace_writer.specs.Code.{few, flat_has_text}
 
--- what is left of a list
+-- the test of all counts, by what it found
 
-module _ (p : ℕ → Bool) (l : List ℕ) (i : ℕ) where
-  pub all?-drop-pass : i < length l → p (get_or l i 0) ≡ true → all? p (drop i l) ≡ all? p (drop (i + 1) l)
-  all?-drop-pass h e = rw (add-one, drop-cons l i 0 h) (all?-cons p (get_or l i 0) (drop (suc i) l) ∙ rw e)
+all_few-i : (l : List ℕ) → AllWithin (λ n. n ≤ block_limit) l 0 (length l) → all? few l ≡ true
+all_few-i l h = all?-places few 0 l (λ k m. le-leb (get_or l k 0) block_limit (h k 0 (omega arith) m))
 
-  pub all?-drop-fail : i < length l → p (get_or l i 0) ≡ false → all? p (drop i l) ≡ false
-  all?-drop-fail h e = rw (drop-cons l i 0 h) (all?-cons p (get_or l i 0) (drop (suc i) l) ∙ rw e)
+all_few-fail : (l : List ℕ) (k : ℕ) → block_limit < get_or l k 0 → all? few l ≡ false
+all_few-fail l k h = go (all? few l) refl
+  where
+    go : (b : Bool) → all? few l ≡ b → all? few l ≡ false
+    go false e = e
+    go true e =
+        let n : get_or l k 0 ≤ block_limit = leb-true _ _ (all?-at few l k 0 e refl) in
+        absurd (omega arith)
 
-  pub all?-drop-end : length l ≤ i → all? p (drop i l) ≡ true
-  all?-drop-end h = rw (drop_of_length-le l h) (all?-nil p)
+pub all_few-found : (r : Bool) (l : List ℕ)
+    → MatchBool r (AllWithin (λ n. n ≤ block_limit) l 0 (length l))
+    ((k : ℕ) × (k < length l) × HoldsAt (λ n. block_limit < n) l k)
+    → r ≡ all? few l
+all_few-found true l h = sym (all_few-i l h)
+all_few-found false l h = sym (all_few-fail l h.0 (h.2 0))
 
 -- whether the lists fit together
 
@@ -122,19 +133,6 @@ slots_from-fits (n ∷ counts) ns f =
 -- whether they are the contents of some text
 
 module _ (first : ℕ) (counts ns : List ℕ) where
-  pub flat_has_text-apart : fit_together counts ns ≡ false → flat_has_text first counts ns ≡ false
-  unfolding flat_has_text
-  flat_has_text-apart f = rw f
-
-  pub flat_has_text-crowded : fit_together counts ns ≡ true → all? few counts ≡ false → flat_has_text first counts ns ≡ false
-  unfolding flat_has_text
-  flat_has_text-crowded f k = rw (f, k)
-
-  pub flat_has_text-by-clock : fit_together counts ns ≡ true → all? few counts ≡ true
-      → flat_has_text first counts ns ≡ leb (first + length counts) clock_end
-  unfolding flat_has_text
-  flat_has_text-by-clock f k = rw (f, k)
-
   -- lists that fit together are, exactly if their contents are
   pub has_text-flat : (ports : ℕ) → Fit32 ns → fit_together counts ns ≡ true
       → has_text (contents_of ports first counts ns) ≡ flat_has_text first counts ns
@@ -150,21 +148,15 @@ arrivals_text-suc : (n : ℕ) (ns : List ℕ)
 unfolding arrivals_text arrivals_from
 arrivals_text-suc n ns = refl
 
-module _ (left at : ℕ) (ns : List ℕ) where
-  pub arrivals_text-more : 0 < left
-      → arrivals_text (arrivals_from left (drop at ns))
-      ≡ arrival_text (arrival_at (drop at ns)) ++ arrivals_text (arrivals_from (left - 1) (drop (at + 5) ns))
-  arrivals_text-more h =
-      let e : left ≡ suc (left - 1) = omega arith in
-      ap (λ n. arrivals_text (arrivals_from n (drop at ns))) e
-      ∙ arrivals_text-suc (left - 1) (drop at ns)
-      ∙ ap (λ l. arrival_text (arrival_at (drop at ns)) ++ arrivals_text (arrivals_from (left - 1) l)) (drop-drop 5 at ns)
+module _ (left : ℕ) (ns : List ℕ) where
+  pub arrivals_text-more : (m : ℕ) → left ≡ suc m
+      → arrivals_text (arrivals_from left ns)
+      ≡ arrival_text (arrival_at ns) ++ arrivals_text (arrivals_from m (drop 5 ns))
+  arrivals_text-more m e = ap (λ n. arrivals_text (arrivals_from n ns)) e ∙ arrivals_text-suc m ns
 
-  pub arrivals_text-end : left ≤ 0 → arrivals_text (arrivals_from left (drop at ns)) ≡ []
+  pub arrivals_text-end : left ≡ 0 → arrivals_text (arrivals_from left ns) ≡ []
   unfolding arrivals_text arrivals_from
-  arrivals_text-end h =
-      let e : left ≡ 0 = omega arith in
-      rw e
+  arrivals_text-end e = rw e
 
 slots_text-cons : (clock n : ℕ) (counts ns : List ℕ)
     → slots_text clock (slots_from (n ∷ counts) ns)
@@ -173,19 +165,18 @@ slots_text-cons : (clock n : ℕ) (counts ns : List ℕ)
 unfolding slots_text slots_from
 slots_text-cons clock n counts ns = sym (append_assoc (line Slot clock) (arrivals_text (arrivals_from n ns)) _)
 
-module _ (clock : ℕ) (counts : List ℕ) (i at : ℕ) (ns : List ℕ) where
+module _ (clock : ℕ) (counts : List ℕ) (i : ℕ) (ns : List ℕ) where
   pub slots_text-more : i < length counts
-      → slots_text (clock + i) (slots_from (drop i counts) (drop at ns))
-      ≡ (line Slot (clock + i) ++ arrivals_text (arrivals_from (get_or counts i 0) (drop at ns)))
-      ++ slots_text (clock + (i + 1)) (slots_from (drop (i + 1) counts) (drop (at + 5 * get_or counts i 0) ns))
+      → slots_text (clock + i) (slots_from (drop i counts) ns)
+      ≡ (line Slot (clock + i) ++ arrivals_text (arrivals_from (get_or counts i 0) ns))
+      ++ slots_text (clock + (i + 1)) (slots_from (drop (i + 1) counts) (drop (5 * get_or counts i 0) ns))
   slots_text-more h =
       let n : ℕ = get_or counts i 0 in
       let e : clock + i + 1 ≡ clock + (i + 1) = omega arith in
-      ap (λ l. slots_text (clock + i) (slots_from l (drop at ns))) (drop-cons counts i 0 h)
-      ∙ slots_text-cons (clock + i) n (drop (suc i) counts) (drop at ns)
-      ∙ rw (e, add-one, drop-drop (5 * n) at ns)
+      ap (λ l. slots_text (clock + i) (slots_from l ns)) (drop-cons counts i 0 h)
+      ∙ slots_text-cons (clock + i) n (drop (suc i) counts) ns
+      ∙ rw (e, add-one)
 
-  pub slots_text-end : length counts ≤ i
-      → slots_text (clock + i) (slots_from (drop i counts) (drop at ns)) ≡ line End (clock + i)
+  pub slots_text-end : length counts ≤ i → slots_text (clock + i) (slots_from (drop i counts) ns) ≡ line End (clock + i)
   unfolding slots_text slots_from
   slots_text-end h = rw (drop_of_length-le counts h)

@@ -3,18 +3,15 @@
 --     tried-contents            a header and slots
 --     write-                    what the writer answers, test by test
 --     write_flat-read            what it wrote is read back
-use Prim.Native.Nat.{ℕ, ◌+◌, ◌*◌, ◌-◌, ◌≤◌, ◌<◌}
+use Prim.Native.Nat.{ℕ, suc, ◌+◌, ◌*◌, ◌≤◌, ◌<◌}
 use native.Mathlib.Omega.{arith}
-use native.Mathlib.Nat.{add-zero}
 use mathlib.Core.Bool.{Bool, true, false}
 use mathlib.Core.List.{List, [], ◌++◌, append_assoc}
 use mathlib.Core.Path.{◌≡◌, refl, sym, ap, ◌∙◌}
-use borrow.Author.Tests.{leb-true, leb-false, le-leb, lt-leb}
-use lib.Dec.{leb}
-use lib.ListN.{length, get_or, drop, drop_of_length-le}
+use borrow.Author.Tests.{le-leb, lt-leb}
+use lib.ListN.{length, get_or, drop}
 use Rattle.cell.specs.declared.Arrival.{Arrival}
-use Rattle.trace.specs.declared.Output.{Output}
-use Rattle.trace.specs.declared.Output.TheVariants.{Text, TurnedBack}
+use Rattle.std.proofs.Common.{Result, Ok, Err}
 use Rattle.trace.specs.declared.Key.TheVariants.{Ports, First, Slot, End}
 use Rattle.trace.specs.Line.{line}
 use Rattle.cell.specs.declared.Refusal.{Refusal}
@@ -24,70 +21,46 @@ use Rattle.trace.specs.Contents.{Contents, arrival_text, arrivals_text, slots_te
 use Rattle.trace.specs.Contents.{Written, write, wrote, turned_back}
 use Rattle.trace.specs.Flat.{arrival_at, arrivals_from, slots_from, fit_together, contents_of}
 use Rattle.trace.specs.Flat.{write_flat, output_of, buffer_after}
-use Rattle.trace_line_writer.specs.Writing.{last_place, place_after, Put}
+use Rattle.trace_line_writer.specs.Writing.{last_place, Put}
 use Rattle.trace.specs.Reader.{accepted, read}
 use Rattle.laws.proofs.Tests.{and_l}
 use Rattle.trace.proofs.RoundTrip.{write-bad-line, write-short, write-fits, write_read}
 use Rattle.trace_writer.proofs.Flat.{Fit32, has_text-flat}
 use Rattle.trace_writer.proofs.Flat.{arrivals_text-more, slots_text-more, slots_text-end}
 use Rattle.trace_line_writer.proofs.Pour.{poured-whole, poured-tried, tried-put, tried_then, tried-none}
-use Rattle.trace_line_writer.proofs.Pour.{Rest, rest-start, rest-step, rest_end}
+use Rattle.trace_line_writer.proofs.Pour.{Rest, rest-step, rest_end}
 use Rattle.trace_line_writer.specs.Code.{Tried}
 use Rattle.trace_writer.specs.Code.{flat_has_text}
 
 -- what is left to put
 
--- the largest place is past the end
-drop-place : (from size : ℕ) (ns : List ℕ) → length ns ≤ last_place
-    → drop (place_after from size) ns ≡ drop (from + size) ns
-drop-place from size ns h = go (leb (from + size) last_place) refl
-  where
-    go : (b : Bool) → leb (from + size) last_place ≡ b → drop (place_after from size) ns ≡ drop (from + size) ns
-    go true e =
-        let k : from + size ≤ last_place = leb-true _ _ e in
-        let m : place_after from size ≡ from + size = omega arith in
-        ap (λ x. drop x ns) m
-    go false e =
-        let k : last_place < from + size = leb-false _ _ e in
-        let m : length ns ≤ place_after from size = omega arith in
-        let n : length ns ≤ from + size = omega arith in
-        drop_of_length-le ns m ∙ sym (drop_of_length-le ns n)
-
-pub rest-slots : {b : List ℕ} {at : ℕ} (clock : ℕ) (counts ns : List ℕ) → at ≤ last_place
-    → Rest b at (slots_text clock (slots_from counts ns)) b at (slots_text (clock + 0) (slots_from counts ns))
-rest-slots clock counts ns h = rw (add-zero clock) (rest-start h)
-
 module _ {b₀ : List ℕ} {at₀ : ℕ} {whole b : List ℕ} {at : ℕ} (room : length b₀ < last_place) where
-  -- an arrival, whose numbers stand at `from`
-  pub rest-arrival : (left from : ℕ) (ns : List ℕ) {a : Arrival} {l c : List ℕ} {next : ℕ} → 0 < left
-      → Rest b₀ at₀ whole b at (arrivals_text (arrivals_from left (drop from ns)))
-      → l ≡ drop from ns
-      → a ≡ arrival_at l
+  -- an arrival
+  pub rest-arrival : (left m : ℕ) (ns : List ℕ) {a : Arrival} {l c : List ℕ} {next : ℕ} → left ≡ suc m
+      → Rest b₀ at₀ whole b at (arrivals_text (arrivals_from left ns))
+      → a ≡ arrival_at ns
       → Put b at (arrival_text a) c next
-      → Rest b₀ at₀ whole c next (arrivals_text (arrivals_from (left - 1) (drop (from + 5) ns)))
-  rest-arrival left from ns h r d e p =
-      rest-step room (rw (arrivals_text-more left from ns h) at r) (tried-put (rw (e, d) at p))
+      → l ≡ drop 5 ns
+      → Rest b₀ at₀ whole c next (arrivals_text (arrivals_from m l))
+  rest-arrival left m ns h r e p d =
+      rw d (rest-step room (rw (arrivals_text-more left ns m h) at r) (tried-put (rw e at p)))
 
-  -- slot i, whose numbers stand at `from`
-  pub rest-slot : (clock : ℕ) (counts : List ℕ) (i from : ℕ) (ns : List ℕ) {l c : List ℕ} {next after : ℕ}
-      → i < length counts
-      → length ns ≤ last_place
-      → Rest b₀ at₀ whole b at (slots_text (clock + i) (slots_from (drop i counts) (drop from ns)))
-      → l ≡ drop from ns
-      → Tried b at (line Slot (clock + i) ++ arrivals_text (arrivals_from (get_or counts i 0) l)) c next
-      → after ≡ place_after from (5 * get_or counts i 0)
-      → Rest b₀ at₀ whole c next (slots_text (clock + (i + 1)) (slots_from (drop (i + 1) counts) (drop after ns)))
-  rest-slot clock counts i from ns h k r d p e =
-      rw (e, drop-place from (5 * get_or counts i 0) ns k)
-      (rest-step room (rw (slots_text-more clock counts i from ns h) at r) (rw d at p))
+  -- slot i
+  pub rest-slot : (clock : ℕ) (counts : List ℕ) (i : ℕ) (ns : List ℕ) {l c : List ℕ} {next : ℕ} → i < length counts
+      → Rest b₀ at₀ whole b at (slots_text (clock + i) (slots_from (drop i counts) ns))
+      → Tried b at (line Slot (clock + i) ++ arrivals_text (arrivals_from (get_or counts i 0) ns)) c next
+      → l ≡ drop (5 * get_or counts i 0) ns
+      → Rest b₀ at₀ whole c next (slots_text (clock + (i + 1)) (slots_from (drop (i + 1) counts) l))
+  rest-slot clock counts i ns h r p d = rw d (rest-step room (rw (slots_text-more clock counts i ns h) at r) p)
 
   -- no slot is left, and `end` follows
-  pub rest-slots-end : (clock : ℕ) (counts : List ℕ) (i from : ℕ) (ns : List ℕ) {c : List ℕ} {next : ℕ}
-      → length counts ≤ i
-      → Rest b₀ at₀ whole b at (slots_text (clock + i) (slots_from (drop i counts) (drop from ns)))
-      → Put b at (line End (clock + i)) c next
+  pub rest-slots-end : (clock : ℕ) (counts : List ℕ) (i : ℕ) (ns : List ℕ) {c : List ℕ} {next : ℕ}
+      → i ≡ length counts
+      → Rest b₀ at₀ whole b at (slots_text (clock + i) (slots_from (drop i counts) ns))
+      → Put b at (line End (clock + length counts)) c next
       → Tried b₀ at₀ whole c next
-  rest-slots-end clock counts i from ns h r p = rest_end room (rw (slots_text-end clock counts i from ns h) at r) (tried-put p)
+  rest-slots-end clock counts i ns h r p =
+      rest_end room (rw (slots_text-end clock counts i ns (omega arith)) at r) (tried-put (rw (← h) at p))
 
 -- the header and the slots
 pub tried-contents : {b c d : List ℕ} {i j : ℕ} (ports first : ℕ) (counts ns : List ℕ) → length b < last_place
@@ -101,18 +74,18 @@ tried-contents ports first counts ns h p q =
 
 -- what the writer answers, and what it leaves of the buffer
 
-abbrev pub Answers : Written → List ℕ → Output → List ℕ → Type 0
+abbrev pub Answers : Written → List ℕ → Result ℕ Refusal → List ℕ → Type 0
 Answers w b r c = (r ≡ output_of w) × (c ≡ buffer_after w b)
 
-answers-refused : {w : Written} {x : Refusal} {b c : List ℕ} → w ≡ turned_back x → c ≡ b → Answers w b (TurnedBack x) c
+answers-refused : {w : Written} {x : Refusal} {b c : List ℕ} → w ≡ turned_back x → c ≡ b → Answers w b (Err x) c
 unfolding output_of buffer_after
 answers-refused e d = rw e (refl, d)
 
 answers-wrote : {w : Written} {t c : List ℕ} (b : List ℕ) {r : ℕ} → w ≡ wrote t → r ≡ length t
     → c ≡ t ++ drop (length t) b
-    → Answers w b (Text r) c
+    → Answers w b (Ok r) c
 unfolding output_of buffer_after
-answers-wrote b e l d = rw e (ap Text l, d)
+answers-wrote b e l d = rw e (ap Ok l, d)
 
 module _ (ports first : ℕ) (counts ns : List ℕ) (room : ℕ) where
   write_flat-size : ports_in_range ports ≡ false → write_flat ports first counts ns room ≡ turned_back BadSize
@@ -137,11 +110,11 @@ module _ (ports first : ℕ) (counts ns b : List ℕ) where
   abbrev written : Written
   written = write_flat ports first counts ns (length b)
 
-  pub write-size : ports_in_range ports ≡ false → Answers written b (TurnedBack BadSize) b
+  pub write-size : ports_in_range ports ≡ false → Answers written b (Err BadSize) b
   write-size r = answers-refused (write_flat-size ports first counts ns (length b) r) refl
 
   module _ (r : ports_in_range ports ≡ true) (n : Fit32 ns) where
-    pub write-no-text : flat_has_text first counts ns ≡ false → Answers written b (TurnedBack BadLine) b
+    pub write-no-text : flat_has_text first counts ns ≡ false → Answers written b (Err BadLine) b
     unfolding contents_of
     write-no-text h = answers-refused (go (fit_together counts ns) refl) refl
       where
@@ -167,7 +140,7 @@ module _ (ports first : ℕ) (counts ns b : List ℕ) where
         same-room : length (c ++ b) ≡ length b
         same-room = rw (tried-none p)
 
-        pub write-too-long : length (c ++ b) < size → Answers written b (TurnedBack ShortBuffer) (c ++ b)
+        pub write-too-long : length (c ++ b) < size → Answers written b (Err ShortBuffer) (c ++ b)
         unfolding contents_of
         write-too-long l =
             let s : length b < length (text contents) = omega (arith, same-room, p.ends.place) in
@@ -176,7 +149,7 @@ module _ (ports first : ℕ) (counts ns b : List ℕ) where
 
         pub write-whole : {d : List ℕ} {next : ℕ} → size ≤ length (c ++ b) → length b < last_place
             → Tried (c ++ b) 0 (text contents) d next
-            → Answers written b (Text next) d
+            → Answers written b (Ok next) d
         unfolding contents_of
         write-whole l m q =
             let t : List ℕ = text contents in

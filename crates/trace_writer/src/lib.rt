@@ -4,9 +4,9 @@
 
 ghost use Rattle.std.specs.Prelude.{◌≡◌, ◌++◌, length, get_or, drop};
 ghost use Rattle.laws.specs.Lists.{all?};
-ghost use Rattle.trace.specs.declared.Key.TheVariants.{Slot, In, Out, Flow, Rank, Tag};
+ghost use Rattle.trace.specs.declared.Key.TheVariants.{Slot};
 ghost use Rattle.trace.specs.Line.{line};
-ghost use Rattle.trace.specs.Contents.{arrivals_text, slots_text, text};
+ghost use Rattle.trace.specs.Contents.{arrival_text, arrivals_text, slots_text, text};
 ghost use Rattle.trace.specs.Flat.{arrival_at, arrivals_from, slots_from, fit_together, contents_of};
 ghost use Rattle.trace.specs.Flat.{write_flat, output_of, buffer_after};
 ghost use Rattle.trace_line_writer.specs.Writing.{Put};
@@ -14,15 +14,21 @@ ghost use Rattle.trace_line_writer.specs.Code.{Tried};
 ghost use Rattle.trace_writer.specs.Code.{few, flat_has_text};
 
 use cell::{Arrival, Refusal, Switch};
-use trace::{BLOCK_LIMIT, FIELDS, Key, Output};
-use trace_line_writer::{place_after, pour_cell, pour_line, pour_pair};
+use trace::{BLOCK_LIMIT, FIELDS, Key};
+use trace_line_writer::{TraceLine, put_lines};
 
 // The clock's end, as a count of slots.
 const CLOCK_END: usize = Switch::CLOCK_END as usize;
 
 // The text of contents: the number of each slot's arrivals, and five numbers for each arrival, input, output, flow,
 // rank, tag. A refusal, 1, then 9, then 10, writes nothing; bytes past the text are kept.
-pub fn write(ports: u32, first: u32, counts: &[u32], numbers: &[u32], out: &mut [u8]) -> Output
+pub fn write(
+    ports: u32,
+    first: u32,
+    counts: &[u32],
+    numbers: &[u32],
+    out: &mut [u8],
+) -> Result<usize, Refusal>
     ensures value { result ≡ output_of
         (write_flat ports first counts.now numbers.now (length out.old)) }
     ensures out_after { out.new ≡ buffer_after
@@ -30,29 +36,26 @@ pub fn write(ports: u32, first: u32, counts: &[u32], numbers: &[u32], out: &mut 
         out.old }
 {
     if !Switch::ports_in_range(ports) {
-        return Output::TurnedBack(Refusal::BadSize);
+        return Err(Refusal::BadSize);
     }
     if !has_text(first, counts, numbers) {
-        return Output::TurnedBack(Refusal::BadLine);
+        return Err(Refusal::BadLine);
     }
     let size = pour_contents(&mut out[..0], ports, first, counts, numbers);
     if out.len() < size {
-        return Output::TurnedBack(Refusal::ShortBuffer);
+        return Err(Refusal::ShortBuffer);
     }
-    Output::Text(pour_contents(out, ports, first, counts, numbers))
+    Ok(pour_contents(out, ports, first, counts, numbers))
 }
 
 // Whether the lists are the contents of some text.
+#[tactic(auto, unfolding(crate::specs::Code::flat_has_text))]
 fn has_text(first: u32, counts: &[u32], numbers: &[u32]) -> bool
     ensures { result ≡ flat_has_text first counts.now numbers.now }
 {
-    if !fit_together(counts, numbers) {
-        return false;
-    }
-    if !blocks_fit(counts) {
-        return false;
-    }
-    first as usize + counts.len() <= CLOCK_END
+    fit_together(counts, numbers)
+        && blocks_fit(counts)
+        && first as usize + counts.len() <= CLOCK_END
 }
 
 // Whether there are five numbers for each arrival that is counted.
@@ -60,14 +63,12 @@ fn fit_together(counts: &[u32], numbers: &[u32]) -> bool
     ensures { result ≡ fit_together counts.now numbers.now }
 {
     let mut left = numbers.len();
-    let mut i = 0;
-    while i < counts.len() {
-        let five = FIELDS * counts[i] as usize;
+    for &count in counts {
+        let five = FIELDS * count as usize;
         if left < five {
             return false;
         }
         left -= five;
-        i += 1;
     }
     left == 0
 }
@@ -76,14 +77,7 @@ fn fit_together(counts: &[u32], numbers: &[u32]) -> bool
 fn blocks_fit(counts: &[u32]) -> bool
     ensures { result ≡ all? few counts.now }
 {
-    let mut i = 0;
-    while i < counts.len() {
-        if BLOCK_LIMIT < counts[i] {
-            return false;
-        }
-        i += 1;
-    }
-    true
+    counts.iter().all(|count| *count <= BLOCK_LIMIT)
 }
 
 // text = ports-line first-line slots
@@ -92,7 +86,11 @@ fn pour_contents(out: &mut [u8], ports: u32, first: u32, counts: &[u32], numbers
         (text (contents_of ports first counts.now numbers.now))
         out.new result }
 {
-    let slots = pour_pair(out, 0, Key::Ports, ports, Key::First, first as usize);
+    let header = [
+        TraceLine::new(Key::Ports, ports),
+        TraceLine::new(Key::First, first),
+    ];
+    let slots = put_lines(out, 0, &header);
     pour_slots(out, slots, first, counts, numbers)
 }
 
@@ -103,21 +101,16 @@ fn pour_slots(out: &mut [u8], at: usize, first: u32, counts: &[u32], numbers: &[
         out.new result }
 {
     let mut place = at;
-    let mut from = 0;
-    let mut i = 0;
-    while i < counts.len() {
-        let count = counts[i];
-        place = pour_block(
-            out,
-            place,
-            first as usize + i,
-            count,
-            numbers_from(numbers, from),
-        );
-        from = place_after(from, FIELDS * count as usize);
-        i += 1;
+    let mut left = numbers;
+    for (i, &count) in counts.iter().enumerate() {
+        place = pour_block(out, place, first as usize + i, count, left);
+        left = numbers_from(left, FIELDS * count as usize);
     }
-    pour_line(out, place, Key::End, first as usize + i)
+    let end = TraceLine {
+        key: Key::End,
+        number: first as usize + counts.len(),
+    };
+    put_lines(out, place, &[end])
 }
 
 // block = slot-line arrival*
@@ -126,7 +119,11 @@ fn pour_block(out: &mut [u8], at: usize, clock: usize, count: u32, numbers: &[u3
         (line Slot clock ++ arrivals_text (arrivals_from count numbers.now))
         out.new result }
 {
-    let arrivals = pour_line(out, at, Key::Slot, clock);
+    let slot = TraceLine {
+        key: Key::Slot,
+        number: clock,
+    };
+    let arrivals = put_lines(out, at, &[slot]);
     pour_arrivals(out, arrivals, count, numbers)
 }
 
@@ -137,37 +134,30 @@ fn pour_arrivals(out: &mut [u8], at: usize, count: u32, numbers: &[u32]) -> usiz
         out.new result }
 {
     let mut place = at;
-    let mut from = 0;
-    let mut left = count;
-    while 0 < left {
-        place = pour_arrival(out, place, arrival_at(numbers_from(numbers, from)));
-        from += FIELDS;
-        left -= 1;
+    let mut left = numbers;
+    for _ in 0..count {
+        place = put_arrival(out, place, arrival_at(left));
+        left = numbers_from(left, FIELDS);
     }
     place
 }
 
 // arrival = in-line out-line fields
-fn pour_arrival(out: &mut [u8], at: usize, a: Arrival) -> usize
-    ensures { Put out.old at
-        (line In a.input
-        ++ (line Out a.output ++ (line Flow a.flow ++ (line Rank a.rank ++ line Tag a.tag))))
-        out.new result }
+fn put_arrival(out: &mut [u8], at: usize, a: Arrival) -> usize
+    ensures { Put out.old at (arrival_text a) out.new result }
 {
-    pour_cell(
-        out,
-        at,
-        Key::In,
-        a.input,
-        Key::Out,
-        a.output,
-        a.flow,
-        a.rank,
-        a.tag,
-    )
+    let lines = [
+        TraceLine::new(Key::In, a.input),
+        TraceLine::new(Key::Out, a.output),
+        TraceLine::new(Key::Flow, a.flow),
+        TraceLine::new(Key::Rank, a.rank),
+        TraceLine::new(Key::Tag, a.tag),
+    ];
+    put_lines(out, at, &lines)
 }
 
 // The arrival that these numbers begin with.
+#[tactic(auto, unfolding(trace::specs::Flat::arrival_at))]
 pub fn arrival_at(numbers: &[u32]) -> Arrival
     ensures { result ≡ arrival_at numbers.now }
 {
@@ -184,18 +174,12 @@ pub fn arrival_at(numbers: &[u32]) -> Arrival
 fn number_at(numbers: &[u32], i: usize) -> u32
     ensures { result ≡ get_or numbers.now i 0 }
 {
-    if i < numbers.len() {
-        return numbers[i];
-    }
-    0
+    numbers.get(i).copied().unwrap_or(0)
 }
 
 // The numbers from one on, or none past the end.
 fn numbers_from(numbers: &[u32], from: usize) -> &[u32]
     ensures { result.now ≡ drop from numbers.now }
 {
-    if from < numbers.len() {
-        return &numbers[from..];
-    }
-    &numbers[..0]
+    &numbers[from.min(numbers.len())..]
 }
