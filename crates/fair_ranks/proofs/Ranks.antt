@@ -1,22 +1,21 @@
 -- The ranks that are made.
---     weight-low, -high, -other    refusal 14 by the tests of the code
 --     made-fair, made_other        the rank, at a fair output and elsewhere
 --     end-past                     refusal 15
 --     made-record                  a record that can have a rank, and its rank in 32 bits
 --     made-next                    the records that have their ranks so far, and one more
 use Prim.Native.Nat.{ℕ, ◌+◌, ◌%◌, ◌≤◌, ◌<◌}
 use native.Mathlib.Omega.{arith}
-use native.Mathlib.Numerals.{add-one}
 use mathlib.Core.Bool.{Bool, true, false, cond, not, ◌&&◌}
-use mathlib.Core.List.{List, [], ◌∷◌, ◌++◌, map, map-append}
+use mathlib.Core.List.{List, ◌∷◌, ◌++◌, map}
 use mathlib.Core.Logic.{⊎_elim}
 use mathlib.Core.Path.{◌≡◌, refl, sym, ap, ap₂, ◌∙◌}
-use borrow.Author.Tests.{lt-ltb, le-ltb, leb-true, leb-false, le-leb, lt-leb, not-true, not-false}
+use borrow.Author.Tests.{lt-ltb, le-ltb, leb-true, leb-false, not-true, not-false}
 use lib.Dec.{ltb, leb}
-use lib.ListN.{length, take, set, get_or}
-use lib.Seq.{take-suc, take-suc-set, get_or-take, length-take-le}
+use lib.ListN.{length, take, drop, set, get_or}
+use Rattle.std.proofs.lemmas.List.{get_or_at, drop_more, length-take-le, length-map, length-append}
+use Rattle.std.proofs.lemmas.List.Edits.{map_over_more}
 use Rattle.laws.specs.Lists.{all?}
-use Rattle.laws.proofs.Lists.{all?-e, get_or-mem}
+use Rattle.laws.proofs.Lists.{all?-e, get_or-mem, get_d_any}
 use Rattle.laws.proofs.Tests.{either, and_l, and_r, and-false-l, cond-pass, cond-fail}
 use Rattle.cell.specs.declared.Arrival.{Arrival}
 use Rattle.cell.specs.Limits.{fits32}
@@ -36,24 +35,9 @@ past n top = go (leb n top) refl
     go false e = ap not e ∙ sym (lt-ltb top n (leb-false n top e))
 
 module _ (m : Memory) (a : Arrival) where
-  ------------------------------------------------------------------------
-  -- 14
-
-  pub weight-other : is_fair m a.output ≡ false → false ≡ bad_weight m a
-  unfolding bad_weight
-  weight-other e = sym (and-false-l (is_fair m a.output) (not (weight_in_range a.rank)) e)
-
   weight-fair : is_fair m a.output ≡ true → bad_weight m a ≡ not (weight_in_range a.rank)
   unfolding bad_weight
   weight-fair e = ap (λ b. b && not (weight_in_range a.rank)) e
-
-  pub weight-low : is_fair m a.output ≡ true → a.rank < 1 → true ≡ bad_weight m a
-  unfolding weight_in_range
-  weight-low e low = sym (weight-fair e ∙ rw (lt-leb 1 a.rank low))
-
-  pub weight-high : is_fair m a.output ≡ true → 1 ≤ a.rank → ltb 1024 a.rank ≡ bad_weight m a
-  unfolding weight_in_range
-  weight-high e low = sym (weight-fair e ∙ rw (le-leb 1 a.rank low) (past a.rank 1024))
 
   ------------------------------------------------------------------------
   -- the rank
@@ -123,20 +107,20 @@ module _ (m : Memory) (a : Arrival) where
 ------------------------------------------------------------------------
 -- the records of a slot
 
-module _ (m : Memory) (records made : List Arrival) where
-  pub made-next : (n many : ℕ) (b d : Arrival) → n < many → many ≤ length records → length made ≡ length records
-      → all? (rankable m) (take many records) ≡ true → take n made ≡ map (make m) (take n records)
-      → (rankable m (get_or records n d) ≡ true → b ≡ make m (get_or records n d))
-      → take (n + 1) (set made n b) ≡ map (make m) (take (n + 1) records)
-  made-next n many b d less few size all sofar e =
-      let here : n < length records = omega arith in
-      let a : Arrival = get_or records n d in
-      let inside : n < length (take many records) = rw (length-take-le many records few) less in
-      let can : rankable m a ≡ true =
-      sym (ap (rankable m) (get_or-take many records n d less))
-      ∙ all?-e (rankable m) all (get_or-mem (take many records) n d inside) in
-      ap (λ k. take k (set made n b)) (add-one n)
-      ∙ take-suc-set made n b (omega arith)
-      ∙ ap₂ (λ l r. l ++ (r ∷ [])) sofar (e can)
-      ∙ sym (map-append (make m) (take n records) (a ∷ []))
-      ∙ ap (map (make m)) (sym (ap (λ k. take k records) (add-one n) ∙ take-suc records n d here))
+module _ (m : Memory) where
+  pub made-next : (records sofar : List Arrival) (n : ℕ) (d b : Arrival) → n < length records
+      → all? (rankable m) records ≡ true → sofar ≡ map (make m) (take n records) ++ drop n records
+      → (rankable m (get_or sofar n d) ≡ true → b ≡ make m (get_or sofar n d))
+      → set sofar n b ≡ map (make m) (take (n + 1) records) ++ drop (n + 1) records
+  made-next records sofar n d b less all first made =
+      let front = map (make m) (take n records) in
+      let long : length front ≡ n = length-map (take n records) (make m) ∙ length-take-le n records (omega arith) in
+      let parts : sofar ≡ front ++ get_or records n d ∷ drop (n + 1) records =
+      first ∙ ap (λ l. front ++ l) (drop_more records n d less) in
+      let read : get_or sofar n d ≡ get_or records n d =
+      ap (λ l. get_or l n d) parts ∙ get_or_at front (get_or records n d) (drop (n + 1) records) d n long in
+      let can : rankable m (get_or sofar n d) ≡ true =
+      ap (rankable m) read ∙ all?-e (rankable m) all (get_or-mem records n d less) in
+      let here : get_or sofar n d ≡ get_or sofar n (get_or sofar n d) =
+      get_d_any sofar n d (get_or sofar n d) (omega (arith, ap length parts, length-append front (get_or records n d ∷ drop (n + 1) records))) in
+      ap (set sofar n) (made can) ∙ map_over_more (make m) records sofar n (get_or sofar n d) less first here

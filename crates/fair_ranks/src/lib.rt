@@ -1,25 +1,24 @@
 // Fair ranks, on the bytes of a memory: the rank that a record gets, and what an accepted slot leaves in the memory.
 #![tactic(auto)]
 
-ghost use Rattle.std.specs.Prelude.{true, false, List, map, ◌≡◌, ◌≤◌, ◌<◌, length, get_or, take};
+ghost use Rattle.std.specs.Prelude.{true, false, List, map, ◌≡◌, ◌≤◌, ◌<◌, length, get_or};
 ghost use Rattle.laws.specs.Lists.{all?};
 ghost use Rattle.cell.specs.Limits.{port_limit};
 ghost use Rattle.cell.specs.declared.Arrival.{Arrival};
 ghost use Rattle.model.specs.CodeFair.{rankable};
 ghost use Rattle.model.specs.Fair.{flow_index, made_rank, make, bad_weight, rank_end, remembered};
 ghost use Rattle.layout.specs.Answer.{departure_size, departures_size, departure_in, departures_in};
-ghost use Rattle.layout.specs.Arrivals.{held_limit};
 ghost use Rattle.layout.specs.Memory.{memory_size, memory_of};
 ghost use Rattle.fair_ranks.specs.Code.{last_rank, with_record, with_records, with_departure, with_departures};
 
 use cell::{Arrival, Switch};
-use layout::{DEPARTURE_BYTES, FLOWS, HELD, PORTS};
+use layout::{DEPARTURE_BYTES, FLOWS, PORTS};
 
 // A weight is 1 to 1,024.
 const WEIGHTS: u32 = 1024;
 
 // The largest rank.
-const RANK_TOP: u64 = 4294967295;
+const RANK_TOP: u64 = u32::MAX as u64;
 
 // The flows of an output of an input, and those of an input.
 const OUTPUT_FLOWS: usize = Switch::FLOWS as usize;
@@ -27,17 +26,12 @@ const OUTPUT_FLOWS: usize = Switch::FLOWS as usize;
 const INPUT_FLOWS: usize = PORTS * OUTPUT_FLOWS;
 
 // Refusal 14: whether a record for a fair output has a weight that is not 1 to 1,024.
+#[tactic(auto, unfolding(model::specs::Fair::bad_weight, model::specs::Fair::weight_in_range))]
 pub fn bad_weight(memory: &[u8], a: Arrival) -> bool
     requires { length memory.now ≡ memory_size }
     ensures { result ≡ bad_weight (memory_of memory.now) a }
 {
-    if fair_memory::is_marked(memory, a.output) {
-        if a.rank < 1 {
-            return true;
-        }
-        return WEIGHTS < a.rank;
-    }
-    false
+    fair_memory::is_marked(memory, a.output) && !matches!(a.rank, 1..=WEIGHTS)
 }
 
 // Refusal 15: whether the rank of a record for a fair output would be past the largest. Its weight is not bad.
@@ -56,22 +50,21 @@ pub fn made_rank(memory: &[u8], a: Arrival) -> u64
         → result ≡ made_rank (memory_of memory.now) a }
 {
     if fair_memory::is_marked(memory, a.output) {
-        return last_rank(memory, a) as u64 + fair_strides::stride(a.rank) as u64;
+        u64::from(last_rank(memory, a)) + u64::from(fair_strides::stride(a.rank))
+    } else {
+        u64::from(a.rank)
     }
-    a.rank as u64
 }
 
 // The larger of the last rank given to a record's flow and the rank of the last cell that left its output.
+#[tactic(auto, unfolding(crate::specs::Code::last_rank))]
 fn last_rank(memory: &[u8], a: Arrival) -> u32
     requires { length memory.now ≡ memory_size }
     ensures { result ≡ last_rank (memory_of memory.now) a }
 {
     let given = last_given(memory, a);
     let left = last_left(memory, a.output as usize);
-    if given < left {
-        return left;
-    }
-    given
+    given.max(left)
 }
 
 // The last rank given to a record's flow: 0 for one that no switch has.
@@ -81,9 +74,10 @@ fn last_given(memory: &[u8], a: Arrival) -> u32
 {
     let index = flow_index(a);
     if index < FLOWS {
-        return fair_memory::given_of(memory, index);
+        fair_memory::given_of(memory, index)
+    } else {
+        0
     }
-    0
 }
 
 // The rank of the last cell that left an output: 0 for one that no switch has.
@@ -92,12 +86,14 @@ fn last_left(memory: &[u8], output: usize) -> u32
     ensures { result ≡ get_or (memory_of memory.now).left output 0 }
 {
     if output < PORTS {
-        return fair_memory::left_of(memory, output);
+        fair_memory::left_of(memory, output)
+    } else {
+        0
     }
-    0
 }
 
 // Where the rank given to a record's flow stands.
+#[tactic(auto, unfolding(model::specs::Fair::flow_index))]
 fn flow_index(a: Arrival) -> usize
     ensures { result ≡ flow_index a }
 {
@@ -111,52 +107,41 @@ pub fn make(memory: &[u8], a: Arrival) -> Arrival
         → result ≡ make (memory_of memory.now) a }
 {
     Arrival {
-        input: a.input,
-        output: a.output,
-        flow: a.flow,
         rank: (made_rank(memory, a) % (RANK_TOP + 1)) as u32,
-        tag: a.tag,
+        ..a
     }
 }
 
-// The first of the held records with their ranks.
-pub fn make_ranks(memory: &[u8], records: [Arrival; HELD], many: usize) -> [Arrival; HELD]
-    requires { (length memory.now ≡ memory_size) × (many ≤ held_limit)
-        × (all? (rankable (memory_of memory.now)) (take many records) ≡ true) }
-    ensures { take many result ≡ map (make (memory_of memory.now)) (take many records) }
+// Gives each record its rank.
+pub fn make_ranks(memory: &[u8], records: &mut [Arrival])
+    requires memory_len { length memory.now ≡ memory_size }
+    requires all_rankable { all? (rankable (memory_of memory.now)) records.old ≡ true }
+    ensures { records.new ≡ map (make (memory_of memory.now)) records.old }
 {
-    let mut made = records;
-    let mut n = 0;
-    while n < many {
-        made[n] = make(memory, records[n]);
-        n += 1;
+    for a in records.iter_mut() {
+        *a = make(memory, *a);
     }
-    made
 }
 
 // What an accepted slot leaves in the memory, by its records with their ranks and by its answer.
-pub fn remember(memory: &mut [u8], made: [Arrival; HELD], many: usize, answer: &[u8])
-    requires { (length memory.old ≡ memory_size) × (many ≤ held_limit)
-        × (departures_size ≤ length answer.now) }
+pub fn remember(memory: &mut [u8], made: &[Arrival], answer: &[u8])
+    requires { (length memory.old ≡ memory_size) × (departures_size ≤ length answer.now) }
     ensures { (records : List Arrival)
-        → take many made ≡ map (make (memory_of memory.old)) records
+        → made.now ≡ map (make (memory_of memory.old)) records
         → memory_of memory.new
         ≡ remembered (memory_of memory.old) records (departures_in port_limit answer.now) }
 {
-    remember_records(memory, made, many);
+    remember_records(memory, made);
     remember_departures(memory, answer);
 }
 
-// The ranks of the first of the held records, each the last one given to its flow.
-fn remember_records(memory: &mut [u8], made: [Arrival; HELD], many: usize)
-    requires { (length memory.old ≡ memory_size) × (many ≤ held_limit) }
-    ensures { memory_of memory.new
-        ≡ with_records (memory_of memory.old) (take many made) }
+// The ranks of the records, each the last one given to its flow.
+fn remember_records(memory: &mut [u8], made: &[Arrival])
+    requires { length memory.old ≡ memory_size }
+    ensures { memory_of memory.new ≡ with_records (memory_of memory.old) made.now }
 {
-    let mut n = 0;
-    while n < many {
-        remember_record(memory, made[n]);
-        n += 1;
+    for a in made {
+        remember_record(memory, *a);
     }
 }
 
@@ -177,12 +162,10 @@ fn remember_departures(memory: &mut [u8], answer: &[u8])
     ensures { memory_of memory.new
         ≡ with_departures (memory_of memory.old) (departures_in port_limit answer.now) }
 {
-    let mut output = 0;
-    while output < PORTS {
+    for output in 0..PORTS {
         let start = DEPARTURE_BYTES * output;
         let end = start + DEPARTURE_BYTES;
         remember_departure(memory, output, &answer[start..end]);
-        output += 1;
     }
 }
 
