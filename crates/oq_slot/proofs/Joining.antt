@@ -2,31 +2,35 @@
 --     joined_bytes       the entry behind the last of its section and the raised count, in the table's bytes
 --     Joins              the first n have joined
 --     joins-none, joins-may, joins-next, joins-all     none have, the next one may, it has, all have
-use Prim.Native.Nat.{ℕ, ◌+◌, ◌*◌, ◌-◌, ◌≤◌, ◌<◌}
-use mathlib.Core.Bool.{true}
+use Prim.Native.Nat.{ℕ, suc, ◌+◌, ◌*◌, ◌-◌, ◌≤◌, ◌<◌}
+use mathlib.Core.Bool.{Bool, true}
 use mathlib.Core.Path.{◌≡◌, refl, sym, ◌∙◌, ap, ap₂, subst}
 use mathlib.Core.List.Memᴰ
-use mathlib.Core.List.{List, [], ◌∷◌, ◌++◌, map}
+use mathlib.Core.List.{List, [], ◌∷◌, ◌++◌, map, Memᴰ}
 use mathlib.Core.Option.{some}
 use native.Mathlib.Numerals.{add-one}
 use native.Mathlib.Omega.{arith}
 use borrow.Author.Tests.{ltb-true}
-use lib.ListN.{length, take, drop, set, get_or, length-append, take-append-drop}
-use lib.Seq.{take-suc, take_all, drop-length}
-use Rattle.laws.specs.Lists.{all?, update}
-use Rattle.laws.proofs.Tests.{and_l}
+use lib.Dec.{ltb}
+use lib.ListN.{length, take, drop, set, get_or, take-append-drop, length-map, get_or-map}
+use lib.Seq.{take-suc, take_all, drop-length, split_at}
+use Rattle.laws.specs.Lists.{all?, pairwise, update}
+use Rattle.laws.proofs.Tests.{and_i}
 use Rattle.laws.proofs.Lists.{get_or-mem, all?-append}
+use Rattle.laws.proofs.Pairwise.{pairwise-append-l, pairwise-split}
 use Rattle.cell.specs.declared.Arrival.{Arrival}
 use Rattle.cell.specs.declared.Cell.{Cell}
 use Rattle.cell.specs.Cell.{accepted, arrival_fits}
 use Rattle.cell.specs.Limits.{section_room, port_limit, flow_limit}
+use Rattle.model.specs.Checks.{first_fault}
 use Rattle.model.specs.Oq.{join_buffer, join_buffers}
 use Rattle.model.specs.Sound.{sound}
-use Rattle.model.specs.State.{buffered, Entry, Switch}
-use Rattle.model.proofs.Bags.{get_or-update-same}
+use Rattle.model.specs.State.{buffered, Entry, Switch, cells}
+use Rattle.model.proofs.Admitted.{Admitted}
+use Rattle.model.proofs.Insert.{Came, kept, entered as came, come-at}
 use Rattle.model.proofs.OqSound.{joined_length, joined-sound}
-use Rattle.model.proofs.SoundArrival.{arrival-inputs}
-use Rattle.model.proofs.SoundLaws.{SoundEntry, SoundSection, SoundTable, sound-e, sound-i, sections-e}
+use Rattle.model.proofs.SoundArrival.{arrival-admitted, arrival-room}
+use Rattle.model.proofs.SoundLaws.{SoundTable, sound-e, sound-i}
 use Rattle.layout.specs.Code.{record_start, put, ports_in}
 use Rattle.layout.specs.Entry.{clock_in, count_in}
 use Rattle.layout.specs.Table.{entry_size, place_of, entry_bytes, state_of, encode, decode, IsTable}
@@ -38,7 +42,8 @@ use Rattle.slot_arrival.specs.CodeArrival.{raised, Arriving}
 use Rattle.slot_faults.specs.CodeFault.{section_in, coming}
 use Rattle.slot_arrival.proofs.Insert.{moved_up-none, changed_at, inserted-bytes}
 use Rattle.slot_arrival.proofs.OneByOne.{no-fault}
-use Rattle.slot_faults.proofs.Stored.{table-sound, table-clock, section-length}
+use Rattle.slot_faults.proofs.Records.{coming-take}
+use Rattle.slot_faults.proofs.Stored.{table-sound, table-clock, table-ports, section-length}
 use Rattle.oq_slot.specs.Code.{joined, joined_all, MayJoin}
 
 abbrev joining : Cell → Entry
@@ -81,48 +86,61 @@ joins-last clock [] a sections = refl
 joins-last clock (r ∷ records) a sections =
     joins-last clock records a (update r.input (join_buffer (accepted clock r)) sections)
 
--- the first n have joined: the table is that of the switch then, with the clock of the next slot
-abbrev pub Joins : List ℕ → List Arrival → ℕ → List ℕ → Type 0
-Joins table records n cur = cur ≡ encode (joined_all (state_of table) (take n records))
+-- each section gets at most one cell
+joins-nil : (sections : List (List Entry)) → join_buffers [] sections ≡ sections
+unfolding join_buffers
+joins-nil sections = refl
 
-module _ (table : List ℕ) (records : List Arrival) (g : Arriving table records)
-    (fits : all? arrival_fits records ≡ true) where
+joins-cons : (c : Cell) (cs : List Cell) (sections : List (List Entry))
+    → join_buffers (c ∷ cs) sections ≡ join_buffers cs (update c.input (join_buffer c) sections)
+unfolding join_buffers
+joins-cons c cs sections = refl
+
+-- the first n have joined: the table is that of the switch then, with the clock of the next slot
+pub record Joins (table : List ℕ) (records : List Arrival) (n : ℕ) (cur : List ℕ) : Type 0 where
+  pub holds : cur ≡ encode (joined_all (state_of table) (take n records))
+  pub fits : all? arrival_fits (take n records) ≡ true
+
+module _ (table : List ℕ) (records : List Arrival) (g : Arriving table records) where
   abbrev s : Switch
   s = state_of table
+
+  abbrev cs : List Cell
+  cs = coming s records
 
   abbrev after : ℕ → Switch
   after n = joined_all s (take n records)
 
-  first-fit : (n : ℕ) → all? arrival_fits (take n records) ≡ true
-  first-fit n =
-      and_l _ (all? arrival_fits (drop n records))
-      (sym (all?-append arrival_fits (take n records) (drop n records)) ∙ rw (take-append-drop n records) fits)
-
   old : SoundTable s
   old = sound-e s (table-sound table g.sound)
 
-  after-sound : (n : ℕ) → sound (after n) ≡ true
+  after-sound : (n : ℕ) → all? arrival_fits (take n records) ≡ true → sound (after n) ≡ true
   unfolding joined_all coming
-  after-sound n =
+  after-sound n fits =
       sound-i (after n)
       (record {
         ports = old.ports;
         clock = below-fits32 (s.clock + 1) (omega (arith, table-clock table g.sound, g.early));
         inputs = joined_length (coming s (take n records)) s.sections ∙ old.inputs;
-        sections =
-            joined-sound s (take n records) (table-sound table g.sound) (no-fault table records g n) (first-fit n);
+        sections = joined-sound s (take n records) (table-sound table g.sound) (no-fault table records g n) fits;
       })
 
+  admit : Admitted s.ports (cells s) cs
+  unfolding coming
+  admit =
+      arrival-admitted s records (table-sound table g.sound)
+      (ap (λ p. first_fault p (cells s) cs) (table-ports table g.sound) ∙ g.clear)
+
   pub joins-none : (new : List ℕ) → new ≡ encode (raised s) → Joins table records 0 new
-  unfolding raised joined_all coming join_buffers
-  joins-none new e = e
+  unfolding raised joined_all coming join_buffers all?
+  joins-none new e = record { holds = e; fits = refl }
 
   module _ (n : ℕ) (cur : List ℕ) (h : Joins table records n cur) where
     here-is : decode cur ≡ some (after n)
-    here-is = ap decode h ∙ decode-encode (after n) (after-sound n)
+    here-is = ap decode h.holds ∙ decode-encode (after n) (after-sound n h.fits)
 
     state : state_of cur ≡ after n
-    state = ap state_of h ∙ state_of-encode (after n) (after-sound n)
+    state = ap state_of h.holds ∙ state_of-encode (after n) (after-sound n h.fits)
 
     is-table : IsTable cur
     is-table = here-is ∙ ap some (sym state)
@@ -142,11 +160,12 @@ module _ (table : List ℕ) (records : List Arrival) (g : Arriving table records
       abbrev c : Cell
       c = accepted s.clock a
 
+      taken : take (n + 1) records ≡ take n records ++ (a ∷ [])
+      taken = ap (λ k. take k records) (add-one n) ∙ take-suc records n d more
+
       next-is : joined c (after n) ≡ after (n + 1)
       unfolding joined joined_all coming accepted
       next-is =
-          let taken : take (n + 1) records ≡ take n records ++ (a ∷ []) =
-          ap (λ k. take k records) (add-one n) ∙ take-suc records n d more in
           λ k.
           record {
             ports = s.ports;
@@ -156,58 +175,80 @@ module _ (table : List ℕ) (records : List Arrival) (g : Arriving table records
                 ∙ joins-last s.clock (take n records) a s.sections) k;
           }
 
-      pub joins-next : (new : List ℕ) → new ≡ encode (joined (accepted (clock_in cur - 1) a) (state_of cur))
-          → Joins table records (n + 1) new
-      joins-next new w =
+      pub joins-next : (new : List ℕ) → arrival_fits a ≡ true
+          → new ≡ encode (joined (accepted (clock_in cur - 1) a) (state_of cur)) → Joins table records (n + 1) new
+      unfolding all?
+      joins-next new fits w =
           let slot : clock_in cur - 1 ≡ s.clock = omega (arith, clock-is) in
-          w ∙ ap₂ (λ k z. encode (joined (accepted k a) z)) slot state ∙ ap encode next-is
+          record {
+            holds = w ∙ ap₂ (λ k z. encode (joined (accepted k a) z)) slot state ∙ ap encode next-is;
+            fits =
+                ap (all? arrival_fits) taken
+                ∙ all?-append arrival_fits (take n records) (a ∷ [])
+                ∙ and_i _ _ h.fits (and_i _ _ fits refl);
+          }
 
-      -- its input has a section
-      inside : a.input < length (after n).sections
-      unfolding joined_all coming accepted
-      inside =
-          let all = take_all (length records) records (omega arith) in
-          rw (joined_length (coming s (take n records)) s.sections)
-          (arrival-inputs s records (table-sound table g.sound)
-          (rw all at (no-fault table records g (length records))) c
-          (Memᴰ.map (accepted s.clock) (get_or-mem records n d more)))
+      -- it is one of the cells, behind the first n
+      inside : n < length cs
+      unfolding coming
+      inside = omega (arith, length-map records (accepted s.clock))
 
-      -- which is sound when the cell has joined: so it has room for it, and the cell fits an entry
-      section-next : SoundSection s.ports (s.clock + 1) a.input
-          (join_buffer c (get_or (after n).sections a.input []))
-      unfolding joined joined_all accepted
-      section-next =
-          subst (SoundSection s.ports (s.clock + 1) a.input)
-          (ap (λ z. get_or z.sections a.input []) (sym next-is)
-          ∙ get_or-update-same a.input (join_buffer c) (after n).sections [] inside)
-          (sections-e s.ports (s.clock + 1) (after (n + 1)).sections
-          (sound-e (after (n + 1)) (after-sound (n + 1))).sections a.input)
+      at_n : get_or cs n (accepted s.clock d) ≡ c
+      unfolding coming
+      at_n = get_or-map (accepted s.clock) records n d
+
+      split : cs ≡ take n cs ++ c ∷ drop (suc n) cs
+      split = split_at cs n (accepted s.clock d) inside ∙ ap (λ x. take n cs ++ x ∷ drop (suc n) cs) at_n
+
+      among : Memᴰ c cs
+      among = subst (λ x. Memᴰ x cs) at_n (get_or-mem cs n (accepted s.clock d) inside)
+
+      -- its input has had no cell yet, and has room for one
+      room-left : length (get_or (join_buffers (take n cs) s.sections) c.input []) < section_room
+      unfolding cells
+      room-left =
+          go (come-at join_buffer join_buffers joins-nil joins-cons (take n cs) s.sections
+          (λ d m. inputs d (earlier m)) (pairwise-append-l rises (take n cs) (drop n cs) turns) c.input)
+        where
+          rises : Cell → Cell → Bool
+          rises x y = ltb x.input y.input
+
+          earlier : {d : Cell} → Memᴰ d (take n cs) → Memᴰ d cs
+          earlier m = subst (Memᴰ _) (take-append-drop n cs) (Memᴰ.append_left (drop n cs) m)
+
+          inputs : (d : Cell) → Memᴰ d cs → d.input < length s.sections
+          inputs d m = omega (arith, admit.inputs d m, old.inputs)
+
+          turns : pairwise rises (take n cs ++ drop n cs) ≡ true
+          turns = rw (take-append-drop n cs) admit.turns
+
+          go : Came join_buffer (take n cs) s.sections (join_buffers (take n cs) s.sections) c.input
+              → length (get_or (join_buffers (take n cs) s.sections) c.input []) < section_room
+          go (kept q) =
+              rw q (arrival-room s.ports s.clock s.sections old.sections c (admit.rooms c among))
+          go (came d m q r) =
+              absurd (omega (
+                arith,
+                ltb-true d.input c.input
+                    (pairwise-split rises m (Memᴰ.head refl) (rw split at admit.turns)),
+              ))
 
       pub joins-may : MayJoin a cur
-      unfolding joined_all join_buffer accepted
+      unfolding joined_all accepted
       joins-may =
           record {
             sound = is-table;
             risen = omega (arith, clock-is);
             input = rw (decode-ports cur (after n) here-is) port;
             room =
-                omega (
-                  arith,
-                  decode-count cur (after n) here-is a.input (omega (arith, few, port)),
-                  section-next.short,
-                  length-append (get_or (after n).sections a.input []) (joining c ∷ []),
-                );
-            output = omega (arith, few, fit.output);
-            flow = omega (arith, ltb-true c.flow flow_limit fit.flow);
+                rw (decode-count cur (after n) here-is a.input (omega (arith, few, port)))
+                (rw (coming-take s n records) at room-left);
+            output = omega (arith, few, admit.outputs c among);
+            flow = omega (arith, ltb-true c.flow flow_limit (admit.flows c among));
           }
         where
           few : s.ports ≤ port_limit
           few = sound-ports s (table-sound table g.sound)
 
           port : a.input < s.ports
-          port = omega (arith, inside, (sound-e (after n) (after-sound n)).inputs)
-
-          fit : SoundEntry s.ports (s.clock + 1) a.input (joining c)
-          fit =
-              section-next.entries (joining c)
-              (Memᴰ.append_right (get_or (after n).sections a.input []) (Memᴰ.head refl))
+          port = admit.inputs c among

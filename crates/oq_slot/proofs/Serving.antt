@@ -7,11 +7,11 @@ use mathlib.Core.Bool.{true}
 use mathlib.Core.List.{List, [], ◌∷◌}
 use mathlib.Core.Option.{some}
 use mathlib.Core.Path.{◌≡◌, refl, sym, ap, ap₂, ◌∙◌}
+use Rattle.std.specs.Prelude.{Err}
 use Rattle.cell.specs.declared.Arrival.{Arrival}
 use Rattle.cell.specs.declared.Cell.{Cell}
+use Rattle.cell.specs.Checked.{Checked, no_fault}
 use Rattle.cell.specs.declared.Fault.{Fault}
-use Rattle.cell.specs.declared.Fault.TheVariants.{Clear, At}
-use Rattle.cell.specs.declared.Refusal.{Refusal}
 use Rattle.cell.specs.Limits.{port_limit}
 use Rattle.model.specs.Checks.{Outcome, refusal_of}
 use Rattle.model.specs.Crossbar.{leaving, departures_of}
@@ -60,21 +60,19 @@ module _ (s : Switch) (records : List Arrival) (table : List ℕ) (good : IsTabl
 ------------------------------------------------------------------------
 -- by what was found
 
-module _ (table answer : List ℕ) (records : List Arrival) (f : Fault)
-    (found : f ≡ fault_in (state_of table) records) where
+module _ (table answer : List ℕ) (records : List Arrival) where
   abbrev outcome : Outcome Served
   outcome = slot_oq (state_of table) (some records)
 
-  pub served-refused : {r : Refusal} {place : ℕ} → f ≡ At r place → ServedLeaves outcome table answer f table answer
+  pub served-refused : (fault : Fault) (result : Checked) → fault_in (state_of table) records ≡ Err fault
+      → result ≡ Err fault → ServedLeaves outcome table answer result table answer
   unfolding refusal_of table_served oq_answer_after
-  served-refused e =
-      rw (slot-oq-fault (state_of table) records, ← found, e) (refl, (refl, refl))
+  served-refused fault result found e = rw (slot-oq-fault (state_of table) records, found) (e, (refl, refl))
 
-  pub served-runs : f ≡ Clear → (table' answer' : List ℕ)
+  pub served-runs : fault_in (state_of table) records ≡ no_fault → (table' answer' : List ℕ)
       → table' ≡ encode (run_oq (state_of table) (coming (state_of table) records)).switch
       → answer'
       ≡ filled (departures_bytes port_limit (run_oq (state_of table) (coming (state_of table) records)).departures) answer
-      → ServedLeaves outcome table answer f table' answer'
+      → ServedLeaves outcome table answer no_fault table' answer'
   unfolding refusal_of table_served oq_answer_after
-  served-runs e table' answer' p q =
-      rw (slot-oq-fault (state_of table) records, ← found, e) (refl, (p, q))
+  served-runs found table' answer' p q = rw (slot-oq-fault (state_of table) records, found) (refl, (p, q))

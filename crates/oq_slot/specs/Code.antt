@@ -6,7 +6,7 @@ use Rattle.std.specs.Prelude.{ℕ, ◌+◌, ◌<◌, List, ◌≡◌}
 use Rattle.laws.specs.Lists.{update}
 use Rattle.cell.specs.declared.Arrival.{Arrival}
 use Rattle.cell.specs.declared.Cell.{Cell}
-use Rattle.cell.specs.declared.Fault.{Fault}
+use Rattle.cell.specs.Checked.{Checked}
 use Rattle.cell.specs.Limits.{section_room}
 use Rattle.model.specs.Checks.{Outcome, done, refused, refusal_of}
 use Rattle.model.specs.Oq.{Served, join_buffer, join_buffers}
@@ -41,6 +41,6 @@ table_served table (done d) = encode d.switch
 table_served table (refused r place) = table
 
 -- what a slot leaves: its refusal, the table and the answer's buffer
-abbrev pub ServedLeaves : Outcome Served → List ℕ → List ℕ → Fault → List ℕ → List ℕ → Type 0
-ServedLeaves o table answer fault table' answer' =
-    (fault ≡ refusal_of o) × ((table' ≡ table_served table o) × (answer' ≡ oq_answer_after answer o))
+abbrev pub ServedLeaves : Outcome Served → List ℕ → List ℕ → Checked → List ℕ → List ℕ → Type 0
+ServedLeaves o table answer checked table' answer' =
+    (checked ≡ refusal_of o) × ((table' ≡ table_served table o) × (answer' ≡ oq_answer_after answer o))
