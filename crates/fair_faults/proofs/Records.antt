@@ -14,8 +14,7 @@ use lib.ListN.{length, drop, drop_of_length-le}
 use Rattle.laws.specs.Lists.{some?, count}
 use Rattle.cell.specs.declared.Arrival.{Arrival}
 use Rattle.cell.specs.declared.Cell.{Cell}
-use Rattle.cell.specs.declared.Fault.{Fault}
-use Rattle.cell.specs.declared.Fault.TheVariants.{Clear, At}
+use Rattle.cell.specs.Checked.{Checked, no_fault, fault_with}
 use Rattle.cell.specs.declared.Refusal.{Refusal}
 use Rattle.cell.specs.declared.Refusal.TheVariants.{BadWeight, RankEnd}
 use Rattle.cell.specs.Cell.{accepted}
@@ -38,7 +37,7 @@ abbrev pub made : Switch → Memory → Arrival → Cell
 made s m a = accepted s.clock (make m a)
 
 -- what the check of a record says
-abbrev pub Says : Switch → Memory → ℕ → ℕ → Arrival → Fault → Type 0
+abbrev pub Says : Switch → Memory → ℕ → ℕ → Arrival → Checked → Type 0
 Says s m turn place a found =
     (before : Option Cell) → turn_after before ≡ turn → found ≡ fault_at place (fair_fault_by s m before a)
 
@@ -70,7 +69,7 @@ rank-none m a h = go (bad_weight m a) refl (rank_end m a) refl
     go false w true d = absurd (some-ne-none RankEnd (rw (w, d) at h))
     go false w false d = (w, d)
 
-module _ (s : Switch) (m : Memory) (turn place : ℕ) (a : Arrival) (found : Fault) where
+module _ (s : Switch) (m : Memory) (turn place : ℕ) (a : Arrival) (found : Checked) where
   -- what 4, 5 and 6 say of the record's cell they say of the cell with the rank made
   pub made-says : (ports clock : ℕ) (c : Cell) → ports ≡ s.ports → clock ≡ s.clock → c ≡ accepted clock a
       → PortSays ports turn place c found → PortSays s.ports turn place (made s m a) found
@@ -80,7 +79,7 @@ module _ (s : Switch) (m : Memory) (turn place : ℕ) (a : Arrival) (found : Fau
       ∙ ap (fault_at place) (ports-alike s.ports s.clock m before a)
 
   module _ (says : PortSays s.ports turn place (made s m a) found) where
-    pub next-port : {r : Refusal} {at : ℕ} → found ≡ At r at → Says s m turn place a found
+    pub next-port : {r : Refusal} {at : ℕ} → found ≡ fault_with r at → Says s m turn place a found
     unfolding record_fault fault_at
     next-port bad before e = go (fault s.ports [] before (made s m a)) refl
       where
@@ -91,13 +90,13 @@ module _ (s : Switch) (m : Memory) (turn place : ℕ) (a : Arrival) (found : Fau
             let it : fair_fault_by s m before a ≡ some r = rw (q, record_fault) in
             says before e ∙ ap (fault_at place) (q ∙ sym it)
 
-    module _ (clear : found ≡ Clear) where
+    module _ (clear : found ≡ no_fault) where
       none_found : (before : Option Cell) → turn_after before ≡ turn → fault s.ports [] before (made s m a) ≡ none
       none_found before e = clear_none place _ (sym (says before e) ∙ clear)
 
       -- then 14 and 15 decide
-      module _ (ranked : Fault) (rank : ranked ≡ fault_at place (rank_fault m a)) where
-        pub next-rank : {r : Refusal} {at : ℕ} → ranked ≡ At r at → Says s m turn place a ranked
+      module _ (ranked : Checked) (rank : ranked ≡ fault_at place (rank_fault m a)) where
+        pub next-rank : {r : Refusal} {at : ℕ} → ranked ≡ fault_with r at → Says s m turn place a ranked
         unfolding record_fault rank_fault fault_at
         next-rank bad before e = go (bad_weight m a) refl (rank_end m a) refl
           where
@@ -116,14 +115,14 @@ module _ (s : Switch) (m : Memory) (turn place : ℕ) (a : Arrival) (found : Fau
                 absurd (clear-not (sym (rank ∙ ap (fault_at place) this) ∙ bad))
 
         -- and then the waiting cells
-        module _ (passes : ranked ≡ Clear) where
+        module _ (passes : ranked ≡ no_fault) where
           can-rank : (bad_weight m a ≡ false) × (rank_end m a ≡ false)
           can-rank = rank-none m a (clear_none place _ (sym rank ∙ passes))
 
           pub next-rankable : rankable m a ≡ true
           next-rankable = rankable-i m a can-rank.0 can-rank.1
 
-          pub next-waits : (last : Fault) → last ≡ fault_at place (waiting_fault (cells s) (made s m a))
+          pub next-waits : (last : Checked) → last ≡ fault_at place (waiting_fault (cells s) (made s m a))
               → Says s m turn place a last
           unfolding record_fault
           next-waits last is before e =
@@ -150,7 +149,7 @@ module _ (s : Switch) (m : Memory) (records : List Arrival) where
 
   -- the next record
   module _ (n turn : ℕ) (p : Passed s m records n turn) (a : Arrival) (here : drop n records ≡ a ∷ drop (n + 1) records)
-      (found : Fault) (says : Says s m turn (n + 1) a found) where
+      (found : Checked) (says : Says s m turn (n + 1) a found) where
     rest_at : first_fair s m records
         ≡ record_fault_from s.ports s.clock (cells s) m (n + 1) p.before (a ∷ drop (n + 1) records)
     rest_at = p.rest ∙ ap (record_fault_from s.ports s.clock (cells s) m (n + 1) p.before) here
@@ -159,7 +158,7 @@ module _ (s : Switch) (m : Memory) (records : List Arrival) where
     found-is : (o : Option Refusal) → fair_fault_by s m p.before a ≡ o → found ≡ fault_at (n + 1) o
     found-is o e = says p.before p.after ∙ ap (fault_at (n + 1)) e
 
-    pub passed-fault : {r : Refusal} {place : ℕ} → found ≡ At r place → found ≡ fault_of (first_fair s m records)
+    pub passed-fault : {r : Refusal} {place : ℕ} → found ≡ fault_with r place → found ≡ fault_of (first_fair s m records)
     unfolding fault_at fault_of
     passed-fault bad = go (fair_fault_by s m p.before a) refl
       where
@@ -169,7 +168,7 @@ module _ (s : Switch) (m : Memory) (records : List Arrival) where
             found-is (some r) e
             ∙ sym (ap fault_of (rest_at ∙ records-first _ _ _ m (n + 1) p.before a _ e))
 
-    module _ (clear : found ≡ Clear) where
+    module _ (clear : found ≡ no_fault) where
       none_here : fair_fault_by s m p.before a ≡ none
       none_here = clear_none (n + 1) _ (sym (says p.before p.after) ∙ clear)
 
@@ -190,7 +189,7 @@ module _ (s : Switch) (m : Memory) (records : List Arrival) where
 
   -- behind the last record
   pub passed-all : (n turn : ℕ) → n ≡ length records → Passed s m records n turn
-      → Clear ≡ fault_of (first_fair s m records)
+      → no_fault ≡ fault_of (first_fair s m records)
   unfolding record_fault_from fault_of
   passed-all n turn whole p =
       let past : length records ≤ n = omega arith in

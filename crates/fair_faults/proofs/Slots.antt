@@ -13,10 +13,10 @@ use borrow.Author.Tests.{ltb-true, ltb-false, eq-eqb, ne_eqb}
 use lib.Dec.{ltb, eqb}
 use lib.ListN.{length, take}
 use lib.Seq.{take_all}
+use Rattle.std.specs.Prelude.{Ok, Err}
 use Rattle.cell.specs.declared.Arrival.{Arrival}
 use Rattle.cell.specs.declared.Cell.{Cell}
-use Rattle.cell.specs.declared.Fault.{Fault}
-use Rattle.cell.specs.declared.Fault.TheVariants.{Clear, At}
+use Rattle.cell.specs.Checked.{Checked, no_fault, fault_with}
 use Rattle.cell.specs.declared.Refusal.{Refusal}
 use Rattle.cell.specs.declared.Refusal.TheVariants.{ClockEnd}
 use Rattle.cell.specs.Limits.{clock_end, port_limit}
@@ -29,7 +29,7 @@ use Rattle.slot_faults.proofs.Faults.{clear-not}
 use Rattle.fair_faults.specs.CodeFairFault.{first_fair, fair_fault_in}
 
 module _ (s : Switch) (m : Memory) (records : List Arrival) where
-  pub fair-end : s.clock ≡ clock_end → fair_fault_in s m records ≡ At ClockEnd 0
+  pub fair-end : s.clock ≡ clock_end → fair_fault_in s m records ≡ fault_with ClockEnd 0
   unfolding fair_fault_in
   fair-end e = rw (eq-eqb s.clock clock_end e, fair_fault_in)
 
@@ -37,7 +37,7 @@ module _ (s : Switch) (m : Memory) (records : List Arrival) where
   unfolding fair_fault_in
   fair-early early = rw (ne_eqb s.clock clock_end early, fair_fault_in)
 
-  pub fair-clear : fair_fault_in s m records ≡ Clear → (eqb s.clock clock_end ≡ false) × (first_fair s m records ≡ none)
+  pub fair-clear : fair_fault_in s m records ≡ no_fault → (eqb s.clock clock_end ≡ false) × (first_fair s m records ≡ none)
   unfolding fair_fault_in fault_of
   fair-clear h = go (eqb s.clock clock_end) refl (first_fair s m records) refl
     where
@@ -50,15 +50,15 @@ module _ (s : Switch) (m : Memory) (records : List Arrival) where
   -- no records are behind the seventeenth, or the first seventeen have the fault of all
   pub fair-seventeen : s.ports ≤ port_limit
       → (take 17 records ≡ records)
-      ⊎ ((r : Refusal) × (place : ℕ) × (fair_fault_in s m (take 17 records) ≡ At r place)
-      × (fair_fault_in s m records ≡ At r place))
+      ⊎ ((r : Refusal) × (place : ℕ) × (fair_fault_in s m (take 17 records) ≡ fault_with r place)
+      × (fair_fault_in s m records ≡ fault_with r place))
   unfolding fair_fault_in fault_of
   fair-seventeen p = go (ltb (length records) 17) refl (eqb s.clock clock_end) refl
     where
       go : (b : Bool) → ltb (length records) 17 ≡ b → (d : Bool) → eqb s.clock clock_end ≡ d
           → (take 17 records ≡ records)
-          ⊎ ((r : Refusal) × (place : ℕ) × (fair_fault_in s m (take 17 records) ≡ At r place)
-          × (fair_fault_in s m records ≡ At r place))
+          ⊎ ((r : Refusal) × (place : ℕ) × (fair_fault_in s m (take 17 records) ≡ fault_with r place)
+          × (fair_fault_in s m records ≡ fault_with r place))
       go true e d q = inl (take_all 17 records (omega (arith, ltb-true (length records) 17 e)))
       go false e true q = inr (ClockEnd, 0, rw (q, fair_fault_in), rw (q, fair_fault_in))
       go false e false q =
@@ -78,8 +78,8 @@ module _ {R : Type 0} (runs : Switch → List Cell → R) (x : Fair Switch) (rec
         | false ↦ elim o [ some f ↦ refused f.0 f.1 | none ↦ ran ]
       ]
 
-  abbrev pub by_fault : Fault → Outcome R
-  by_fault f = elim f [ Clear ↦ ran | At r place ↦ refused r place ]
+  abbrev pub by_fault : Checked → Outcome R
+  by_fault f = elim f [ Ok _ ↦ ran | Err fault ↦ refused fault.refusal fault.place ]
 
   pub fair-by-fault : slot_of (λ s. s.ports) (λ s. s.clock) cells runs x (some records)
       ≡ by_fault (fair_fault_in x.core x.memory records)
@@ -87,7 +87,7 @@ module _ {R : Type 0} (runs : Switch → List Cell → R) (x : Fair Switch) (rec
   fair-by-fault = go (eqb x.core.clock clock_end) (first_fair x.core x.memory records)
     where
       go : (b : Bool) (o : Option (Refusal × ℕ))
-          → by_checks b o ≡ by_fault (elim b [ true ↦ At ClockEnd 0 | false ↦ fault_of o ])
+          → by_checks b o ≡ by_fault (elim b [ true ↦ fault_with ClockEnd 0 | false ↦ fault_of o ])
       go true o = refl
       go false none = refl
       go false (some f) = refl

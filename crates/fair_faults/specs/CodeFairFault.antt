@@ -1,10 +1,9 @@
 -- What turns a slot back where some outputs are fair, by its table, its memory and its records.
 use Rattle.std.specs.Prelude.{ℕ, true, false, cond, List, eqb}
 use Rattle.std.proofs.Math.Option.{Option, none, some}
+use Rattle.cell.specs.Checked.{Checked, fault_with}
 use Rattle.cell.specs.declared.Arrival.{Arrival}
 use Rattle.cell.specs.declared.Cell.{Cell}
-use Rattle.cell.specs.declared.Fault.{Fault}
-use Rattle.cell.specs.declared.Fault.TheVariants.{At}
 use Rattle.cell.specs.declared.Refusal.{Refusal}
 use Rattle.cell.specs.declared.Refusal.TheVariants.{ClockEnd, BadWeight, RankEnd}
 use Rattle.cell.specs.Limits.{clock_end}
@@ -25,9 +24,9 @@ abbrev pub first_fair : Switch → Memory → List Arrival → Option (Refusal �
 first_fair s m records = record_fault_from s.ports s.clock (cells s) m 1 none records
 
 -- the fault of a slot's records: the clock's end, or the first fault of a record, or none
-unfoldable pub fair_fault_in : Switch → Memory → List Arrival → Fault
+unfoldable pub fair_fault_in : Switch → Memory → List Arrival → Checked
 fair_fault_in s m records =
     elim (eqb s.clock clock_end) [
-      | true ↦ At ClockEnd 0
+      | true ↦ fault_with ClockEnd 0
       | false ↦ fault_of (first_fair s m records)
     ]

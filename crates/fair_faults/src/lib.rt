@@ -2,7 +2,7 @@
 // table, its memory and its records before anything of it runs.
 #![tactic(auto)]
 
-ghost use Rattle.std.specs.Prelude.{◌≡◌, ◌+◌, ◌≤◌, ◌<◌, length, take};
+ghost use Rattle.std.specs.Prelude.{◌≡◌, ◌+◌, ◌≤◌, ◌<◌, length};
 ghost use Rattle.std.proofs.Math.Option.{Option};
 ghost use Rattle.cell.specs.declared.Cell.{Cell};
 ghost use Rattle.layout.specs.Arrivals.{held_limit};
@@ -12,49 +12,43 @@ ghost use Rattle.slot_faults.specs.CodeFault.{fault_at, fault_of, turn_after};
 ghost use Rattle.fair_faults.specs.CodeFairFault.{fair_fault_by, fair_fault_in, first_fair, rank_fault};
 
 use cell::{Arrival, Fault, Refusal, Switch};
-use layout::HELD;
 use slot_faults::cell_of;
 use slot_faults::checks::{port_fault, waiting_fault};
 
-// The first fault of a slot on a sound table with the first of the held records, and the record's place.
-pub fn fair_fault(table: &[u8], memory: &[u8], records: [Arrival; HELD], many: usize) -> Fault
+// The first fault of a slot on a sound table with no more records than are looked at, and the record's place.
+pub fn fair_fault(table: &[u8], memory: &[u8], records: &[Arrival]) -> Result<(), Fault>
     requires table { IsTable table.now }
     requires memory_len { length memory.now ≡ memory_size }
-    requires many_le_held_limit { many ≤ held_limit }
-    ensures { result
-        ≡ fair_fault_in (state_of table.now) (memory_of memory.now) (take many records) }
+    requires many_le_held_limit { length records.now ≤ held_limit }
+    ensures { result ≡ fair_fault_in (state_of table.now) (memory_of memory.now) records.now }
 {
     if layout_table::header::clock_of(table) == Switch::CLOCK_END {
-        return Fault::At(Refusal::ClockEnd, 0);
+        return Err(Fault {
+            refusal: Refusal::ClockEnd,
+            place: 0,
+        });
     }
-    check_records(table, memory, records, many)
+    check_records(table, memory, records)
 }
 
-// Looks at the first of the held records one by one, up to one that has a fault.
-fn check_records(table: &[u8], memory: &[u8], records: [Arrival; HELD], many: usize) -> Fault
+// Looks at the records one by one, up to one that has a fault.
+fn check_records(table: &[u8], memory: &[u8], records: &[Arrival]) -> Result<(), Fault>
     requires table { IsTable table.now }
     requires memory_len { length memory.now ≡ memory_size }
-    requires many_le_held_limit { many ≤ held_limit }
-    ensures { result
-        ≡ fault_of (first_fair (state_of table.now) (memory_of memory.now) (take many records)) }
+    requires many_le_held_limit { length records.now ≤ held_limit }
+    ensures { result ≡ fault_of (first_fair (state_of table.now) (memory_of memory.now) records.now) }
 {
     let mut turn = 0;
-    let mut n = 0;
-    while n < many {
-        let a = records[n];
-        let fault = check_next(table, memory, turn, n, a);
-        let Fault::Clear = fault else {
-            return fault;
-        };
-        turn = a.input + 1;
-        n += 1;
+    for (n, record) in records.iter().enumerate() {
+        check_next(table, memory, turn, n, *record)?;
+        turn = record.input + 1;
     }
-    Fault::Clear
+    Ok(())
 }
 
 // Looks at the record behind the first n. `turn` is the lowest input whose turn it is. The ports, the flow and the turn
 // are looked at with the weight for a rank: they do not depend on it.
-fn check_next(table: &[u8], memory: &[u8], turn: u32, n: usize, a: Arrival) -> Fault
+fn check_next(table: &[u8], memory: &[u8], turn: u32, n: usize, a: Arrival) -> Result<(), Fault>
     requires table { IsTable table.now }
     requires memory_len { length memory.now ≡ memory_size }
     requires n_lt_held_limit { n < held_limit }
@@ -63,30 +57,29 @@ fn check_next(table: &[u8], memory: &[u8], turn: u32, n: usize, a: Arrival) -> F
 {
     let place = (n + 1) as u32;
     let clock = layout_table::header::clock_of(table);
-    let ported = port_fault(table, turn, place, cell_of(a, clock));
-    let Fault::Clear = ported else {
-        return ported;
-    };
-    let ranked = rank_fault(memory, place, a);
-    let Fault::Clear = ranked else {
-        return ranked;
-    };
+    port_fault(table, turn, place, cell_of(a, clock))?;
+    rank_fault(memory, place, a)?;
     let made = fair_ranks::make(memory, a);
     waiting_fault(table, place, cell_of(made, clock))
 }
 
 // The checks of the rank that is made, 14 and 15.
-fn rank_fault(memory: &[u8], place: u32, a: Arrival) -> Fault
+#[tactic(auto, unfolding(crate::specs::CodeFairFault::rank_fault, slot_faults::specs::CodeFault::fault_at))]
+fn rank_fault(memory: &[u8], place: u32, a: Arrival) -> Result<(), Fault>
     requires { length memory.now ≡ memory_size }
     ensures { result ≡ fault_at place (rank_fault (memory_of memory.now) a) }
 {
-    let no_weight = fair_ranks::bad_weight(memory, a);
-    let past_end = fair_ranks::rank_end(memory, a);
-    if no_weight {
-        return Fault::At(Refusal::BadWeight, place);
+    if fair_ranks::bad_weight(memory, a) {
+        return Err(Fault {
+            refusal: Refusal::BadWeight,
+            place,
+        });
     }
-    if past_end {
-        return Fault::At(Refusal::RankEnd, place);
+    if fair_ranks::rank_end(memory, a) {
+        return Err(Fault {
+            refusal: Refusal::RankEnd,
+            place,
+        });
     }
-    Fault::Clear
+    Ok(())
 }
