@@ -14,18 +14,9 @@ pub fn read_records(arrivals: &[u8]) -> [Arrival; HELD]
         ≡ arrivals_of (min (length arrivals.now / arrival_size) held_limit) arrivals.now }
 {
     let end = few(arrivals.len() / ARRIVAL_BYTES);
-    let none = Arrival {
-        input: 0,
-        output: 0,
-        flow: 0,
-        rank: 0,
-        tag: 0,
-    };
-    let mut records = [none; HELD];
-    let mut n = 0;
-    while n < end {
+    let mut records = [Arrival::default(); HELD];
+    for n in 0..end {
         records[n] = record_at(arrivals, n);
-        n += 1;
     }
     records
 }
@@ -50,8 +41,5 @@ fn record_at(arrivals: &[u8], k: usize) -> Arrival
 pub fn few(count: usize) -> usize
     ensures { result ≡ min count held_limit }
 {
-    if count < HELD {
-        return count;
-    }
-    HELD
+    count.min(HELD)
 }
