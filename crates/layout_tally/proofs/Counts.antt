@@ -1,27 +1,18 @@
 -- The tally as code: its four counts read, raised and put back.
-use Prim.Native.Nat.{ℕ, ◌+◌, ◌-◌, ◌<◌, ◌≤◌}
+use Prim.Native.Nat.{ℕ, ◌+◌, ◌≤◌}
 use native.Mathlib.Omega.{arith}
 use mathlib.Core.Bool.{Bool, true, false}
 use mathlib.Core.List.{List, ◌++◌, append_assoc, append-nil}
 use mathlib.Core.Path.{◌≡◌, ap, ap₂, ◌∙◌}
 use lib.ListN.{length, length-append, drop_of_length-le}
 use Rattle.cell.specs.declared.Tally.{Tally}
-use Rattle.model.specs.Tally.{count_top, raise, after_run, after_refused}
+use Rattle.model.specs.Tally.{raise, after_run, after_refused}
 use Rattle.layout.specs.Number.{bytes_of, number_at}
 use Rattle.layout.specs.TallyBytes.{tally_of, tally_bytes, tally_size}
 use Rattle.layout.proofs.Number.{length-bytes_of}
 use Rattle.layout.proofs.Put.{put_next}
 use Rattle.layout.specs.Code.{put}
 use Rattle.layout_tally.specs.Counted.{counted_as}
-
--- a count that has no room for more stops at its top
-pub raise-top : (by n : ℕ) → n ≤ count_top → count_top - n < by → count_top ≡ raise by n
-unfolding raise
-raise-top by n f h = omega arith
-
-pub raise-room : (by n : ℕ) → n ≤ count_top → by ≤ count_top - n → n + by ≡ raise by n
-unfolding raise
-raise-room by n f h = omega arith
 
 pub made-run : (ran : Bool) (arrivals departures : ℕ) (t : Tally) (a b d : ℕ) → ran ≡ true
     → a ≡ raise 1 t.run → b ≡ raise arrivals t.arrived → d ≡ raise departures t.departed

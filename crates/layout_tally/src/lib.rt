@@ -2,7 +2,6 @@
 #![tactic(auto)]
 
 ghost use Rattle.std.specs.Prelude.{◌≡◌, length};
-ghost use Rattle.model.specs.Tally.{raise};
 ghost use Rattle.layout.specs.TallyBytes.{tally_of, tally_bytes, tally_size};
 ghost use Rattle.layout_tally.specs.Counted.{counted_as};
 
@@ -12,39 +11,27 @@ use cell::Tally;
 pub fn count(tally: &mut Tally, ran: bool, arrivals: u64, departures: u64)
     ensures { tally.new ≡ counted_as ran arrivals departures tally.old }
 {
-    let before: Tally = *tally;
-    let after: Tally = counted(before, ran, arrivals, departures);
-    *tally = after;
+    *tally = counted(*tally, ran, arrivals, departures);
 }
 
-// The tally after a slot: an accepted one counts itself, its arrivals and its departures, a refused one only itself.
+// The tally after a slot: an accepted one counts itself, its arrivals and its departures, a refused one only itself. A
+// count at its top stays there.
 pub fn counted(t: Tally, ran: bool, arrivals: u64, departures: u64) -> Tally
     ensures { result ≡ counted_as ran arrivals departures t }
 {
     if ran {
-        return Tally {
-            run: raised(t.run, 1),
-            refused: t.refused,
-            arrived: raised(t.arrived, arrivals),
-            departed: raised(t.departed, departures),
-        };
+        Tally {
+            run: t.run.saturating_add(1),
+            arrived: t.arrived.saturating_add(arrivals),
+            departed: t.departed.saturating_add(departures),
+            ..t
+        }
+    } else {
+        Tally {
+            refused: t.refused.saturating_add(1),
+            ..t
+        }
     }
-    Tally {
-        run: t.run,
-        refused: raised(t.refused, 1),
-        arrived: t.arrived,
-        departed: t.departed,
-    }
-}
-
-// A count at its top stays there.
-fn raised(n: u64, by: u64) -> u64
-    ensures { result ≡ raise by n }
-{
-    if 18446744073709551615 - n < by {
-        return 18446744073709551615;
-    }
-    n + by
 }
 
 // The tally that the bytes are.
