@@ -1,18 +1,17 @@
 -- How many crosspoints of each output hold a cell.
 --     filled_at-more, filled_at-few       one input more
---     counted_none, counted-more        one output more
 --     counted-occupancies               where the crosspoints hold the cells of a phase, that is its occupancies
 use Prim.Native.Nat.{ℕ, ◌+◌, ◌-◌, ◌/◌, ◌≤◌, ◌<◌}
 use native.Mathlib.Omega.{arith}
 use native.Mathlib.Numerals.{add-one}
 use mathlib.Core.Bool.{Bool, true, false, cond}
-use mathlib.Core.Path.{◌≡◌, sym, ◌∙◌, ap, ap₂}
-use mathlib.Core.Logic.{◌⊎◌, inl, inr, ◌≢◌}
+use mathlib.Core.Path.{◌≡◌, refl, sym, ◌∙◌, ap, ap₂}
+use mathlib.Core.Logic.{◌⊎◌, inl, inr}
 use mathlib.Core.List.{List, [], ◌∷◌}
-use borrow.Author.Tests.{eqb-true, eqb-false, eq-eqb, ltb-true, ltb-false, lt-ltb, le-ltb}
+use borrow.Author.Tests.{eqb-true, eq-eqb, ltb-true, ltb-false, lt-ltb}
 use lib.Dec.{ltb, eqb}
-use lib.ListN.{length, get_or, set, length-set, get_or-eq_default}
-use lib.Seq.{get_or-set_same, get_or-set_other}
+use lib.ListN.{length, get_or, get_or-eq_default}
+use mir.Val.{bool_byte}
 use Rattle.laws.specs.Lists.{some?, count, numbers_from, up_to}
 use Rattle.laws.proofs.Tests.{either, clash, by-fail, and_i, and_l, and_r}
 use Rattle.laws.proofs.Lists.{some?-i, some?-e, none?-i}
@@ -32,10 +31,13 @@ use Rattle.slot_view.proofs.Window.{in_table-below}
 use Rattle.slot_moves.specs.CodeMoves.{filled_at, Counted}
 
 -- what a crosspoint counts for
-pub counts-came : {T E : Type 0} {k n : ℕ} → (T → k < nowhere) → (E → nowhere ≤ k) → (T × (n ≡ 1)) ⊎ (E × (n ≡ 0))
-    → n ≡ cond (ltb k nowhere) 1 0
-counts-came {k = k} f g (inl (t, e)) = rw (lt-ltb k nowhere (f t)) e
-counts-came {k = k} f g (inr (t, e)) = rw (le-ltb k nowhere (g t)) e
+pub counts-is : (filled : Bool) → bool_byte filled ≡ cond filled 1 0
+counts-is true = refl
+counts-is false = refl
+
+pub counts-few : (filled : Bool) → bool_byte filled ≤ 1
+counts-few true = omega arith
+counts-few false = omega arith
 
 module _ (cross : List (List ℕ)) where
   pub filled_at-more : (n output : ℕ)
@@ -55,26 +57,6 @@ module _ (cross : List (List ℕ)) where
   filled_at-few n output =
       let all : length (up_to n) ≡ n = length-numbers_from 0 n in
       omega (arith, count-le-length (λ input. ltb (crosspoint_at cross input output) nowhere) (up_to n))
-
-  pub counted_none : {occupancy : List ℕ} → length occupancy ≡ port_limit → Counted cross 0 occupancy
-  counted_none e = record { size = e; at = λ output l. absurd (omega arith) }
-
-  pub counted-more : {occupancy : List ℕ} (n k : ℕ) → n < port_limit → Counted cross n occupancy → k ≡ filled_at cross port_limit n
-      → Counted cross (n + 1) (set occupancy n k)
-  counted-more {occupancy} n k room h e =
-      record { size = length-set occupancy n k ∙ h.size; at = λ output l. at output (either (eqb output n)) l }
-    where
-      at : (output : ℕ) → (eqb output n ≡ true) ⊎ (eqb output n ≡ false) → output < n + 1
-          → get_or (set occupancy n k) output 0 ≡ filled_at cross port_limit output
-      at output (inl t) l =
-          let q : output ≡ n = eqb-true output n t in
-          ap (λ j. get_or (set occupancy n k) j 0) q
-          ∙ get_or-set_same occupancy n k 0 (omega (arith, h.size))
-          ∙ e
-          ∙ ap (filled_at cross port_limit) (sym q)
-      at output (inr f) l =
-          let other : output ≢ n = eqb-false output n f in
-          get_or-set_other occupancy n output k 0 other ∙ h.at output (omega arith)
 
 ------------------------------------------------------------------------
 -- the crosspoints that hold some cells

@@ -55,11 +55,15 @@ pub fn move_cells(
     ensures table_2 { IsTable table.new }
     ensures occupancies_of { OccupanciesOf (state_of table.old) result }
 {
-    let scheduled = choice.scheduled;
+    let Marks { inputs, outputs } = go_straight(
+        table,
+        listed,
+        heads,
+        best,
+        &choice.scheduled,
+        &held,
+    );
     let mut crossed = choice.best;
-    let marks = go_straight(table, listed, heads, best, &scheduled, &held);
-    let inputs = marks.inputs;
-    let outputs = marks.outputs;
     send_scheduled(
         table,
         listed,
@@ -67,12 +71,11 @@ pub fn move_cells(
         cross,
         keys,
         &mut crossed,
-        &scheduled,
+        &choice.scheduled,
         &inputs,
     );
     let output_choice = choose_crossed(cross, crossed);
-    let chosen = output_choice.best;
-    pull_best(table, cross, keys, best, &chosen, &outputs);
+    pull_best(table, cross, keys, best, &output_choice.best, &outputs);
     output_choice.occupancy
 }
 
@@ -94,8 +97,7 @@ fn go_straight(
 {
     let mut inputs = [false; PORTS];
     let mut outputs = [false; PORTS];
-    let mut output = 0;
-    while output < PORTS {
+    for output in 0..PORTS {
         let number = straight_number(scheduled, held, output);
         straight_to(
             table,
@@ -107,7 +109,6 @@ fn go_straight(
             number,
             output,
         );
-        output += 1;
     }
     Marks { inputs, outputs }
 }
@@ -132,11 +133,9 @@ fn send_scheduled(
         heads.old heads.new cross.old cross.new
         keys.old keys.new best.old best.new }
 {
-    let mut input = 0;
-    while input < PORTS {
+    for input in 0..PORTS {
         let number = send_number(scheduled, straight, input);
         send(table, listed, heads, cross, keys, best, number);
-        input += 1;
     }
 }
 
@@ -146,10 +145,8 @@ fn choose_crossed(cross: &[[u16; PORTS]; PORTS], best: [u16; PORTS]) -> OutputCh
     ensures { (result.best ≡ best) × Counted cross.now port_limit result.occupancy }
 {
     let mut occupancy = [0; PORTS];
-    let mut output = 0;
-    while output < PORTS {
+    for output in 0..PORTS {
         occupancy[output] = occupancy_of(cross, output);
-        output += 1;
     }
     OutputChoice { best, occupancy }
 }
@@ -161,11 +158,8 @@ fn occupancy_of(cross: &[[u16; PORTS]; PORTS], output: usize) -> u16
     ensures { result ≡ filled_at cross.now port_limit output }
 {
     let mut count = 0;
-    let mut input = 0;
-    while input < PORTS {
-        let filled = if cross[input][output] < NOWHERE { 1 } else { 0 };
-        count += filled;
-        input += 1;
+    for input in 0..PORTS {
+        count += u16::from(cross[input][output] < NOWHERE);
     }
     count
 }
@@ -187,10 +181,8 @@ fn pull_best(
         table.old table.new cross.old cross.new
         keys.old keys.new best.old best.new }
 {
-    let mut output = 0;
-    while output < PORTS {
+    for output in 0..PORTS {
         let number = pull_number(crossed, straight, output);
         pull(table, cross, keys, best, number, output);
-        output += 1;
     }
 }
