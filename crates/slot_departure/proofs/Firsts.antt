@@ -1,25 +1,18 @@
 -- The first cell of each input that leaves, output by output.
-use Prim.Native.Nat.{ℕ, ◌+◌, ◌/◌, ◌≤◌, ◌<◌}
+use Prim.Native.Nat.{ℕ, ◌+◌, ◌/◌, ◌≤◌, ◌<◌, min}
+use native.Mathlib.Nat.{min-eq_left, min-eq_right}
 use native.Mathlib.Omega.{arith}
-use mathlib.Core.Path.{◌≡◌, refl, sym, ◌∙◌, ap}
+use mathlib.Core.Path.{◌≡◌, sym, ◌∙◌, ap, subst}
 use mathlib.Core.Logic.{◌≢◌}
 use mathlib.Core.List.{List}
-use lib.ListN.{get_or, set, replicate, length-set, get_or-replicate}
-use lib.Seq.{get_or-set_same, get_or-set_other}
+use lib.ListN.{get_or, set, length-set}
+use lib.Seq.{get_or-set_same, get_or-set_other, set-get_or}
 use Rattle.cell.specs.Limits.{port_limit, section_room}
 use Rattle.laws.proofs.Compared.{Compared, below, equal, above, compare}
 use Rattle.layout_table.specs.CodeEntries.{nowhere}
 use Rattle.slot_departure.specs.Code.{Firsts}
 
 module _ (numbers : List ℕ) where
-  pub firsts-none : Firsts numbers 0 (replicate port_limit nowhere)
-  firsts-none =
-      record {
-        size = refl;
-        least = λ o l. absurd (omega arith);
-        real = λ i l s. absurd (omega (arith, get_or-replicate port_limit i nowhere 0 l));
-      }
-
   module _ (o : ℕ) (firsts : List ℕ) (f : Firsts numbers o firsts) where
     abbrev n : ℕ
     n = get_or numbers o 0
@@ -60,7 +53,7 @@ module _ (numbers : List ℕ) where
       lower j (equal d) = omega (arith, same j d, ap (λ k. get_or firsts k 0) d)
       lower j (above d) = omega (arith, other j (omega arith))
 
-      pub firsts-lower : Firsts numbers (o + 1) (set firsts (get_or numbers o 0 / section_room) (get_or numbers o 0))
+      firsts-lower : Firsts numbers (o + 1) (set firsts (get_or numbers o 0 / section_room) (get_or numbers o 0))
       firsts-lower =
           record {
             size = length-set firsts i n ∙ f.size;
@@ -88,3 +81,22 @@ module _ (numbers : List ℕ) where
           own j l s (equal d) =
               (ap (λ m. m / section_room) (same j d) ∙ sym d, o, omega arith, sym (same j d))
           own j l s (above d) = kept j l s (omega arith)
+
+    -- its cell or the first so far, whichever is earlier
+    pub firsts_min : (m : ℕ) → get_or numbers o 0 < nowhere
+        → m ≡ min (get_or firsts (get_or numbers o 0 / section_room) 0) (get_or numbers o 0)
+        → Firsts numbers (o + 1) (set firsts (get_or numbers o 0 / section_room) m)
+    firsts_min m small e = go (compare (get_or firsts i 0) n)
+      where
+        stay : get_or firsts i 0 ≤ n → Firsts numbers (o + 1) (set firsts i m)
+        stay h =
+            subst (Firsts numbers (o + 1))
+            (sym (ap (set firsts i) (e ∙ min-eq_left h) ∙ set-get_or firsts i 0))
+            (firsts_same (λ l. h))
+
+        go : Compared (get_or firsts i 0) n → Firsts numbers (o + 1) (set firsts i m)
+        go (below d) = stay (omega arith)
+        go (equal d) = stay (omega arith)
+        go (above d) =
+            subst (λ k. Firsts numbers (o + 1) (set firsts i k)) (sym (e ∙ min-eq_right (omega arith)))
+            (firsts-lower small d)

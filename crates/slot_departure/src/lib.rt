@@ -43,10 +43,8 @@ fn send(table: &[u8], best: &[u16; PORTS], answer: &mut [u8])
         ≡ filled (departures_bytes port_limit (map (departure_at table.now) best.now))
         answer.old }
 {
-    let mut output = 0;
-    while output < PORTS {
+    for output in 0..PORTS {
         send_one(table, best[output], answer, DEPARTURE_BYTES * output);
-        output += 1;
     }
 }
 
@@ -76,11 +74,8 @@ fn remove(table: &mut [u8], best: &[u16; PORTS])
     ensures { table.new ≡ encode (departed (state_of table.old)) }
 {
     let firsts = first_leaving(best);
-    let ports = layout_table::header::ports_of(table);
-    let mut input = 0;
-    while input < ports {
+    for input in 0..layout_table::header::ports_of(table) {
         remove_from(table, best, input, firsts[input]);
-        input += 1;
     }
 }
 
@@ -89,28 +84,13 @@ fn first_leaving(best: &[u16; PORTS]) -> [u16; PORTS]
     ensures { Firsts best.now port_limit result }
 {
     let mut firsts = [NOWHERE; PORTS];
-    let mut output = 0;
-    while output < PORTS {
-        note_leaving(best, &mut firsts, output);
-        output += 1;
+    for &number in best {
+        if number < NOWHERE {
+            let input = number as usize / CELLS;
+            firsts[input] = firsts[input].min(number);
+        }
     }
     firsts
-}
-
-// The cell of one output.
-fn note_leaving(best: &[u16; PORTS], firsts: &mut [u16; PORTS], output: usize)
-    requires { (output < port_limit) × Firsts best.now output firsts.old }
-    ensures { Firsts best.now (output + 1) firsts.new }
-{
-    let number = best[output];
-    if number >= NOWHERE {
-        return;
-    }
-    let input = number as usize / CELLS;
-    if firsts[input] <= number {
-        return;
-    }
-    firsts[input] = number;
 }
 
 // One section, whose first cell that leaves has the number `from`: if there is one, those behind it that stay close up,
@@ -124,10 +104,8 @@ fn remove_from(table: &mut [u8], best: &[u16; PORTS], input: usize, from: u16)
     }
     let end = layout_table::header::end_of(table, input);
     let mut free = from as usize;
-    let mut k = from as usize;
-    while k < end {
+    for k in from as usize..end {
         free = close_one(table, best, k, free);
-        k += 1;
     }
     clear(table, free, end);
     layout_table::header::write_count(table, input, free - CELLS * input);
@@ -147,15 +125,14 @@ fn close_one(table: &mut [u8], best: &[u16; PORTS], k: usize, free: usize) -> us
     free + 1
 }
 
-// Clears the records from one up to another.
+// Clears the records from one up to another. Kept record by record, not as a `fill` of their bytes: behind the last
+// record of all no record starts (`start_of`).
 fn clear(table: &mut [u8], from: usize, to: usize)
     requires { (length table.old ≡ table_size) × (from ≤ to) × (to ≤ entry_limit) }
     ensures { table.new ≡ cleared_from table.old from (to - from) }
 {
-    let mut k = from;
-    while k < to {
+    for k in from..to {
         clear_one(table, k);
-        k += 1;
     }
 }
 
