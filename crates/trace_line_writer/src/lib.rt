@@ -101,9 +101,9 @@ fn write_line(out: &mut [u8], end: usize, key: Key, n: usize) -> usize
     ensures { Written out.old end (line key n) out.new result }
 {
     let feed = end - 1;
-    out[feed] = 10;
+    out[feed] = b'\n';
     let number = write_number(out, feed, n);
-    write_key(out, number, key)
+    write_text(out, number, key_text(key))
 }
 
 // The decimal digits of a number.
@@ -121,14 +121,6 @@ pub fn write_number(out: &mut [u8], end: usize, n: usize) -> usize
         }
         rest /= 10;
     }
-}
-
-// A key and `=`.
-fn write_key(out: &mut [u8], end: usize, key: Key) -> usize
-    requires { Room (key_text key) end (length out.old) }
-    ensures { Written out.old end (key_text key) out.new result }
-{
-    write_text(out, end, key_text(key))
 }
 
 // Any text.
