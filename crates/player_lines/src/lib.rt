@@ -16,6 +16,7 @@ ghost use Rattle.player_lines.specs.Writing.{departure_room, turn_room, Wrote};
 use cell::Arrival;
 use layout::HELD;
 use trace::{FIELDS, Key};
+use trace_line_writer::TraceLine;
 
 // The first records of a block's numbers.
 pub fn records_of(numbers: &[u32], count: usize) -> [Arrival; HELD]
@@ -30,10 +31,8 @@ pub fn records_of(numbers: &[u32], count: usize) -> [Arrival; HELD]
         tag: 0,
     };
     let mut records = [none; HELD];
-    let mut n = 0;
-    while n < count {
+    for n in 0..count {
         records[n] = trace_writer::arrival_at(&numbers[FIELDS * n..]);
-        n += 1;
     }
     records
 }
@@ -54,8 +53,11 @@ pub fn put_header(out: &mut [u8], ports: u32, first: u32) -> usize
     requires { turn_room ≤ length out.old }
     ensures { Wrote (line Ports ports ++ line First first) out.old out.new result }
 {
-    let at = trace_line_writer::put_line(out, 0, Key::Ports, ports);
-    trace_line_writer::put_line(out, at, Key::First, first)
+    let lines = [
+        TraceLine::new(Key::Ports, ports),
+        TraceLine::new(Key::First, first),
+    ];
+    trace_line_writer::put_lines(out, 0, &lines)
 }
 
 // The line `slot`, and the departures of an answer.
@@ -75,12 +77,10 @@ fn put_departures(out: &mut [u8], at: usize, answer: &[u8]) -> usize
         out.new result }
 {
     let mut place = at;
-    let mut output = 0;
-    while output < layout::PORTS {
+    for output in 0..layout::PORTS {
         let start = layout::DEPARTURE_BYTES * output;
         let end = start + layout::DEPARTURE_BYTES;
         place = put_sent(out, place, &answer[start..end]);
-        output += 1;
     }
     place
 }

@@ -21,12 +21,10 @@ pub fn text() -> [u8; BYTES]
 {
     let mut out = [0u8; BYTES];
     let mut place = BYTES;
-    let mut weight = 1024;
-    while 0 < weight {
+    for weight in (1..=1024).rev() {
         place -= 1;
-        out[place] = 10;
+        out[place] = b'\n';
         place = trace_line_writer::write_number(&mut out, place, 1048576 / weight);
-        weight -= 1;
     }
     out
 }

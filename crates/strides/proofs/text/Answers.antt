@@ -7,18 +7,18 @@ use Rattle.strides.proofs.Lines.{Ends, behind, line-room, ends-none, ends-line, 
 use Rattle.strides.proofs.text.Goals as goal
 
 pub loop-weight-init : goal.loop-weight-init
-loop-weight-init c = (omega arith, ends-none _ (search rules))
+loop-weight-init c = ends-none _ (search rules)
 
 pub overflow_sub-place : goal.overflow_sub-place
 overflow_sub-place c =
     let at = c.loop-weight in
-    omega (arith, line-room at.weight (omega arith) at.invariant.0 at.invariant.1)
+    omega (arith, line-room at.weight (omega arith) (omega arith) at.invariant)
 
 pub write_number-place-requires : goal.write_number-place-requires
 unfolding stride
 write_number-place-requires c =
     let at = c.loop-weight in (
-      omega (arith, line-room at.weight (omega arith) at.invariant.0 at.invariant.1),
+      omega (arith, line-room at.weight (omega arith) (omega arith) at.invariant),
       search rules,
     )
 
@@ -27,14 +27,12 @@ unfolding stride stride_line
 loop-weight-preserved c =
     let at = c.loop-weight in
     let low : 1 ≤ at.weight = omega arith in
-    let room : 1 ≤ at.place = omega (arith, line-room at.weight low at.invariant.0 at.invariant.1) in (
-      omega arith,
-      ends-line at.weight low at.invariant.0 at.invariant.1
-          (written_then (written_byte at.out at.place _ room) c.write_number-place.ensures),
-    )
+    let room : 1 ≤ at.place = omega (arith, line-room at.weight low (omega arith) at.invariant) in
+    ends-line at.weight low (omega arith) at.invariant
+    (written_then (written_byte at.out at.place _ room) c.write_number-place.ensures)
 
 pub returns : goal.returns
 returns c =
     let at = c.loop-weight in
     let none : at.weight ≡ 0 = omega arith in
-    ends-text at.out at.place (subst (λ w. Ends (behind w) at.out at.place) none at.invariant.1)
+    ends-text at.out at.place (subst (λ w. Ends (behind w) at.out at.place) none at.invariant)
