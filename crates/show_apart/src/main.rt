@@ -16,7 +16,6 @@ use layout::{ANSWER_BYTES, ARRIVAL_BYTES, FAIR_BYTES, TALLY_BYTES};
 use say::{say, tell};
 use stage::{show, show_fair};
 use std::io::Stdout;
-use trace_reader::Verdict;
 
 fn main(rt: HostRuntime) {
     let out = rt.stdout();
@@ -35,10 +34,10 @@ fn main(rt: HostRuntime) {
 // `rank=05` gives 9, by the reader.
 fn bad_line(out: Stdout) {
     match trace_reader::verify(b"ports=2\nfirst=0\nslot=0\nin=0\nout=1\nflow=0\nrank=05\n") {
-        Verdict::Accepted(_) => say(out, b"rank=05: DIFFERS\n"),
-        Verdict::Refused(refusal, line) => {
-            tell(out, b"rank=05: ", refusal.number() as u64);
-            tell(out, b" at line ", line as u64);
+        Ok(_) => say(out, b"rank=05: DIFFERS\n"),
+        Err(bad) => {
+            tell(out, b"rank=05: ", bad.refusal.number() as u64);
+            tell(out, b" at line ", bad.line as u64);
             say(out, b"\n");
         }
     }

@@ -4,7 +4,6 @@
 
 use cell::Refusal;
 use std::io::Stdout;
-use trace_reader::Verdict;
 
 fn main(rt: HostRuntime) {
     let output = rt.stdout();
@@ -172,10 +171,10 @@ fn written(output: Stdout) {
 fn read(output: Stdout, name: &[u8], text: &[u8]) {
     print(output, name);
     match trace_reader::verify(text) {
-        Verdict::Accepted(_) => print(output, b": accepted\n"),
-        Verdict::Refused(refusal, line) => {
+        Ok(_) => print(output, b": accepted\n"),
+        Err(bad) => {
             print(output, b": ");
-            refused(output, refusal, line);
+            refused(output, bad.refusal, bad.line);
         }
     }
 }

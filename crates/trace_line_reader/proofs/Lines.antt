@@ -1,27 +1,25 @@
 -- The reader of a line:
---     line_of-none, -some                 its answer, by what was read
---     read_line-missing, -before, -short  a line, by its key
---     rest                               the slice from a place
---     number-bad, -got, taken            a line as a cursor has it
-use Prim.Native.Nat.{ℕ, ◌+◌, ◌-◌, ◌≤◌}
+--     line_of-none, -some, -bad, -line      its answer, by what was read
+--     read_line-missing, -behind            a line, by what follows its key
+--     rest                                  the slice from a place
+--     number-bad, -got, taken, bad-err      a line as a cursor has it
+use Prim.Native.Nat.{ℕ, suc, ◌+◌, ◌-◌, ◌≤◌, ◌<◌}
 use native.Mathlib.Omega.{arith}
-use mathlib.Core.Bool.{Bool, true, false}
-use mathlib.Core.List.{List, ◌++◌}
-use mathlib.Core.Option.{Option, none, some, bind}
+use mathlib.Core.List.{List, ◌∷◌, ◌++◌}
+use mathlib.Core.Option.{Option as Math, none, some, bind}
 use mathlib.Core.Path.{◌≡◌, refl, sym, ap, ◌∙◌}
-use lib.ListN.{length, take, drop, length-append, length-drop, drop_of_length-le}
+use lib.ListN.{length, take, drop, length-append, length-drop}
 use lib.Seq.{take_all, drop_at}
 use Rattle.trace.specs.declared.Key.{Key}
+use Rattle.std.specs.Prelude.{Option, Some, None, Result, Ok, Err, ok_or}
 use Rattle.trace_line_reader.specs.declared.Line.{Line}
-use Rattle.trace_line_reader.specs.declared.Line.TheVariants.{Number, Bad}
-use Rattle.trace.specs.Line.{key_text, line, read_line}
-use Rattle.trace.specs.Reader.{from, got, bad_at, number, begins}
+use Rattle.trace.specs.Line.{key_text, line, after, read_line}
+use Rattle.trace.specs.Reader.{from, got, bad_at, number}
 use Rattle.trace_line_reader.specs.Reading.{line_of}
-use Rattle.trace.proofs.Line.{read_line-exact}
+use Rattle.trace.proofs.Line.{after-exact, read_line-exact}
+use Rattle.trace.proofs.Lengths.{length-line}
 use Rattle.trace.proofs.Blocks.{number-some, number-none}
-use Rattle.trace_line_reader.proofs.Marks.{begins_with-false, begins_with-true}
-use Rattle.trace_line_reader.proofs.Numbers.{read_body-nil}
-use Rattle.trace_line_reader.specs.Code.{begins_with, read_body}
+use Rattle.trace_line_reader.specs.Code.{read_body}
 
 -- the rest of a text, by how much was read
 pub drop-rest : (x rest t : List ℕ) → t ≡ x ++ rest
@@ -32,50 +30,77 @@ drop-rest x rest t h =
     (sym (ap (drop (length t - length rest)) h ∙ drop_at x rest _ n), omega arith)
 
 module _ (t : List ℕ) where
-  pub line_of-none : {o : Option (ℕ × List ℕ)} → o ≡ none → line_of t o ≡ Bad
+  pub line_of-none : {o : Math (ℕ × List ℕ)} → o ≡ none → line_of t o ≡ None
   unfolding line_of
   line_of-none h = rw (h, line_of)
 
-  pub line_of-some : {o : Option (ℕ × List ℕ)} {n i : ℕ} → o ≡ some (n, drop i t) → i ≤ length t → line_of t o ≡ Number n i
+  pub line_of-some : {o : Math (ℕ × List ℕ)} {n i : ℕ} → o ≡ some (n, drop i t) → i ≤ length t
+      → line_of t o ≡ Some (record { number = n; length = i })
   unfolding line_of
   line_of-some {n} {i} h l =
       let e : length t - length (drop i t) ≡ i = simp length-drop (omega arith) in
-      rw (h, line_of) (ap (Number n) e)
+      rw (h, line_of) (ap (λ j. Some (record { number = n; length = j })) e)
 
-  line_of-bad : (o : Option (ℕ × List ℕ)) → line_of t o ≡ Bad → o ≡ none
+  pub line_of-bad : (o : Math (ℕ × List ℕ)) → line_of t o ≡ None → o ≡ none
   unfolding line_of
   line_of-bad none h = refl
   line_of-bad (some s) h = cc
 
-  line_of-number : (k : Key) (o : Option (ℕ × List ℕ)) → read_line k t ≡ o → {n i : ℕ} → line_of t o ≡ Number n i
-      → (o ≡ some (n, drop i t)) × (i ≤ length t)
+  -- an x before the text that is left
+  pub line_of-line : (o : Math (ℕ × List ℕ)) → ((s : ℕ × List ℕ) → o ≡ some s → (x : List ℕ) × (t ≡ x ++ s.1))
+      → {l : Line} → line_of t o ≡ Some l → (o ≡ some (l.number, drop l.length t)) × (l.length ≤ length t)
   unfolding line_of
-  line_of-number k none e {n} {i} h =
+  line_of-line none e {l} h =
       let z : ◌≡◌ {A = ℕ} 0 1 = cc in
       absurd (omega arith)
-  line_of-number k (some s) e {n} {i} h =
-      let x : s.0 ≡ n = cc in
-      let y : length t - length s.1 ≡ i = cc in
-      let (r, l) = drop-rest (line k s.0) s.1 t (read_line-exact k t s.0 s.1 e).0 in
-      rw (← x, ← y) (ap (λ u. some (s.0, u)) r, l)
+  line_of-line (some s) e {l} h =
+      let f : record { number = s.0; length = length t - length s.1 } ≡ l = cc in
+      let (x, g) = e s refl in
+      let (r, w) = drop-rest x s.1 t g in
+      rw (← f) (ap (λ u. some (s.0, u)) r, w)
+
+  -- behind the first byte
+  pub line_of-later : {o : Math (ℕ × List ℕ)} {n i b : ℕ} {u : List ℕ} → t ≡ b ∷ u → i < length u
+      → o ≡ some (n, drop (i + 1) u) → line_of t o ≡ Some (record { number = n; length = i + 2 })
+  line_of-later {n} {i} {b} {u} e h g =
+      let j : i + 2 ≡ suc (i + 1) = omega arith in
+      let d : drop (i + 1) u ≡ drop (i + 2) t = rw (e, j) in
+      line_of-some (g ∙ ap (λ x. some (n, x)) d) (omega (arith, ap length e))
 
 -- a line is its key and what stands behind it
 module _ (k : Key) (t : List ℕ) where
-  pub read_line-missing : begins k (from 0 t) ≡ false → read_line k t ≡ none
-  unfolding begins begins_with read_line bind
-  read_line-missing h = rw (begins_with-false (key_text k) t h)
+  pub read_line-missing : after (key_text k) t ≡ none → read_line k t ≡ none
+  unfolding read_line bind
+  read_line-missing h = rw h
 
-  pub read_line-before : begins k (from 0 t) ≡ true → read_line k t ≡ read_body (drop (length (key_text k)) t)
-  unfolding begins begins_with read_line read_body bind
-  read_line-before h = rw (begins_with-true (key_text k) t h)
+  module _ {u : List ℕ} (h : after (key_text k) t ≡ some u) where
+    pub read_line-behind : read_line k t ≡ read_body u
+    unfolding read_line read_body bind
+    read_line-behind = rw h
 
-  -- a text that ends with its key, or before it
-  pub read_line-short : length t ≤ length (key_text k) → read_line k t ≡ none
-  read_line-short h = go (begins k (from 0 t)) refl
-    where
-      go : (b : Bool) → begins k (from 0 t) ≡ b → read_line k t ≡ none
-      go true e = read_line-before e ∙ rw (drop_of_length-le t h) read_body-nil
-      go false e = read_line-missing e
+    pub line_of-behind : {l : Line} → line_of u (read_body u) ≡ Some l
+        → (line_of t (read_line k t) ≡ Some (record { number = l.number; length = length (key_text k) + l.length }))
+        × (length (key_text k) + l.length ≤ length t)
+    unfolding line_of
+    line_of-behind {l} e = go (read_body u) refl
+      where
+        result : Type 0
+        result =
+            (line_of t (read_line k t) ≡ Some (record { number = l.number; length = length (key_text k) + l.length }))
+            × (length (key_text k) + l.length ≤ length t)
+
+        go : (o : Math (ℕ × List ℕ)) → read_body u ≡ o → result
+        go none f =
+            let z : ◌≡◌ {A = ℕ} 0 1 = cc (ap (line_of u) f) in
+            absurd (omega arith)
+        go (some s) f =
+            let g : record { number = s.0; length = length u - length s.1 } ≡ l = cc (ap (line_of u) f) in
+            let r : read_line k t ≡ some s = read_line-behind ∙ f in
+            let a = simp length-append at (ap length (read_line-exact k t s.0 s.1 r).0) in
+            let b = simp length-append at (ap length (after-exact (key_text k) t u h)) in
+            let i : length t - length s.1 ≡ length (key_text k) + (length u - length s.1) =
+            omega (arith, a, b, length-line k s.0) in
+            rw (← g, r) (ap (λ j. Some (record { number = s.0; length = j })) i, omega (arith, a, b, length-line k s.0))
 
 -- the slice from a place is the rest of the text
 abbrev pub rest : List ℕ → ℕ → List ℕ
@@ -90,24 +115,56 @@ pub length_rest : (t : List ℕ) (i : ℕ) → length (rest t i) ≡ length t - 
 length_rest t i = ap length (rest-drop t i) ∙ length-drop i t
 
 -- A line as a cursor has it, by what the reader of the line answered.
-module _ (k : Key) (l : ℕ) (t : List ℕ) {r : Line} (e : r ≡ line_of t (read_line k t)) where
-  pub number-bad : r ≡ Bad → number k (from l t) ≡ bad_at l
+module _ (k : Key) (l : ℕ) (t : List ℕ) {r : Option Line} (e : r ≡ line_of t (read_line k t)) where
+  pub number-bad : r ≡ None → number k (from l t) ≡ bad_at l
   number-bad h = number-none k (from l t) (line_of-bad t (read_line k t) (sym e ∙ h))
 
-  pub number-got : {n i : ℕ} → r ≡ Number n i → number k (from l t) ≡ got n (from (l + 1) (drop i t))
-  number-got h = number-some k (from l t) (line_of-number t k (read_line k t) refl (sym e ∙ h)).0
+  read : {x : Line} → r ≡ Some x → (read_line k t ≡ some (x.number, drop x.length t)) × (x.length ≤ length t)
+  read h =
+      line_of-line t (read_line k t) (λ s f. (line k s.0, (read_line-exact k t s.0 s.1 f).0)) (sym e ∙ h)
 
-  pub number-within : {n i : ℕ} → r ≡ Number n i → i ≤ length t
-  number-within h = (line_of-number t k (read_line k t) refl (sym e ∙ h)).1
+  pub number-got : {x : Line} → r ≡ Some x → number k (from l t) ≡ got x.number (from (l + 1) (drop x.length t))
+  number-got h = number-some k (from l t) (read h).0
+
+  pub number-within : {x : Line} → r ≡ Some x → x.length ≤ length t
+  number-within h = (read h).1
 
 -- A line was read: where, and what is left.
-pub record Taken (k : Key) (l : ℕ) (t : List ℕ) (n i : ℕ) : Type 0 where
-  pub read : number k (from l t) ≡ got n (from (l + 1) (rest t i))
-  pub within : i ≤ length t
-  pub left : i + length (rest t i) ≡ length t
+pub record Taken (k : Key) (l : ℕ) (t : List ℕ) (x : Line) : Type 0 where
+  pub read : number k (from l t) ≡ got x.number (from (l + 1) (rest t x.length))
+  pub within : x.length ≤ length t
+  pub left : x.length + length (rest t x.length) ≡ length t
 
-pub taken : (k : Key) (l : ℕ) (t : List ℕ) {r : Line} {n i : ℕ} → r ≡ line_of t (read_line k t) → r ≡ Number n i
-    → Taken k l t n i
-taken k l t {r} {n} {i} e h =
-    let w : i ≤ length t = number-within k l t e h in
-    record { read = rw (rest-drop t i) (number-got k l t e h); within = w; left = omega (arith, length_rest t i) }
+pub taken : (k : Key) (l : ℕ) (t : List ℕ) {r : Option Line} {x : Line} → r ≡ line_of t (read_line k t) → r ≡ Some x
+    → Taken k l t x
+taken k l t {r} {x} e h =
+    let w : x.length ≤ length t = number-within k l t e h in record {
+      read = rw (rest-drop t x.length) (number-got k l t e h);
+      within = w;
+      left = omega (arith, length_rest t x.length);
+    }
+
+-- The same, where a line that is missing is an error.
+module _ {E : Type 0} (k : Key) (l : ℕ) (t : List ℕ) (d : E) {r : Option Line} {o : Result Line E}
+    (e : r ≡ line_of t (read_line k t)) (f : o ≡ ok_or r d) where
+  some-ok : {x : Line} → o ≡ Ok x → r ≡ Some x
+  some-ok {x} h = go r refl
+    where
+      go : (q : Option Line) → r ≡ q → r ≡ Some x
+      go None g = cc (ap (λ q. ok_or q d) g)
+      go (Some y) g =
+          let z : y ≡ x = cc (ap (λ q. ok_or q d) g) in
+          g ∙ ap Some z
+
+  none-err : {y : E} → o ≡ Err y → (r ≡ None) × (y ≡ d)
+  none-err {y} h = go r refl
+    where
+      go : (q : Option Line) → r ≡ q → (r ≡ None) × (y ≡ d)
+      go None g = (g, cc (ap (λ q. ok_or q d) g))
+      go (Some x) g = (cc (ap (λ q. ok_or q d) g), cc (ap (λ q. ok_or q d) g))
+
+  pub taken-ok : {x : Line} → o ≡ Ok x → Taken k l t x
+  taken-ok h = taken k l t e (some-ok h)
+
+  pub bad-err : {y : E} → o ≡ Err y → (number k (from l t) ≡ bad_at l) × (y ≡ d)
+  bad-err h = (number-bad k l t e (none-err h).0, (none-err h).1)

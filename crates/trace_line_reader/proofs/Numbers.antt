@@ -15,6 +15,9 @@ use borrow.Author.Tests.{eqb-true, eqb-false, lt-leb, ne_eqb}
 use lib.Dec.{eqb}
 use lib.ListN.{length, get_or, drop}
 use lib.Seq.{drop-cons}
+use Rattle.std.specs.Char.{is_ascii_digit}
+use Rattle.std.specs.Prelude.{Result, Ok, Err, Some, None, OkIff}
+use Rattle.std.specs.Result.{result_ok}
 use Rattle.laws.specs.Lists.{all?}
 use Rattle.laws.proofs.Tests.{and-false-l, and_false_r}
 use Rattle.laws.proofs.Lists.{all?-nil, all?-cons, all?-append}
@@ -24,6 +27,33 @@ use Rattle.trace.proofs.Tests.{all?-head, all?-tail, fits32-i}
 use Rattle.trace.proofs.Line.{is_digit-e, decimal-small, decimal-large, all?-decimal, value-decimal}
 use Rattle.trace.proofs.Line.{read_number-decimal, up_to_line_feed-digits}
 use Rattle.trace_line_reader.specs.Code.{read_body}
+
+-- the library's test of a digit is the grammar's
+pub is_digit-ascii : (b : ℕ) → is_ascii_digit b ≡ is_digit b
+unfolding is_digit
+is_digit-ascii b = refl
+
+-- the library's conversion to 32 bits
+module _ {E : Type 0} (r : Result ℕ E) (n : ℕ) (h : OkIff r (n < 4294967296) n) where
+  pub narrow-none : result_ok r ≡ None → clock_end < n
+  narrow-none = go r h
+    where
+      go : (r : Result ℕ E) → OkIff r (n < 4294967296) n → result_ok r ≡ None → clock_end < n
+      go (Ok x) f e =
+          let z : ◌≡◌ {A = ℕ} 0 1 = cc in
+          absurd (omega arith)
+      go (Err x) f e = omega (arith, f)
+
+  pub narrow-some : {m : ℕ} → result_ok r ≡ Some m → (m ≡ n) × (m ≤ clock_end)
+  narrow-some {m} = go r h
+    where
+      go : (r : Result ℕ E) → OkIff r (n < 4294967296) n → result_ok r ≡ Some m → (m ≡ n) × (m ≤ clock_end)
+      go (Ok x) f e =
+          let g : x ≡ m = cc in
+          (omega (arith, f.1), omega (arith, f.0, f.1))
+      go (Err x) f e =
+          let z : ◌≡◌ {A = ℕ} 0 1 = cc in
+          absurd (omega arith)
 
 -- a text up to its line feed, behind digits
 
@@ -163,9 +193,10 @@ module _ (n : ℕ) where
 
 -- what stands behind a key
 
-pub read_body-nil : read_body [] ≡ none
+pub read_body-nil : (t : List ℕ) → length t ≡ 0 → read_body t ≡ none
 unfolding up_to_line_feed
-read_body-nil = read_body-none [] refl
+read_body-nil [] h = read_body-none [] refl
+read_body-nil (b ∷ t) h = absurd (omega arith)
 
 read_body-line-feed : (t : List ℕ) → read_body (10 ∷ t) ≡ none
 unfolding up_to_line_feed no_leading_zero

@@ -15,8 +15,7 @@ use lib.ListN.{length, drop}
 use Rattle.cell.specs.declared.Arrival.{Arrival}
 use Rattle.trace.specs.declared.Key.{Key}
 use Rattle.trace.specs.declared.Key.TheVariants.{In, Out, Flow, Rank, Tag}
-use Rattle.trace_reader.specs.declared.Came.{Came}
-use Rattle.trace_reader.specs.declared.Came.TheVariants.{Whole, Bad}
+use Rattle.std.specs.Prelude.{Result, Ok, Err}
 use Rattle.trace.specs.Line.{read_line}
 use Rattle.trace.specs.Contents.{arrival_text}
 use Rattle.trace.specs.Reader.{from, Cursor, Read, got, bad_at, Reader, give, ◌>>=◌, number, exactly, begins, arrival, arrivals}
@@ -26,20 +25,20 @@ use Rattle.trace_line_reader.proofs.Lines.{drop-rest}
 use Rattle.trace_reader.specs.Code.{came_of}
 
 module _ (t : List ℕ) where
-  pub came_of-bad : {r : Read Arrival} {l : ℕ} → r ≡ bad_at l → came_of t r ≡ Bad l
+  pub came_of-bad : {r : Read Arrival} {l : ℕ} → r ≡ bad_at l → came_of t r ≡ Err l
   unfolding came_of
   came_of-bad h = rw (h, came_of)
 
   came_of-got : {r : Read Arrival} {a : Arrival} {d : Cursor} → r ≡ got a d
-      → came_of t r ≡ Whole a (length t - length d.text)
+      → came_of t r ≡ Ok (a, length t - length d.text)
   unfolding came_of
   came_of-got h = rw (h, came_of)
 
   pub came_of-whole : {r : Read Arrival} {a : Arrival} {d : Cursor} {i : ℕ} → r ≡ got a d
-      → i + length d.text ≡ length t → came_of t r ≡ Whole a i
+      → i + length d.text ≡ length t → came_of t r ≡ Ok (a, i)
   came_of-whole {a} {d} {i} h l =
       let e : length t - length d.text ≡ i = omega arith in
-      came_of-got h ∙ ap (Whole a) e
+      came_of-got h ∙ ap (λ i. Ok (a, i)) e
 
 -- an arrival, by its lines
 module _ (c : Cursor) where
@@ -134,8 +133,8 @@ arrival-line c {a} {d} h =
     let e₅ = number-line-next Tag c₄ u in
     omega arith
 
-module _ (l : ℕ) (t : List ℕ) {r : Came} (e : r ≡ came_of t (arrival (from l t))) where
-  pub came-bad : {k : ℕ} → r ≡ Bad k → arrival (from l t) ≡ bad_at k
+module _ (l : ℕ) (t : List ℕ) {r : Result (Arrival × ℕ) ℕ} (e : r ≡ came_of t (arrival (from l t))) where
+  pub came-bad : {k : ℕ} → r ≡ Err k → arrival (from l t) ≡ bad_at k
   came-bad {k} h = go (arrival (from l t)) refl
     where
       go : (x : Read Arrival) → arrival (from l t) ≡ x → arrival (from l t) ≡ bad_at k
@@ -144,7 +143,7 @@ module _ (l : ℕ) (t : List ℕ) {r : Came} (e : r ≡ came_of t (arrival (from
           f ∙ ap bad_at g
       go (got a d) f = cc (came_of-got t f)
 
-  pub came-whole : {a : Arrival} {i : ℕ} → r ≡ Whole a i
+  pub came-whole : {a : Arrival} {i : ℕ} → r ≡ Ok (a, i)
       → (arrival (from l t) ≡ got a (from (l + 5) (drop i t))) × (i ≤ length t)
   came-whole {a} {i} h = go (arrival (from l t)) refl
     where
@@ -154,8 +153,9 @@ module _ (l : ℕ) (t : List ℕ) {r : Came} (e : r ≡ came_of t (arrival (from
           let z : ◌≡◌ {A = ℕ} 0 1 = cc (came_of-bad t f) in
           absurd (omega arith)
       go (got b d) f =
-          let x : b ≡ a = cc (came_of-got t f) in
-          let y : length t - length d.text ≡ i = cc (came_of-got t f) in
+          let v : ◌≡◌ {A = Arrival × ℕ} (b, length t - length d.text) (a, i) = cc (came_of-got t f) in
+          let x : b ≡ a = ap (λ p. p.0) v in
+          let y : length t - length d.text ≡ i = ap (λ p. p.1) v in
           let (u, w) = drop-rest (arrival_text b) d.text t (arrival-exact (from l t) b d f).0 in
           let z : d ≡ from (l + 5) (drop i t) = λ k. record { line = arrival-line (from l t) f k; text = (u ∙ ap (λ n. drop n t) y) k } in
           (f ∙ ap (λ x. got x d) x ∙ ap (got a) z, omega arith)

@@ -14,8 +14,7 @@ use Rattle.cell.specs.declared.Arrival.{Arrival}
 use Rattle.trace.specs.declared.Key.TheVariants.{In}
 use Rattle.trace.specs.declared.Answer.{Answer}
 use Rattle.trace.specs.declared.Answer.TheVariants.{Slot, Bad}
-use Rattle.trace_reader.specs.declared.Came.{Came}
-use Rattle.trace_reader.specs.declared.Came.TheVariants.{Whole, Bad as BadCame}
+use Rattle.std.specs.Prelude.{Result, Ok, Err}
 use Rattle.trace.specs.Contents.{block_limit}
 use Rattle.trace.specs.Reader.{from, Cursor, got, bad_at, begins, arrival, arrivals}
 use Rattle.trace.specs.Piece.{known, numbers_of, answer_of}
@@ -101,12 +100,12 @@ module _ {t : List ℕ} {start : ℕ} {ns stores : List ℕ} {at k : ℕ} (w : W
       (ap₂ (λ n l. Slot n at l) (sym x) (sym z) ∙ d.0, d.1)
 
   module _ (f : k < block_limit) (b : begins In (from 0 (rest t at)) ≡ true)
-      {r : Came} (e : r ≡ came_of (rest t at) (arrival (from (5 * k + 1) (rest t at)))) where
+      {r : Result (Arrival × ℕ) ℕ} (e : r ≡ came_of (rest t at) (arrival (from (5 * k + 1) (rest t at)))) where
     one_less : w.most ≡ suc (15 - k)
     one_less = omega (arith, w.left)
 
     -- a bad line
-    pub walked-bad : {l : ℕ} → r ≡ BadCame l → Done t start ns (Bad l) stores
+    pub walked-bad : {l : ℕ} → r ≡ Err l → Done t start ns (Bad l) stores
     unfolding answer_of ahead numbers_after here whole_arrivals
     walked-bad {l} h =
         let a : arrival here ≡ bad_at l = rw rest-drop at (came-bad (5 * k + 1) (rest t at) e h) in
@@ -120,7 +119,7 @@ module _ {t : List ℕ} {start : ℕ} {ns stores : List ℕ} {at k : ℕ} (w : W
         (refl, w.held ∙ ap (λ rs. stored rs ns) (sym x))
 
     -- one arrival further
-    pub walked_more : {a : Arrival} {i : ℕ} → r ≡ Whole a i
+    pub walked_more : {a : Arrival} {i : ℕ} → r ≡ Ok (a, i)
         → {more : List ℕ} → more ≡ sets stores (5 * k) (numbers_of (a ∷ []))
         → Walked t start ns more (at + i) (k + 1)
     unfolding here whole_arrivals

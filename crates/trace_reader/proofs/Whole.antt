@@ -4,12 +4,12 @@
 --     Verified                                  what is read of a text, and what is left
 --     verified-start, -more                     where the reading begins, and one block further
 --     verified-end, -bad, -missing, -clock-end  where it ends
---     verdict-blocks, -refused                  the whole text, by its header
+--     clock-ok, -err                            the clock, one further
+--     verdict-mapped, -refused                  the whole text, by its header
 use Prim.Native.Nat.{ℕ, zero, suc, ◌+◌, ◌*◌, ◌-◌, ◌≤◌, ◌<◌}
 use native.Mathlib.Omega.{arith}
 use mathlib.Core.Bool.{Bool, true, false}
 use mathlib.Core.List.{List, [], ◌∷◌}
-use mathlib.Core.Logic.{◌≢◌}
 use mathlib.Core.Option.{Option, none, some}
 use mathlib.Core.Path.{◌≡◌, refl, sym, ap, ◌∙◌}
 use borrow.Author.Tests.{ne_eqb}
@@ -23,7 +23,8 @@ use Rattle.trace.specs.declared.Key.{Key}
 use Rattle.trace.specs.declared.Key.TheVariants.{Slot as SlotKey, End as EndKey}
 use Rattle.trace.specs.declared.Answer.{Answer}
 use Rattle.trace.specs.declared.Answer.TheVariants.{Slot, End, Bad}
-use Rattle.trace_reader.specs.declared.Verdict.TheVariants.{Accepted, Refused}
+use Rattle.std.specs.Prelude.{Option as Maybe, Some, None, Result, Ok, Err, SomeIff, ok_or, MatchResult, IsErrAnd}
+use Rattle.trace_reader.specs.declared.BadText.{BadText}
 use Rattle.trace.specs.Line.{line, read_line}
 use Rattle.trace.specs.Contents.{block_limit, arrivals_text}
 use Rattle.trace.specs.Reader.{from, Cursor, Read, got, bad_at, number, exactly, begins, arrivals, block}
@@ -166,7 +167,7 @@ ended-slot : (n : ℕ) (rs : List Arrival) (r : Read (List (List Arrival))) → 
 unfolding ended with_slot
 ended-slot n rs (got slots d) =
     let e : n + suc (length slots) ≡ n + 1 + length slots = omega arith in
-    ap Accepted e
+    ap Ok e
 ended-slot n rs (bad_at l) = refl
 
 -- the walk
@@ -190,12 +191,12 @@ verified-start t first h = record {
 }
 
 module _ {t : List ℕ} {first : ℕ} {left : List ℕ} {clock line : ℕ} (v : Verified t first left clock line) where
-  verified-fault : {l : ℕ} → next clock (from line left) ≡ faulty l → Refused BadLine l ≡ ended_of first t
+  verified-fault : {l : ℕ} → next clock (from line left) ≡ faulty l → Err l ≡ ended_of first t
   unfolding ended
   verified-fault p = sym (v.same ∙ ap (ended (clock - first)) (blocks_of-fault clock (from line left) p))
 
   -- no line is left
-  pub verified-missing : length left ≤ 0 → Refused BadLine line ≡ ended_of first t
+  pub verified-missing : length left ≤ 0 → Err line ≡ ended_of first t
   verified-missing h = verified-fault (next-nil clock (from line left) (nil-text left h))
 
 module _ {t : List ℕ} {first : ℕ} {left : List ℕ} {clock line : ℕ} (v : Verified t first left clock line)
@@ -226,54 +227,102 @@ module _ {t : List ℕ} {first : ℕ} {left : List ℕ} {clock line : ℕ} (v : 
         ∙ ended-slot (clock - first) here.rs (blocks_of (clock + 1) (from (line + l) (drop i left)))
 
     -- one block further
-    pub verified-more : clock ≢ clock_end → Verified t first (rest left i) (clock + 1) (line + l)
-    verified-more c =
-        let z : clock - first + 1 ≡ clock + 1 - first = omega (arith, v.begun) in
+    pub verified-more : {k : ℕ} → k ≡ clock + 1 → k ≤ clock_end → Verified t first (rest left i) k (line + l)
+    verified-more {k} e f =
+        let z : clock - first + 1 ≡ k - first = omega (arith, v.begun) in
         record {
           begun = omega (arith, v.begun);
-          fits = omega (arith, v.fits);
+          fits = f;
           lines = omega (arith, v.begun, v.lines, verified-lines);
           same = slot_same
-              ∙ ap (λ k. ended k (blocks_of (clock + 1) (from (line + l) (drop i left)))) z
-              ∙ ap (λ u. ended (clock + 1 - first) (blocks_of (clock + 1) (from (line + l) u))) (sym (rest-drop left i));
+              ∙ ap (λ n. ended n (blocks_of (clock + 1) (from (line + l) (drop i left)))) z
+              ∙ ap (λ n. ended (k - first) (blocks_of n (from (line + l) (drop i left)))) (sym e)
+              ∙ ap (λ u. ended (k - first) (blocks_of k (from (line + l) u))) (sym (rest-drop left i));
         }
 
     -- no block can follow slot 4,294,967,295
-    pub verified-clock-end : clock ≡ clock_end → Refused BadLine (line + l) ≡ ended_of first t
+    pub verified-clock-end : clock ≡ clock_end → Err (line + l) ≡ ended_of first t
     unfolding ended
     verified-clock-end c =
         let d : Cursor = from (line + l) (drop i left) in
         let f : blocks_of (clock + 1) d ≡ bad_at (line + l) = blocks_of-fault (clock + 1) d (next_past (clock + 1) d (omega arith)) in
         sym (slot_same ∙ ap (ended (clock - first + 1)) f)
 
-  pub verified-end : b ≡ End → Accepted (clock - first) ≡ ended_of first t
+  pub verified-end : b ≡ End → Ok (clock - first) ≡ ended_of first t
   unfolding ended
   verified-end h =
       let p : next clock (from line left) ≡ finished = next-finished-later clock line left (answer-end-e true clock left e h) in
       let z : clock - first + 0 ≡ clock - first = omega arith in
-      sym (v.same ∙ ap (ended (clock - first)) (blocks_of-end clock (from line left) p) ∙ ap Accepted z)
+      sym (v.same ∙ ap (ended (clock - first)) (blocks_of-end clock (from line left) p) ∙ ap Ok z)
 
-  pub verified-bad : {k : ℕ} → b ≡ Bad k → Refused BadLine (line + k) ≡ ended_of first t
+  pub verified-bad : {k : ℕ} → b ≡ Bad k → Err (line + k) ≡ ended_of first t
   verified-bad h = verified-fault v (next-faulty-later clock line left (answer-bad-e true clock left e h))
+
+-- the clock, one further
+
+module _ (n : ℕ) (o : Maybe ℕ) (d : ℕ) {r : Result ℕ ℕ} (h : SomeIff o (n + 1 < 4294967296) (n + 1)) (e : r ≡ ok_or o d) where
+  pub clock-ok : {m : ℕ} → r ≡ Ok m → (m ≡ n + 1) × (m ≤ clock_end)
+  clock-ok {m} f = go o h e
+    where
+      go : (o : Maybe ℕ) → SomeIff o (n + 1 < 4294967296) (n + 1) → r ≡ ok_or o d → (m ≡ n + 1) × (m ≤ clock_end)
+      go None g e =
+          let z : ◌≡◌ {A = ℕ} 0 1 = cc in
+          absurd (omega arith)
+      go (Some x) g e =
+          let y : x ≡ m = cc in
+          (omega (arith, g.1), omega (arith, g.0, g.1))
+
+  pub clock-err : {m : ℕ} → r ≡ Err m → (m ≡ d) × (clock_end ≤ n)
+  clock-err {m} f = go o h e
+    where
+      go : (o : Maybe ℕ) → SomeIff o (n + 1 < 4294967296) (n + 1) → r ≡ ok_or o d → (m ≡ d) × (clock_end ≤ n)
+      go None g e =
+          let y : m ≡ d = cc in
+          (y, omega (arith, g))
+      go (Some x) g e =
+          let z : ◌≡◌ {A = ℕ} 0 1 = cc in
+          absurd (omega arith)
 
 -- the whole text, by its header
 
-verdict-opened : (t : List ℕ) {n first : ℕ} {c : Cursor} → header t ≡ opened n first c
-    → (r : Read (List (List Arrival))) → blocks (length c.text) first c ≡ r → ended 0 r ≡ verdict_of (read t)
-unfolding ended verdict_of
-verdict-opened t h (got slots d) q =
-    let z : 0 + length slots ≡ length slots = omega arith in
-    ap Accepted z ∙ sym (ap verdict_of (read-accepted t h q))
-verdict-opened t h (bad_at l) q = sym (ap verdict_of (read-bad t h q))
+module _ (t : List ℕ) {n first : ℕ} (i : ℕ) (h : header t ≡ opened n first (from 3 (drop i t))) where
+  ended-here : ended_of first (rest t i) ≡ ended 0 (blocks_of first (from 3 (drop i t)))
+  unfolding ended_of blocks_of
+  ended-here = ap (λ x. ended 0 (blocks (length x) first (from 3 x))) (rest-drop t i)
 
-pub verdict-blocks : (t : List ℕ) {n first : ℕ} (i : ℕ) → header t ≡ opened n first (from 3 (drop i t))
-    → ended_of first (rest t i) ≡ verdict_of (read t)
-unfolding ended_of
-verdict-blocks t {n} {first} i h =
-    ap (λ x. ended 0 (blocks (length x) first (from 3 x))) (rest-drop t i)
-    ∙ verdict-opened t h (blocks (length (drop i t)) first (from 3 (drop i t))) refl
+  verdict-accepted : {k : ℕ} → ended_of first (rest t i) ≡ Ok k → Ok k ≡ verdict_of (read t)
+  unfolding ended verdict_of blocks_of
+  verdict-accepted {k} e = go (blocks_of first (from 3 (drop i t))) refl
+    where
+      go : (r : Read (List (List Arrival))) → blocks_of first (from 3 (drop i t)) ≡ r → Ok k ≡ verdict_of (read t)
+      go (got slots d) q =
+          let y : k ≡ 0 + length slots = cc (ended-here, ap (ended 0) q) in
+          let z : k ≡ length slots = omega arith in
+          ap Ok z ∙ sym (ap verdict_of (read-accepted t h q))
+      go (bad_at l) q = cc (ended-here, ap (ended 0) q)
 
-pub verdict-refused : (t : List ℕ) {r : Refusal} {l : ℕ} → header t ≡ refused_at r l → Refused r l ≡ verdict_of (read t)
+  verdict-bad : {l : ℕ} → ended_of first (rest t i) ≡ Err l
+      → Err (record { refusal = BadLine; line = l }) ≡ verdict_of (read t)
+  unfolding ended verdict_of blocks_of
+  verdict-bad {l} e = go (blocks_of first (from 3 (drop i t))) refl
+    where
+      go : (r : Read (List (List Arrival))) → blocks_of first (from 3 (drop i t)) ≡ r
+          → Err (record { refusal = BadLine; line = l }) ≡ verdict_of (read t)
+      go (got slots d) q = cc (ended-here, ap (ended 0) q)
+      go (bad_at m) q =
+          let z : m ≡ l = cc (ended-here, ap (ended 0) q) in
+          ap (λ l. Err (record { refusal = BadLine; line = l })) (sym z) ∙ sym (ap verdict_of (read-bad t h q))
+
+  -- a line at fault is a bad line
+  pub verdict-mapped : (r : Result ℕ ℕ) (m : Result ℕ BadText) → r ≡ ended_of first (rest t i)
+      → MatchResult r (λ k. m ≡ Ok k) (λ l. IsErrAnd m (λ b. b ≡ record { refusal = BadLine; line = l }))
+      → m ≡ verdict_of (read t)
+  verdict-mapped (Ok k) m e f = f ∙ verdict-accepted (sym e)
+  verdict-mapped (Err l) (Ok k) e f = absurd f
+  verdict-mapped (Err l) (Err b) e f = ap Err f ∙ verdict-bad (sym e)
+
+pub verdict-refused : (t : List ℕ) {r : Refusal} {l : ℕ} → header t ≡ refused_at r l
+    → Err (record { refusal = r; line = l }) ≡ verdict_of (read t)
 unfolding verdict_of
 verdict-refused t h = sym (ap verdict_of (read-refused t h))
 

@@ -1,20 +1,19 @@
 -- What the functions of the reader answer, by what the definitions read:
 --     verdict_of o     a whole text
 --     numbers_after    the numbers lent to the block reader
-use Rattle.std.specs.Prelude.{ℕ, zero, suc, true, false, List, [], ◌∷◌, length}
+use Rattle.std.specs.Prelude.{ℕ, zero, suc, true, false, List, [], ◌∷◌, length, Result, Ok, Err}
 use Rattle.std.proofs.lemmas.List.Edits.{sets}
 use Rattle.cell.specs.declared.Arrival.{Arrival}
 use Rattle.trace.specs.declared.Key.TheVariants.{Slot, In, End}
-use Rattle.trace_reader.specs.declared.Verdict.{Verdict}
-use Rattle.trace_reader.specs.declared.Verdict.TheVariants.{Accepted, Refused}
+use Rattle.trace_reader.specs.declared.BadText.{BadText}
 use Rattle.trace.specs.Contents.{block_limit}
 use Rattle.trace.specs.Piece.{Piece, known, more, numbers_of}
 use Rattle.trace.specs.Reader.{Cursor, got, bad_at, exactly, begins, arrival, Next, slot_ahead, finished, faulty}
 use Rattle.trace.specs.Reader.{Outcome, accepted, refused}
 
-unfoldable pub verdict_of : Outcome → Verdict
-verdict_of (accepted c) = Accepted (length c.slots)
-verdict_of (refused r l) = Refused r l
+unfoldable pub verdict_of : Outcome → Result ℕ BadText
+verdict_of (accepted c) = Ok (length c.slots)
+verdict_of (refused r l) = Err (record { refusal = r; line = l })
 
 -- the numbers of some arrivals in place of the first of others
 abbrev pub stored : List Arrival → List ℕ → List ℕ

@@ -6,6 +6,7 @@
 ghost use Rattle.std.specs.Prelude.{true, false, [], ◌∷◌, ◌≡◌, ◌*◌, ◌≤◌, ◌<◌, length, drop};
 ghost use Rattle.std.proofs.lemmas.List.Edits.{sets};
 ghost use Rattle.trace.specs.declared.Key.TheVariants.{End};
+ghost use Rattle.cell.specs.declared.Refusal.TheVariants.{BadLine};
 ghost use Rattle.trace.specs.Contents.{block_limit, block_lines};
 ghost use Rattle.trace.specs.Reader.{from, arrival, arrivals, begins, next, read};
 ghost use Rattle.trace.specs.Piece.{known, decided, next_in, header_in, numbers_of, answer_of, opening_of};
@@ -14,39 +15,43 @@ ghost use Rattle.trace_reader.specs.Code.{came_of, ahead, ended_of};
 
 use cell::{Arrival, Refusal, Switch};
 use trace::{Answer, BLOCK_LIMIT, BLOCK_LINES, FIELDS, Key, NUMBERS, Opening};
-use trace_line_reader::{Line, begins, read_line};
+use trace_line_reader::{begins, read_line};
 
 // The arrivals of a block, as an index.
 const ARRIVALS: usize = BLOCK_LIMIT as usize;
 
-// What reading a whole text by the grammar alone gives.
+// So many bytes are more than any block or header has.
+const ENOUGH: usize = 2048;
+
+// Why the grammar alone refuses a text, and at which line, counted from 1.
 #[derive(Clone, Copy)]
-pub enum Verdict {
-    // The number of slots.
-    Accepted(u32),
-    // A refusal and its line, counted from 1.
-    Refused(Refusal, usize),
+pub struct BadText {
+    pub refusal: Refusal,
+    pub line: usize,
 }
 
-// What stands where an arrival may begin.
-#[derive(Clone, Copy)]
-enum Came {
-    // The arrival, and how many bytes its lines have.
-    Whole(Arrival, usize),
-    // The line at fault.
-    Bad(u32),
-}
-
-// text = header { block } end
-pub fn verify(text: &[u8]) -> Verdict
+// text = header { block } end: the number of its slots
+pub fn verify(text: &[u8]) -> Result<u32, BadText>
     ensures { result ≡ verdict_of (read text.now) }
 {
-    let opening = read_header(text, true);
-    match opening {
-        Opening::Open(_, first, used) => verify_blocks(&text[used..], first),
-        Opening::Refused(refusal, line) => Verdict::Refused(refusal, line as usize),
+    match read_header(text, true) {
+        Opening::Open(_, first, used) => verify_blocks(&text[used..], first).map_err(bad_line),
+        Opening::Refused(refusal, line) => Err(BadText {
+            refusal,
+            line: line as usize,
+        }),
         // never: all of the text is there
-        Opening::Short => Verdict::Refused(Refusal::BadLine, 1),
+        Opening::Short => Err(bad_line(1)),
+    }
+}
+
+// A line that is not the expected key and number.
+fn bad_line(line: usize) -> BadText
+    ensures { result ≡ record { refusal = BadLine; line = line } }
+{
+    BadText {
+        refusal: Refusal::BadLine,
+        line,
     }
 }
 
@@ -57,16 +62,16 @@ pub fn read_header(text: &[u8], last: bool) -> Opening
     if !decided(text, last) {
         return Opening::Short;
     }
-    let Line::Number(ports, used) = read_line(text, Key::Ports) else {
+    let Some(ports) = read_line(text, Key::Ports) else {
         return Opening::Refused(Refusal::BadLine, 1);
     };
-    if !Switch::ports_in_range(ports) {
+    if !Switch::ports_in_range(ports.number) {
         return Opening::Refused(Refusal::BadSize, 1);
     }
-    let Line::Number(first, more) = read_line(&text[used..], Key::First) else {
+    let Some(first) = read_line(&text[ports.length..], Key::First) else {
         return Opening::Refused(Refusal::BadLine, 2);
     };
-    Opening::Open(ports, first, used + more)
+    Opening::Open(ports.number, first.number, ports.length + first.length)
 }
 
 // next = block | end. The numbers of the block's arrivals, of a bad block those that are whole before the fault, come
@@ -85,8 +90,9 @@ pub fn read_block(text: &[u8], clock: u32, last: bool, numbers: &mut [u32; NUMBE
     read_slot(text, clock, numbers)
 }
 
-// { block } end, from line 3 on; no line has the number after 4,294,967,295
-fn verify_blocks(text: &[u8], first: u32) -> Verdict
+// { block } end, from line 3 on: the number of the blocks, or the line at fault; no line has the number after
+// 4,294,967,295
+fn verify_blocks(text: &[u8], first: u32) -> Result<u32, usize>
     ensures { result ≡ ended_of first text.now }
 {
     let mut numbers = [0u32; NUMBERS];
@@ -94,40 +100,28 @@ fn verify_blocks(text: &[u8], first: u32) -> Verdict
     let mut clock = first;
     let mut line: usize = 3;
     // with this test the compiler sees one call of read_block, and puts it in line
-    while 0 < rest.len() {
+    while !rest.is_empty() {
         match read_block(rest, clock, true, &mut numbers) {
             Answer::Slot(_, used, lines) => {
                 line += lines as usize;
-                if clock == Switch::CLOCK_END {
-                    return Verdict::Refused(Refusal::BadLine, line);
-                }
-                clock += 1;
+                clock = clock.checked_add(1).ok_or(line)?;
                 rest = &rest[used..];
             }
-            Answer::End => {
-                return Verdict::Accepted(clock - first);
-            }
-            Answer::Bad(k) => {
-                return Verdict::Refused(Refusal::BadLine, line + k as usize);
-            }
+            Answer::End => return Ok(clock - first),
+            Answer::Bad(fault) => return Err(line + fault as usize),
             // never: all of the text is there
-            Answer::More => {
-                return Verdict::Refused(Refusal::BadLine, line);
-            }
+            Answer::More => return Err(line),
         }
     }
     // a line is missing
-    Verdict::Refused(Refusal::BadLine, line)
+    Err(line)
 }
 
 // Whether the text is enough to decide by: it is all there, or more than any block can have.
 fn decided(text: &[u8], last: bool) -> bool
     ensures { result ≡ decided last text.now }
 {
-    if last {
-        return true;
-    }
-    2048 <= text.len()
+    last || ENOUGH <= text.len()
 }
 
 // end = end-line, with the clock's number and nothing after it
@@ -135,13 +129,13 @@ fn read_end(text: &[u8], clock: u32) -> Answer
     requires { begins End (from 0 text.now) ≡ true }
     ensures { result ≡ answer_of text.now (known (next clock (from 0 text.now))) }
 {
-    let Line::Number(number, used) = read_line(text, Key::End) else {
+    let Some(end) = read_line(text, Key::End) else {
         return Answer::Bad(0);
     };
-    if number != clock {
+    if end.number != clock {
         return Answer::Bad(0);
     }
-    if used < text.len() {
+    if end.length < text.len() {
         return Answer::Bad(1);
     }
     Answer::End
@@ -154,13 +148,13 @@ fn read_slot(text: &[u8], clock: u32, numbers: &mut [u32; NUMBERS]) -> Answer
     ensures numbers_after { numbers.new ≡ numbers_after (whole_of clock (from 0 text.now))
         (known (next clock (from 0 text.now))) numbers.old }
 {
-    let Line::Number(number, used) = read_line(text, Key::Slot) else {
+    let Some(slot) = read_line(text, Key::Slot) else {
         return Answer::Bad(0);
     };
-    if number != clock {
+    if slot.number != clock {
         return Answer::Bad(0);
     }
-    read_arrivals(text, used, numbers)
+    read_arrivals(text, slot.length, numbers)
 }
 
 // { arrival }, up to the first line that does not begin `in=`
@@ -173,59 +167,47 @@ fn read_arrivals(text: &[u8], start: usize, numbers: &mut [u32; NUMBERS]) -> Ans
         (known (ahead (arrivals block_limit (from 1 (drop start text.now))))) numbers.old }
 {
     let mut at = start;
-    let mut k: usize = 0;
-    while k < ARRIVALS {
+    for k in 0..ARRIVALS {
         let rest = &text[at..];
         let line = (FIELDS * k + 1) as u32;
         if !begins(rest, Key::In) {
             return Answer::Slot(k as u32, at, line);
         }
         match read_arrival(rest, line) {
-            Came::Bad(fault) => {
-                return Answer::Bad(fault);
+            Ok((arrival, length)) => {
+                store(numbers, k, arrival);
+                at += length;
             }
-            Came::Whole(a, used) => {
-                store(numbers, k, a);
-                at += used;
-                k += 1;
-            }
+            Err(fault) => return Answer::Bad(fault),
         }
     }
     Answer::Slot(BLOCK_LIMIT, at, BLOCK_LINES)
 }
 
-// arrival = in-line out-line flow-line rank-line tag-line
-fn read_arrival(text: &[u8], line: u32) -> Came
+// arrival = in-line out-line flow-line rank-line tag-line: the arrival and how many bytes its lines have, or the line
+// at fault
+fn read_arrival(text: &[u8], line: u32) -> Result<(Arrival, usize), u32>
     requires { line < block_lines }
     ensures { result ≡ came_of text.now (arrival (from line text.now)) }
 {
-    let Line::Number(input, a) = read_line(text, Key::In) else {
-        return Came::Bad(line);
-    };
-    let after_in = &text[a..];
-    let Line::Number(output, b) = read_line(after_in, Key::Out) else {
-        return Came::Bad(line + 1);
-    };
-    let after_out = &after_in[b..];
-    let Line::Number(flow, c) = read_line(after_out, Key::Flow) else {
-        return Came::Bad(line + 2);
-    };
-    let after_flow = &after_out[c..];
-    let Line::Number(rank, d) = read_line(after_flow, Key::Rank) else {
-        return Came::Bad(line + 3);
-    };
-    let after_rank = &after_flow[d..];
-    let Line::Number(tag, e) = read_line(after_rank, Key::Tag) else {
-        return Came::Bad(line + 4);
-    };
+    let input = read_line(text, Key::In).ok_or(line)?;
+    let after_in = &text[input.length..];
+    let output = read_line(after_in, Key::Out).ok_or(line + 1)?;
+    let after_out = &after_in[output.length..];
+    let flow = read_line(after_out, Key::Flow).ok_or(line + 2)?;
+    let after_flow = &after_out[flow.length..];
+    let rank = read_line(after_flow, Key::Rank).ok_or(line + 3)?;
+    let after_rank = &after_flow[rank.length..];
+    let tag = read_line(after_rank, Key::Tag).ok_or(line + 4)?;
     let arrival = Arrival {
-        input,
-        output,
-        flow,
-        rank,
-        tag,
+        input: input.number,
+        output: output.number,
+        flow: flow.number,
+        rank: rank.number,
+        tag: tag.number,
     };
-    Came::Whole(arrival, a + b + c + d + e)
+    let length = input.length + output.length + flow.length + rank.length + tag.length;
+    Ok((arrival, length))
 }
 
 // The numbers of an arrival, at its place among those of its block.
