@@ -6,14 +6,47 @@ ghost use Rattle.std.specs.Prelude.{◌≡◌, ◌+◌, ◌≤◌, ◌<◌, leng
 ghost use Rattle.std.proofs.Math.Option.{Option};
 ghost use Rattle.cell.specs.declared.Cell.{Cell};
 ghost use Rattle.layout.specs.Arrivals.{held_limit};
+ghost use Rattle.layout.specs.Fair.{core_in, fair_size, memory_in};
 ghost use Rattle.layout.specs.Memory.{memory_of, memory_size};
 ghost use Rattle.layout.specs.Table.{state_of, IsTable};
 ghost use Rattle.slot_faults.specs.CodeFault.{fault_at, fault_of, turn_after};
-ghost use Rattle.fair_faults.specs.CodeFairFault.{fair_fault_by, fair_fault_in, first_fair, rank_fault};
+ghost use Rattle.fair_faults.specs.CodeFairFault.{fair_fault_by, fair_fault_in, first_fair, lent_fault, rank_fault};
 
 use cell::{Arrival, Fault, Refusal, Switch};
+use layout::{ARRIVAL_BYTES, CORE_AT, MEMORY_AT};
 use slot_faults::cell_of;
 use slot_faults::checks::{port_fault, waiting_fault};
+
+// What turns a slot back before its records are looked at: 2, the table is broken or the arrivals are no whole records;
+// 10, the room is less than the answer's size.
+#[tactic(auto, unfolding(crate::specs::CodeFairFault::lent_fault))]
+pub fn lent_fault(is_table: bool, arrivals: &[u8], room: usize, size: usize) -> Result<(), Fault>
+    ensures { result ≡ lent_fault is_table (length arrivals.now) room size }
+{
+    if !is_table || arrivals.len() % ARRIVAL_BYTES != 0 {
+        return Err(Fault {
+            refusal: Refusal::BrokenTable,
+            place: 0,
+        });
+    }
+    if room < size {
+        return Err(Fault {
+            refusal: Refusal::ShortBuffer,
+            place: 0,
+        });
+    }
+    Ok(())
+}
+
+// What turns a slot back by its records: their first fault, by the cells and the memory in the bytes of a table.
+pub fn table_fault(table: &[u8], records: &[Arrival]) -> Result<(), Fault>
+    requires table_len { length table.now ≡ fair_size }
+    requires core { IsTable (core_in table.now) }
+    requires many_le_held_limit { length records.now ≤ held_limit }
+    ensures { result ≡ fair_fault_in (state_of (core_in table.now)) (memory_of (memory_in table.now)) records.now }
+{
+    fair_fault(&table[CORE_AT..MEMORY_AT], &table[MEMORY_AT..], records)
+}
 
 // The first fault of a slot on a sound table with no more records than are looked at, and the record's place.
 pub fn fair_fault(table: &[u8], memory: &[u8], records: &[Arrival]) -> Result<(), Fault>

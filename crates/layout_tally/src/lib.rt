@@ -1,11 +1,14 @@
 // The tally: four counts, each 64 bits wide, of which each slot call changes some. As bytes it takes 32.
 #![tactic(auto)]
 
-ghost use Rattle.std.specs.Prelude.{◌≡◌, length};
+ghost use Rattle.std.specs.Prelude.{◌≡◌, ◌≤◌, length};
+ghost use Rattle.cell.specs.Checked.{no_fault};
+ghost use Rattle.layout.specs.Answer.{departures_size};
 ghost use Rattle.layout.specs.TallyBytes.{tally_of, tally_bytes, tally_size};
-ghost use Rattle.layout_tally.specs.Counted.{counted_as};
+ghost use Rattle.layout_tally.specs.Counted.{counted_as, counted_by};
 
-use cell::Tally;
+use cell::{Fault, Tally};
+use layout_answer::departures_in;
 
 // Counts a slot in the lent tally.
 pub fn count(tally: &mut Tally, ran: bool, arrivals: u64, departures: u64)
@@ -31,6 +34,19 @@ pub fn counted(t: Tally, ran: bool, arrivals: u64, departures: u64) -> Tally
             refused: t.refused.saturating_add(1),
             ..t
         }
+    }
+}
+
+// The tally after a slot with so many records: one that ran counts them and the departures of its answer, a refused one
+// only itself.
+#[tactic(auto, unfolding(crate::specs::Counted::counted_as, crate::specs::Counted::counted_by))]
+pub fn counted_by(checked: Result<(), Fault>, arrivals: u64, answer: &[u8], t: Tally) -> Tally
+    requires { checked ≡ no_fault → departures_size ≤ length answer.now }
+    ensures { result ≡ counted_by checked arrivals answer.now t }
+{
+    match checked {
+        Ok(()) => counted(t, true, arrivals, departures_in(answer)),
+        Err(_) => counted(t, false, 0, 0),
     }
 }
 
