@@ -269,9 +269,9 @@ module _ (table : List ℕ) (records : List Arrival) (g : Arriving table records
           → new ≡ encode (entered (accepted (clock_in cur - 1) a) (state_of cur)) → Came table records (n + 1) new
       came-next new fits w = record { holds = w ∙ ap encode next-is; fits = all_fit fits }
 
-      pub came-may : arrival_fits a ≡ true → MayEnter a cur
+      pub came-may : MayEnter a cur
       unfolding arrived accepted
-      came-may fits =
+      came-may =
           record {
             sound = is-table;
             risen = omega (arith, clock-is);
@@ -279,7 +279,7 @@ module _ (table : List ℕ) (records : List Arrival) (g : Arriving table records
             room = room-now;
             output = few-outputs;
             flow = few-flows;
-            next = ap sound next-is ∙ after-sound (n + 1) (all_fit fits);
+            next = λ fits. ap sound next-is ∙ after-sound (n + 1) (all_fit fits);
           }
         where
           ports : s.ports ≤ port_limit

@@ -22,7 +22,7 @@ use Rattle.sets.specs.Sets.{set_from}
 use Rattle.sets.proofs.Members.{set_from-lt, set_from-ext, open-with, open-without}
 use Rattle.cell.specs.declared.Arrival.{Arrival}
 use Rattle.cell.specs.declared.Cell.{Cell}
-use Rattle.cell.specs.Cell.{accepted}
+use Rattle.cell.specs.Cell.{accepted, arrival_fits}
 use Rattle.cell.specs.Flow.{same_flow}
 use Rattle.cell.specs.Limits.{section_room}
 use Rattle.cell.proofs.Flow.{flow-sym}
@@ -688,16 +688,16 @@ module _ (t0 : List ℕ) (a : Arrival) (may : MayEnter a t0) where
       set_room _ _ (w.buffered-at a.input input-low),
     )
 
-    pub sets-arrived : (t1 : List ℕ) → t1 ≡ encode (entered cell (state_of t0)) → (j : ℕ) → j ≡ place
+    pub sets-arrived : arrival_fits a ≡ true → (t1 : List ℕ) → t1 ≡ encode (entered cell (state_of t0)) → (j : ℕ) → j ≡ place
         → (l h x b : List ℕ) → l ≡ opened_with true listed a.input j → h ≡ opened_with (eqb j 0) heads a.input j
         → x ≡ opened_with false crossed a.input j → b ≡ opened_with false buffered a.input j
         → SetsOf t1 (places_in t1) l h x b
     unfolding accepted
-    sets-arrived t1 e j at l h x b l-is h-is x-is b-is =
+    sets-arrived fits t1 e j at l h x b l-is h-is x-is b-is =
         let state : state_of t1 ≡ entered cell (state_of t0) =
-        ap state_of e ∙ state_of-encode (entered cell (state_of t0)) may.next in
+        ap state_of e ∙ state_of-encode (entered cell (state_of t0)) (may.next fits) in
         let good : IsTable t1 =
-        ap decode e ∙ decode-encode (entered cell (state_of t0)) may.next ∙ ap some (sym state) in
+        ap decode e ∙ decode-encode (entered cell (state_of t0)) (may.next fits) ∙ ap some (sym state) in
         rw (l-is, h-is, x-is, b-is, at)
         (sets-entered t0 t1 may.sound good cell state may.input listed heads crossed buffered w _ _ _ _ refl refl
         refl refl)

@@ -5,7 +5,7 @@ use Rattle.laws.specs.Lists.{some?, update}
 use Rattle.sets.specs.Code.{with_one, opened}
 use Rattle.cell.specs.declared.Arrival.{Arrival}
 use Rattle.cell.specs.declared.Cell.{Cell}
-use Rattle.cell.specs.Cell.{accepted}
+use Rattle.cell.specs.Cell.{accepted, arrival_fits}
 use Rattle.cell.specs.Limits.{section_room, clock_end}
 use Rattle.model.specs.State.{Entry, Switch, cells}
 use Rattle.model.specs.Sound.{sound as sound_switch}
@@ -36,7 +36,7 @@ pub record Arriving (table : List ℕ) (records : List Arrival) : Type 0 where
   pub clear : first_fault (ports_in table) (cells (state_of table)) (coming (state_of table) records) ≡ none
 
 -- the cell of a record may enter a table whose clock has risen: its input has room for it, the record fits an entry, and
--- the switch is sound then
+-- the switch is sound then, as the record's numbers have 32 bits
 pub record MayEnter (a : Arrival) (table : List ℕ) : Type 0 where
   pub sound : IsTable table
   pub risen : 0 < clock_in table
@@ -44,7 +44,7 @@ pub record MayEnter (a : Arrival) (table : List ℕ) : Type 0 where
   pub room : count_in table a.input < section_room
   pub output : a.output < 256
   pub flow : a.flow < 256
-  pub next : sound_switch (entered (accepted (clock_in table - 1) a) (state_of table)) ≡ true
+  pub next : arrival_fits a ≡ true → sound_switch (entered (accepted (clock_in table - 1) a) (state_of table)) ≡ true
 
 -- how many entries of a section stand before a new cell
 unfoldable pub enter_place : Cell → List Entry → ℕ

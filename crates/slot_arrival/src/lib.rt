@@ -2,7 +2,7 @@
 #![tactic(auto)]
 
 ghost use Rattle.std.specs.Prelude.{◌≡◌, ◌+◌, ◌-◌, ◌*◌, ◌/◌, ◌^◌, ◌≤◌, ◌<◌, true, false, eqb, length, get_or};
-ghost use Rattle.cell.specs.Cell.{accepted};
+ghost use Rattle.cell.specs.Cell.{accepted, arrival_fits};
 ghost use Rattle.cell.specs.Limits.{clock_end, section_room, port_limit};
 ghost use Rattle.model.specs.Crossbar.{in_list_of};
 ghost use Rattle.layout.specs.Entry.{entry_at, clock_in, count_in};
@@ -30,12 +30,14 @@ pub fn raise_clock(table: &mut [u8])
 }
 
 // Lets the cell of a record enter the list of its input, which has room for it. The clock has risen: the cell's slot is
-// the one before. The sets of the table's cells by place follow it.
+// the one before. The sets of the table's cells by place follow it. That the record's numbers have 32 bits is said for
+// callers that lend it from a slice, behind whose reference no proof sees its type.
 pub fn arrive(table: &mut [u8], sets: &mut Sets, a: Arrival)
     requires may_enter { MayEnter a table.old }
     requires sets_of { SetsOf table.old (places_in table.old) sets.old.listed sets.old.heads sets.old.crossed sets.old.buffered }
     ensures table_after { table.new
         ≡ encode (entered (accepted (clock_in table.old - 1) a) (state_of table.old)) }
+    ensures fits { arrival_fits a ≡ true }
     ensures sets_of_2 { SetsOf table.new (places_in table.new) sets.new.listed sets.new.heads sets.new.crossed sets.new.buffered }
 {
     let clock = layout_table::header::clock_of(table);

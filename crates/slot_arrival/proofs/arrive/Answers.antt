@@ -7,6 +7,7 @@ use Rattle.slot_faults.specs.CodeFault.{section_in}
 use Rattle.slot_faults.proofs.Stored.{table-length}
 use Rattle.slot_arrival.specs.CodeArrival.{entered as entered_by, enter_place}
 use Rattle.slot_arrival.proofs.Opening.{place-room, input-low, sets-room, sets-arrived}
+use Rattle.slot_arrival.proofs.Typed.{arrival-fits}
 use Rattle.slot_arrival.proofs.arrive.Goals as goal
 use Rattle.slot_arrival.proofs.arrive.Goals.{After-cell_of, After-enter-at}
 
@@ -62,7 +63,10 @@ returns-clause-sets_of_2 c =
     let opened = c.open_sets.ensures in
     let here = goal.at.returns-clause-sets_of_2 c in
     let is = cell-is here.After-cell_of in
-    sets-arrived _ _ c.requires.may_enter _ _ _ _ c.requires.sets_of _
+    sets-arrived _ _ c.requires.may_enter _ _ _ _ c.requires.sets_of (arrival-fits c.args.a _ c.well_formed.1.1.0) _
     (c.enter-at.ensures.table_after ∙ ap (λ d. encode (entered_by d (state_of c.args.table.now))) is) _
     (omega (arith, at here.After-enter-at is)) _ _ _ _ opened.listed_after opened.heads_after opened.crossed_after
     opened.buffered_after
+
+pub returns-clause-fits : goal.returns-clause-fits
+returns-clause-fits c = arrival-fits c.args.a _ c.well_formed.1.1.0
