@@ -12,6 +12,7 @@ use borrow.Author.Tests.{lt-ltb, le-ltb}
 use lib.Dec.{ltb}
 use lib.ListN.{length, take}
 use Rattle.laws.proofs.Tests.{clash}
+use Rattle.cell.specs.Checked.{fault_with}
 use Rattle.cell.specs.declared.Arrival.{Arrival}
 use Rattle.cell.specs.declared.Refusal.{Refusal}
 use Rattle.cell.specs.declared.Refusal.TheVariants.{BrokenTable, ShortBuffer}
@@ -25,7 +26,6 @@ use Rattle.layout.specs.Host.{slot_of}
 use Rattle.layout.specs.Table.{state_of, decode, is_table, IsTable}
 use Rattle.layout.specs.TallyBytes.{tally_size}
 use Rattle.layout.proofs.Table.{is_table-some, decode-sound, sound-ports}
-use Rattle.cell.specs.declared.Fault.TheVariants.{At}
 use Rattle.slot_faults.specs.CodeFault.{fault_in}
 pub use Rattle.slot_faults.proofs.Records.{no_record}
 use Rattle.slot_faults.proofs.Slots.{slot-fault, seventeen-tell}
@@ -61,7 +61,7 @@ module _ (table : List ℕ) (room : ℕ) where
 abbrev Refused : Outcome Course → Outcome Course → Type 0
 Refused o p = (r : Refusal) × (place : ℕ) × (o ≡ refused r place) × (p ≡ refused r place)
 
-slot-refused : (s : Switch) (records : List Arrival) (r : Refusal) (place : ℕ) → fault_in s records ≡ At r place
+slot-refused : (s : Switch) (records : List Arrival) (r : Refusal) (place : ℕ) → fault_in s records ≡ fault_with r place
     → slot s (some records) ≡ refused r place
 slot-refused s records r place e = rw e at (slot-fault s records)
 
