@@ -6,6 +6,7 @@
 
 mod made;
 mod rehearsal;
+mod row;
 mod say;
 mod shadow;
 mod shadow_cues;
@@ -13,8 +14,10 @@ mod stage;
 mod wrong;
 
 use layout::{ANSWER_BYTES, ARRIVAL_BYTES, FAIR_BYTES, TALLY_BYTES};
+use row::{Row, rows};
 use say::{say, tell};
-use stage::{show, show_fair};
+use shadow::Start;
+use stage::show;
 use std::io::Stdout;
 
 fn main(rt: HostRuntime) {
@@ -45,74 +48,78 @@ fn bad_line(out: Stdout) {
 
 // 1 comes before 4, and 4 before 10.
 fn starts(out: Stdout) {
-    wrong::show_start(out, b"start with 0 ports: ", 0, 1, FAIR_BYTES);
-    wrong::show_start(out, b"start with 17 ports: ", 17, 0, FAIR_BYTES - 1);
+    wrong::show_start(out, "start with 0 ports", 0, 1, &mut [7; FAIR_BYTES]);
+    wrong::show_start(out, "start with 17 ports", 17, 0, &mut [7; FAIR_BYTES - 1]);
     wrong::show_start(
         out,
-        b"start with output 2 of 2 fair: ",
+        "start with output 2 of 2 fair",
         2,
         4,
-        FAIR_BYTES - 1,
+        &mut [7; FAIR_BYTES - 1],
     );
     wrong::show_start(
         out,
-        b"start with a mark at 31: ",
+        "start with a mark at 31",
         16,
-        2147483648,
-        FAIR_BYTES,
+        1 << 31,
+        &mut [7; FAIR_BYTES],
     );
-    wrong::show_start(out, b"start in 24679 bytes: ", 2, 3, FAIR_BYTES - 1);
+    wrong::show_start(out, "start in 24679 bytes", 2, 3, &mut [7; FAIR_BYTES - 1]);
 }
 
 // 2 comes before 10.
 fn lent(out: Stdout) {
-    wrong::show_slot(out, b"table of 0 ports: ", 0, 0, ANSWER_BYTES, TALLY_BYTES);
     wrong::show_slot(
         out,
-        b"arrivals of 19 bytes: ",
-        2,
-        ARRIVAL_BYTES - 1,
-        ANSWER_BYTES - 1,
-        TALLY_BYTES,
+        "table of 0 ports",
+        0,
+        &[],
+        &mut [0; ANSWER_BYTES],
+        &mut [0; TALLY_BYTES],
     );
     wrong::show_slot(
         out,
-        b"tally of 31 bytes: ",
+        "arrivals of 19 bytes",
         2,
-        0,
-        ANSWER_BYTES - 1,
-        TALLY_BYTES - 1,
+        &[0; ARRIVAL_BYTES - 1],
+        &mut [0; ANSWER_BYTES - 1],
+        &mut [0; TALLY_BYTES],
     );
     wrong::show_slot(
         out,
-        b"answer of 583 bytes: ",
+        "tally of 31 bytes",
         2,
-        0,
-        ANSWER_BYTES - 1,
-        TALLY_BYTES,
+        &[],
+        &mut [0; ANSWER_BYTES - 1],
+        &mut [0; TALLY_BYTES - 1],
+    );
+    wrong::show_slot(
+        out,
+        "answer of 583 bytes",
+        2,
+        &[],
+        &mut [0; ANSWER_BYTES - 1],
+        &mut [0; TALLY_BYTES],
     );
 }
 
 // 3, in the first slot and after the last.
 fn clock_end(out: Stdout) {
-    let rows = [[0, 0, 1, 0, 5, 1], [1, 1, 1, 0, 5, 2]];
+    let rows = rows![[0, 0, 1, 0, 5, 1], [1, 1, 1, 0, 5, 2]];
+    let two = Start::with_ports(2);
     show(
         out,
-        b"first slot 4294967295: ",
-        2,
-        4294967295,
+        "first slot 4294967295",
+        two.in_slot(u32::MAX),
         2,
         &rows,
-        true,
     );
     show(
         out,
-        b"first slot 4294967294: ",
-        2,
-        4294967294,
+        "first slot 4294967294",
+        two.in_slot(u32::MAX - 1),
         3,
         &rows,
-        true,
     );
 }
 
@@ -120,22 +127,19 @@ fn clock_end(out: Stdout) {
 fn records(out: Stdout) {
     turned_back(
         out,
-        b"input 2 of 2 ports: ",
-        [1, 0, 1, 0, 1, 3],
-        [1, 2, 0, 0, 1, 4],
+        "input 2 of 2 ports",
+        rows![[1, 0, 1, 0, 1, 3], [1, 2, 0, 0, 1, 4]],
     );
     turned_back(
         out,
-        b"output 2 of 2 ports: ",
-        [1, 0, 2, 8, 1, 3],
-        [1, 1, 0, 0, 1, 4],
+        "output 2 of 2 ports",
+        rows![[1, 0, 2, 8, 1, 3], [1, 1, 0, 0, 1, 4]],
     );
-    turned_back(out, b"flow 8: ", [1, 0, 1, 8, 1, 3], [1, 2, 1, 0, 1, 4]);
+    turned_back(out, "flow 8", rows![[1, 0, 1, 8, 1, 3], [1, 2, 1, 0, 1, 4]]);
     turned_back(
         out,
-        b"input 1 twice: ",
-        [1, 1, 1, 0, 1, 3],
-        [1, 1, 1, 1, 1, 4],
+        "input 1 twice",
+        rows![[1, 1, 1, 0, 1, 3], [1, 1, 1, 1, 1, 4]],
     );
 }
 
@@ -143,65 +147,75 @@ fn records(out: Stdout) {
 fn ranks(out: Stdout) {
     turned_back(
         out,
-        b"rank 4 after 5: ",
-        [1, 0, 0, 0, 4, 3],
-        [1, 1, 1, 0, 1, 4],
+        "rank 4 after 5",
+        rows![[1, 0, 0, 0, 4, 3], [1, 1, 1, 0, 1, 4]],
     );
     turned_back(
         out,
-        b"rank 5 after 5: ",
-        [1, 0, 0, 0, 5, 3],
-        [1, 1, 1, 0, 1, 4],
+        "rank 5 after 5",
+        rows![[1, 0, 0, 0, 5, 3], [1, 1, 1, 0, 1, 4]],
     );
 }
 
 // Rank 5 of input 0 and rank 3 of input 1 come for output 0, then the two given records in call 1, then a cell for
 // output 1.
-fn turned_back(out: Stdout, name: &[u8], first: [u32; 6], second: [u32; 6]) {
-    let before = [0, 0, 0, 0, 5, 1];
-    let with = [0, 1, 0, 0, 3, 2];
-    let after = [2, 0, 1, 0, 6, 5];
-    let rows = [before, with, first, second, after];
-    show(out, name, 2, 0, 5, &rows, true);
+fn turned_back(out: Stdout, name: &str, [first, second]: [Row; 2]) {
+    let [before, with, after] = rows![[0, 0, 0, 0, 5, 1], [0, 1, 0, 0, 3, 2], [2, 0, 1, 0, 6, 5]];
+    show(
+        out,
+        name,
+        Start::with_ports(2),
+        5,
+        &[before, with, first, second, after],
+    );
 }
 
 // Matchings, and the order of equal ranks.
 fn matchings(out: Stdout) {
-    show(out, b"several proposals: ", 3, 0, 6, &SEVERAL, true);
-    show(out, b"two urgent cells of a pair: ", 4, 0, 10, &PAIR, true);
-    show(out, b"scheduled over urgent: ", 3, 0, 7, &SCHEDULED, true);
-    show(out, b"equal ranks: ", 3, 0, 6, &EQUAL, true);
-    show(out, b"three inputs in turn: ", 3, 0, 27, &TURNS, true);
-    show(out, b"input 15 in slot 15: ", 16, 15, 5, &LAST_INPUT, true);
+    let three = Start::with_ports(3);
+    show(out, "several proposals", three, 6, &SEVERAL);
     show(
         out,
-        b"equal ranks in the last slots: ",
-        3,
-        4294967292,
+        "two urgent cells of a pair",
+        Start::with_ports(4),
+        10,
+        &PAIR,
+    );
+    show(out, "scheduled over urgent", three, 7, &SCHEDULED);
+    show(out, "equal ranks", three, 6, &EQUAL);
+    show(out, "three inputs in turn", three, 27, &TURNS);
+    show(
+        out,
+        "input 15 in slot 15",
+        Start::with_ports(16).in_slot(15),
+        5,
+        &LAST_INPUT,
+    );
+    show(
+        out,
+        "equal ranks in the last slots",
+        three.in_slot(u32::MAX - 3),
         4,
         &LAST_SLOTS,
-        true,
     );
 }
 
 // Weights at fair outputs, ranks at the others; 14, and in which order it comes.
 fn weights(out: Stdout) {
-    show_fair(out, b"ranks made of weights: ", 2, 0, 1, 7, &WEIGHTS, true);
-    show_fair(
+    let two = Start::with_ports(2);
+    show(out, "ranks made of weights", two.with_fair(1), 7, &WEIGHTS);
+    show(
         out,
-        b"output 1 fair, output 0 not: ",
-        2,
-        0,
-        2,
+        "output 1 fair, output 0 not",
+        two.with_fair(2),
         7,
         &ONE_FAIR,
-        true,
     );
-    show_fair(out, b"no weights: ", 2, 0, 1, 8, &NO_WEIGHTS, true);
+    show(out, "no weights", two.with_fair(1), 8, &NO_WEIGHTS);
 }
 
 // Input 0 goes on from its own last rank or from the one that left, whichever is larger; so does its flow 1.
-const WEIGHTS: [[u32; 6]; 6] = [
+const WEIGHTS: [Row; 6] = rows![
     [0, 0, 0, 0, 1024, 1],
     [0, 1, 0, 0, 1, 2],
     [1, 0, 0, 0, 1024, 3],
@@ -211,7 +225,7 @@ const WEIGHTS: [[u32; 6]; 6] = [
 ];
 
 // In call 1 the rank of input 1 falls at output 0; at output 1 weights may.
-const ONE_FAIR: [[u32; 6]; 8] = [
+const ONE_FAIR: [Row; 8] = rows![
     [0, 0, 0, 0, 9, 1],
     [0, 1, 0, 0, 2000, 2],
     [1, 0, 1, 0, 9, 3],
@@ -223,7 +237,7 @@ const ONE_FAIR: [[u32; 6]; 8] = [
 ];
 
 // 0 and 1,025 are no weights: 14 behind 5 and 6, and nothing is remembered of a slot that is turned back.
-const NO_WEIGHTS: [[u32; 6]; 10] = [
+const NO_WEIGHTS: [Row; 10] = rows![
     [0, 0, 0, 0, 2, 1],
     [1, 0, 0, 0, 0, 2],
     [2, 0, 0, 0, 4, 3],
@@ -237,7 +251,7 @@ const NO_WEIGHTS: [[u32; 6]; 10] = [
 ];
 
 // In slot 1 both cells are matched: rank 4, which is urgent, loses to rank 3, and goes straight in the second phase.
-const SEVERAL: [[u32; 6]; 5] = [
+const SEVERAL: [Row; 5] = rows![
     [0, 0, 0, 0, 9, 1],
     [0, 1, 0, 0, 1, 2],
     [0, 2, 0, 0, 2, 3],
@@ -246,7 +260,7 @@ const SEVERAL: [[u32; 6]; 5] = [
 ];
 
 // Two flows of a pair: in slot 2 ranks 6 and 3 of input 2 for output 0 are urgent at once, rank 6 first in the list.
-const PAIR: [[u32; 6]; 11] = [
+const PAIR: [Row; 11] = rows![
     [0, 0, 0, 0, 7, 1],
     [0, 1, 0, 0, 3, 2],
     [0, 2, 0, 0, 8, 3],
@@ -262,7 +276,7 @@ const PAIR: [[u32; 6]; 11] = [
 
 // In slot 1 rank 4 is urgent, and loses to scheduled cells that stand first in their lists: to rank 2, and then, at
 // the crosspoint, to rank 3.
-const SCHEDULED: [[u32; 6]; 6] = [
+const SCHEDULED: [Row; 6] = rows![
     [0, 0, 0, 0, 9, 1],
     [0, 1, 0, 0, 0, 2],
     [0, 2, 0, 0, 1, 3],
@@ -272,7 +286,7 @@ const SCHEDULED: [[u32; 6]; 6] = [
 ];
 
 // The cell of the smaller slot; in slot 1 input 1 goes before input 0.
-const EQUAL: [[u32; 6]; 5] = [
+const EQUAL: [Row; 5] = rows![
     [0, 0, 0, 0, 1, 1],
     [0, 2, 0, 0, 4, 2],
     [1, 0, 0, 0, 4, 3],
@@ -281,7 +295,7 @@ const EQUAL: [[u32; 6]; 5] = [
 ];
 
 // Three cells of equal rank in each of slots 0 to 8. Those of a slot leave from input slot mod 3 on, also in later slots.
-const TURNS: [[u32; 6]; 27] = [
+const TURNS: [Row; 27] = rows![
     [0, 0, 0, 0, 4, 0],
     [0, 1, 0, 0, 4, 1],
     [0, 2, 0, 0, 4, 2],
@@ -312,7 +326,7 @@ const TURNS: [[u32; 6]; 27] = [
 ];
 
 // Of equal cells of slot 15 that of input 15 goes first, then those of inputs 0, 1 and 14.
-const LAST_INPUT: [[u32; 6]; 4] = [
+const LAST_INPUT: [Row; 4] = rows![
     [0, 0, 0, 0, 4, 1],
     [0, 1, 0, 0, 4, 2],
     [0, 14, 0, 0, 4, 3],
@@ -321,7 +335,7 @@ const LAST_INPUT: [[u32; 6]; 4] = [
 
 // Three equal cells in each of the last three slots, whose numbers are 0, 1 and 2 mod 3; each slot has an output of its
 // own.
-const LAST_SLOTS: [[u32; 6]; 9] = [
+const LAST_SLOTS: [Row; 9] = rows![
     [0, 0, 0, 0, 4, 1],
     [0, 1, 0, 0, 4, 2],
     [0, 2, 0, 0, 4, 3],

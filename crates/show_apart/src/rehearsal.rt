@@ -1,55 +1,40 @@
 // Rehearsals (scope 13): the proved switch with its cue store and the shadow with cues of its own, side by side. Both
 // are given the same slots, settings, drops and returns, and what these come to is compared.
-ghost use Rattle.std.specs.Prelude.{◌<◌, ◌≤◌, length};
-
 use crate::made::{draw, load};
-use crate::say::{say, say_call, say_cells, say_verdict, tell};
-use crate::shadow::Shadow;
-use crate::shadow_cues::{Held, Names};
-use crate::stage::{Table, Tally, end_of, start_of, step};
-use crate::{shadow, shadow_cues};
+use crate::row::{Row, rows, rows_of};
+use crate::say::say_call;
+use crate::shadow::{Refusal, Start};
+use crate::shadow_cues::Cues;
+use crate::stage::Stage;
 use layout::word::read_u32;
-use layout::{
-    CUES, FAIR_BYTES, NAME_BYTES, PLACE_BYTES, STORE_BYTES, STORE_HEADER_BYTES, TALLY_BYTES,
-};
+use layout::{CUES, NAME_BYTES, PLACE_BYTES, STORE_BYTES, STORE_HEADER_BYTES};
 use std::io::Stdout;
 
-// The bytes of a cue store.
-type Store = [u8; STORE_BYTES];
-
-// The bytes of its names.
-const NAMES_BYTES: usize = CUES * NAME_BYTES;
-
 pub(crate) fn show_all(out: Stdout) {
+    let three = Start::with_ports(3);
     // Three slots are played twice: the cells that leave are more than those that came.
     rehearse(
         out,
-        b"a rehearsal: ",
-        3,
-        0,
-        0,
-        b"slot 1,set a,slot 2,slot 3,slot 4,return a,slot 2,slot 3,slot 4,return a,slot 0",
+        "a rehearsal",
+        three,
+        "slot 1,set a,slot 2,slot 3,slot 4,return a,slot 2,slot 3,slot 4,return a,slot 0",
         &TWICE,
     );
     // e has no place before a is dropped, and b is as it was set the second time.
     rehearse(
         out,
-        b"four cues: ",
-        3,
-        0,
-        0,
-        b"slot 1,set a,slot 0,set b,slot 0,set c,slot 2,set d,set e,slot 3,set b,drop a,slot 0,set e,return a,\
+        "four cues",
+        three,
+        "slot 1,set a,slot 0,set b,slot 0,set c,slot 2,set d,set e,slot 3,set b,drop a,slot 0,set e,return a,\
           return b,slot 0,return c,slot 0,return d,slot 0,return e,slot 0,drop a",
         &FOUR,
     );
     // Bytes next to a and z among them. A bad name is told from a fifth cue, and a name from its beginning.
     rehearse(
         out,
-        b"names of cues: ",
-        3,
-        0,
-        0,
-        b"set ,set abcdefghi,set A,set a1,set \0,set a\0,set {,set `,slot 1,set z,slot 0,set abcdefgh,set y,set x,\
+        "names of cues",
+        three,
+        "set ,set abcdefghi,set A,set a1,set \0,set a\0,set {,set `,slot 1,set z,slot 0,set abcdefgh,set y,set x,\
           set ,set abcdefghi,set A,set a1,set \0,set a\0,set {,set `,set a,drop A,return a1,return abcdefg,drop ,\
           return z,slot 0,return abcdefgh,slot 0",
         &FOUR,
@@ -57,29 +42,30 @@ pub(crate) fn show_all(out: Stdout) {
     // The clock goes back too.
     rehearse(
         out,
-        b"a return after the clock's end: ",
-        2,
-        4294967294,
-        0,
-        b"set a,slot 1,slot 0,return a,slot 1,slot 0",
+        "a return after the clock's end",
+        Start::with_ports(2).in_slot(u32::MAX - 1),
+        "set a,slot 1,slot 0,return a,slot 1,slot 0",
         &LAST,
     );
     // A return winds back what was remembered too.
     rehearse(
         out,
-        b"a rehearsal of weights: ",
-        3,
-        0,
-        5,
-        b"slot 1,set a,slot 2,slot 3,slot 0,set b,return a,slot 2,slot 3,slot 0,return b,slot 3,return a,slot 3",
+        "a rehearsal of weights",
+        three.with_fair(5),
+        "slot 1,set a,slot 2,slot 3,slot 0,set b,return a,slot 2,slot 3,slot 0,return b,slot 3,return a,slot 3",
         &TWICE,
     );
-    show_made(out, b"a rehearsal of 200 calls at 16 ports: ", 0);
-    show_made(out, b"a rehearsal of 200 calls at 16 fair ports: ", 65535);
+    let all = Start::with_ports(16);
+    show_made(out, "a rehearsal of 200 calls at 16 ports", all);
+    show_made(
+        out,
+        "a rehearsal of 200 calls at 16 fair ports",
+        all.with_fair(0xffff),
+    );
 }
 
 // The cue holds ranks 2 and 9 of output 0, rank 9 at its crosspoint. In slot 2 that one blocks rank 4, which is urgent.
-const TWICE: [[u32; 6]; 8] = [
+const TWICE: [Row; 8] = rows![
     [1, 0, 0, 0, 9, 1],
     [1, 1, 0, 0, 1, 2],
     [1, 2, 0, 0, 2, 3],
@@ -91,7 +77,7 @@ const TWICE: [[u32; 6]; 8] = [
 ];
 
 // All are for output 0, which sends them by rank: what it sends after a return tells which cue that was.
-const FOUR: [[u32; 6]; 7] = [
+const FOUR: [Row; 7] = rows![
     [1, 0, 0, 0, 1, 1],
     [1, 1, 0, 0, 2, 2],
     [1, 2, 0, 0, 3, 3],
@@ -102,334 +88,167 @@ const FOUR: [[u32; 6]; 7] = [
 ];
 
 // Two cells for the last slot that can run.
-const LAST: [[u32; 6]; 2] = [[1, 0, 1, 0, 5, 1], [1, 1, 1, 0, 6, 2]];
+const LAST: [Row; 2] = rows![[1, 0, 1, 0, 5, 1], [1, 1, 1, 0, 6, 2]];
 
-// A rehearsal on a fresh switch, told aloud. The calls are a text, with a comma between two: `set`, `drop` or `return`
-// with a name, or `slot` with a digit. A slot has the arrivals of the rows that begin with its digit, and none does
-// with 0.
-fn rehearse(
-    out: Stdout,
-    name: &[u8],
-    ports: u32,
-    first: u32,
-    fair: u32,
-    calls: &[u8],
-    rows: &[[u32; 6]],
-) {
-    let mut table = [0u8; FAIR_BYTES];
-    let mut store = [0u8; STORE_BYTES];
-    let mut tally = [0u8; TALLY_BYTES];
-    let mut shadow = shadow::fresh(ports, first, fair);
-    let mut names = [[0u8; 8]; 4];
-    let mut held = [shadow; 4];
-    say(out, name);
-    crossbar::start(ports, first, fair, &mut table);
-    crossbar::cues::cue_start(&mut store);
-    let same = play(
-        out,
-        &mut table,
-        &mut store,
-        &mut tally,
-        &mut shadow,
-        &mut names,
-        &mut held,
-        calls,
-        rows,
-    );
-    finish(out, same, &table, &store, &tally, &shadow, &names);
+// A call of a rehearsal: a slot with the rows of a number, or a call of cues with a name.
+#[derive(Clone, Copy)]
+enum Call {
+    Slot(u32),
+    Set(&'static str),
+    Drop(&'static str),
+    Return(&'static str),
 }
 
-// The end of a line. The two agree if they do so in every call, in the clock and in which name is at which place.
-fn finish(
-    out: Stdout,
-    same: bool,
-    table: &Table,
-    store: &Store,
-    tally: &Tally,
-    shadow: &Shadow,
-    names: &Names,
-) {
-    say_cells(out, tally);
-    let clocks = read_u32(table, 12) == shadow::clock(shadow);
-    let cues = crossbar::cues::cue_check(store) == 0 && same_names(store, names);
-    say_verdict(out, same && clocks && cues, b"as the shadow says\n");
-}
-
-// Whether the places of a store have the shadow's names.
-fn same_names(store: &Store, names: &Names) -> bool {
-    let mut k = 0;
-    while k < NAMES_BYTES {
-        let byte = store[STORE_HEADER_BYTES + PLACE_BYTES * (k / NAME_BYTES) + k % NAME_BYTES];
-        if byte != names[k / NAME_BYTES][k % NAME_BYTES] {
-            return false;
+impl Call {
+    // The call that a text says: `slot` with a number, or `set`, `drop` or `return` with a name.
+    fn parse(text: &'static str) -> Option<Call> {
+        if let Some(number) = text.strip_prefix("slot ") {
+            return Some(Call::Slot(number.parse().ok()?));
         }
-        k += 1;
-    }
-    true
-}
-
-// The calls of a text. Whether the two agree in all.
-fn play(
-    out: Stdout,
-    table: &mut Table,
-    store: &mut Store,
-    tally: &mut Tally,
-    shadow: &mut Shadow,
-    names: &mut Names,
-    held: &mut Held,
-    calls: &[u8],
-    rows: &[[u32; 6]],
-) -> bool {
-    let mut same = true;
-    let mut at = 0;
-    while at < calls.len() {
-        let end = comma(calls, at);
-        same = take_call(
-            out,
-            table,
-            store,
-            tally,
-            shadow,
-            names,
-            held,
-            &calls[at..end],
-            rows,
-        ) && same;
-        at = end + 1;
-    }
-    same
-}
-
-// Where the next comma stands, or the text ends.
-fn comma(text: &[u8], at: usize) -> usize
-    requires { at ≤ length text.now }
-    ensures { (at ≤ result) × (result ≤ length text.now) }
-{
-    let mut k = at;
-    while k < text.len() {
-        if text[k] == b',' {
-            return k;
+        if let Some(name) = text.strip_prefix("set ") {
+            return Some(Call::Set(name));
         }
-        k += 1;
-    }
-    k
-}
-
-// A call of a text to both, told. Whether they agree.
-fn take_call(
-    out: Stdout,
-    table: &mut Table,
-    store: &mut Store,
-    tally: &mut Tally,
-    shadow: &mut Shadow,
-    names: &mut Names,
-    held: &mut Held,
-    call: &[u8],
-    rows: &[[u32; 6]],
-) -> bool {
-    if begins(call, b"slot ") {
-        return slot(out, table, tally, shadow, digit(after(call, 5)), rows);
-    }
-    let mut same = true;
-    let result = cue(table, store, shadow, names, held, call, &mut same);
-    say_call(out, call, result);
-    same
-}
-
-// Whether a text begins with another.
-fn begins(text: &[u8], with: &[u8]) -> bool {
-    let mut k = 0;
-    while k < with.len() {
-        if text.len() <= k {
-            return false;
+        if let Some(name) = text.strip_prefix("drop ") {
+            return Some(Call::Drop(name));
         }
-        if text[k] != with[k] {
-            return false;
+        text.strip_prefix("return ").map(Call::Return)
+    }
+}
+
+// A rehearsal on a fresh switch, told aloud. The calls are a text, with a comma between two. A slot has the arrivals of
+// the rows that begin with its number, and none does with 0.
+fn rehearse(out: Stdout, name: &str, start: Start, calls: &'static str, rows: &[Row]) {
+    let mut rehearsal = Rehearsal::open(out, name, start, true);
+    for text in calls.split(',') {
+        match Call::parse(text) {
+            Some(Call::Slot(number)) => rehearsal.stage.slot(rows_of(rows, number)),
+            Some(Call::Set(name)) => say_call(out, text, rehearsal.set(name)),
+            Some(Call::Drop(name)) => say_call(out, text, rehearsal.drop(name)),
+            Some(Call::Return(name)) => say_call(out, text, rehearsal.return_to(name)),
+            None => rehearsal.stage.agree = false,
         }
-        k += 1;
     }
-    true
+    rehearsal.close();
 }
 
-// What comes after so many bytes of a text.
-fn after(text: &[u8], start: usize) -> &[u8] {
-    if text.len() < start {
-        return text;
-    }
-    &text[start..]
-}
-
-// The number of a digit. Those from 0 on are bytes from 48 on.
-fn digit(text: &[u8]) -> u32 {
-    if text.len() == 0 {
-        return 0;
-    }
-    (text[0] % 16) as u32
-}
-
-// A slot call to both, with the rows that begin with the number.
-fn slot(
-    out: Stdout,
-    table: &mut Table,
-    tally: &mut Tally,
-    shadow: &mut Shadow,
-    number: u32,
-    rows: &[[u32; 6]],
-) -> bool {
-    let start = start_of(rows, number);
-    let end = end_of(rows, start, number);
-    step(out, table, tally, shadow, &rows[start..end], true)
-}
-
-// A call of cues to both. The result is the proved switch's, as it is below.
-fn cue(
-    table: &mut Table,
-    store: &mut Store,
-    shadow: &mut Shadow,
-    names: &mut Names,
-    held: &mut Held,
-    call: &[u8],
-    same: &mut bool,
-) -> u32 {
-    if begins(call, b"set ") {
-        return set(table, store, shadow, names, held, after(call, 4), same);
-    }
-    if begins(call, b"drop ") {
-        return drop(store, names, after(call, 5), same);
-    }
-    return_to(table, store, shadow, names, held, after(call, 7), same)
-}
-
-fn set(
-    table: &Table,
-    store: &mut Store,
-    shadow: &Shadow,
-    names: &mut Names,
-    held: &mut Held,
-    name: &[u8],
-    same: &mut bool,
-) -> u32 {
-    let result = crossbar::cues::cue_set(table, store, name);
-    compare(result, shadow_cues::set(shadow, names, held, name), same)
-}
-
-fn drop(store: &mut Store, names: &mut Names, name: &[u8], same: &mut bool) -> u32 {
-    let result = crossbar::cues::cue_drop(store, name);
-    compare(result, shadow_cues::drop(names, name), same)
-}
-
-fn return_to(
-    table: &mut Table,
-    store: &Store,
-    shadow: &mut Shadow,
-    names: &Names,
-    held: &Held,
-    name: &[u8],
-    same: &mut bool,
-) -> u32 {
-    let result = crossbar::cues::cue_return(table, store, name);
-    compare(
-        result,
-        shadow_cues::return_to(shadow, names, held, name),
-        same,
-    )
-}
-
-// The first of two results. Where they differ the two switches do.
-fn compare(res: u32, right: u32, same: &mut bool) -> u32 {
-    if res != right {
-        *same = false;
-    }
-    res
-}
-
-// A rehearsal of 200 calls at 16 ports that are made by rule. It tells the slots that are turned back, and at the end
-// how many returns were done.
-fn show_made(out: Stdout, name: &[u8], fair: u32) {
-    let mut table = [0u8; FAIR_BYTES];
-    let mut store = [0u8; STORE_BYTES];
-    let mut tally = [0u8; TALLY_BYTES];
-    let mut shadow = shadow::fresh(16, 0, fair);
-    let mut names = [[0u8; 8]; 4];
-    let mut held = [shadow; 4];
-    let mut same = true;
-    say(out, name);
-    crossbar::start(16, 0, fair, &mut table);
-    crossbar::cues::cue_start(&mut store);
-    let returns = play_made(
-        out,
-        &mut table,
-        &mut store,
-        &mut tally,
-        &mut shadow,
-        &mut names,
-        &mut held,
-        &mut same,
-    );
-    tell(out, b"returns ", returns as u64);
-    say(out, b", ");
-    finish(out, same, &table, &store, &tally, &shadow, &names);
-}
-
-// The calls made by rule. How many returns were done.
-fn play_made(
-    out: Stdout,
-    table: &mut Table,
-    store: &mut Store,
-    tally: &mut Tally,
-    shadow: &mut Shadow,
-    names: &mut Names,
-    held: &mut Held,
-    same: &mut bool,
-) -> u32 {
+// A rehearsal of 200 calls that are made by rule. It tells the slots that are turned back, and at the end how many
+// returns were done.
+fn show_made(out: Stdout, name: &str, start: Start) {
+    let mut rehearsal = Rehearsal::open(out, name, start, false);
     let mut seed = 1;
     let mut returns: u32 = 0;
-    let mut call = 0;
-    while call < 200 {
-        returns += made_call(
-            out, table, store, tally, shadow, names, held, call, &mut seed, same,
-        );
-        call += 1;
+    for number in 0..200 {
+        match made_call(&mut seed, number) {
+            Call::Slot(_) => rehearsal.stage.slot(&load(&mut seed, number)),
+            Call::Set(name) => {
+                rehearsal.set(name);
+            }
+            Call::Drop(name) => {
+                rehearsal.drop(name);
+            }
+            Call::Return(name) => {
+                if rehearsal.return_to(name) == 0 {
+                    returns += 1;
+                }
+            }
+        }
     }
-    returns
+    let _ = print!(out; "returns {returns}, ");
+    rehearsal.close();
 }
 
-// Of sixteen calls eight are slots of eight arrivals, four set a cue, one drops one and three return, by one of five
-// names: so that some have no free place, and some no such cue. 1 for a return that is done, else 0.
-fn made_call(
-    out: Stdout,
-    table: &mut Table,
-    store: &mut Store,
-    tally: &mut Tally,
-    shadow: &mut Shadow,
-    names: &mut Names,
-    held: &mut Held,
-    call: u32,
-    seed: &mut u32,
-    same: &mut bool,
-) -> u32
-    requires { call < 200 }
-    ensures { result ≤ 1 }
-{
+// Of sixteen calls eight are slots, four set a cue, one drops one and three return, by one of five names: so that some
+// have no free place, and some no such cue.
+fn made_call(seed: &mut u32, number: u32) -> Call {
     let drawn = draw(seed);
-    let kind = drawn % 16;
-    let name = [b'a' + (drawn / 16 % 5) as u8];
-    if kind < 8 {
-        if !step(out, table, tally, shadow, &load(seed, call), false) {
-            *same = false;
+    let name = ["a", "b", "c", "d", "e"][(drawn / 16 % 5) as usize];
+    match drawn % 16 {
+        0..=7 => Call::Slot(number),
+        8..=11 => Call::Set(name),
+        12 => Call::Drop(name),
+        _ => Call::Return(name),
+    }
+}
+
+// The two switches, the proved one's cue store, and the shadow's cues. The result of a call of cues is the proved
+// switch's.
+#[derive(Drop)]
+struct Rehearsal {
+    stage: Stage,
+    store: [u8; STORE_BYTES],
+    cues: Cues,
+}
+
+impl Rehearsal {
+    // All fresh.
+    fn open(out: Stdout, name: &str, start: Start, aloud: bool) -> Rehearsal {
+        let mut store = [0; STORE_BYTES];
+        crossbar::cues::cue_start(&mut store);
+        Rehearsal {
+            stage: Stage::open(out, name, start, aloud),
+            store,
+            cues: Cues::none(),
         }
-        return 0;
     }
-    if kind < 12 {
-        set(table, store, shadow, names, held, &name, same);
-        return 0;
+
+    // Sets a cue.
+    fn set(&mut self, name: &'static str) -> u32 {
+        let result = crossbar::cues::cue_set(&self.stage.table, &mut self.store, name.as_bytes());
+        let right = self.cues.set(name, &self.stage.shadow);
+        self.compare(result, right)
     }
-    if kind < 13 {
-        drop(store, names, &name, same);
-        return 0;
+
+    // Drops a cue.
+    fn drop(&mut self, name: &str) -> u32 {
+        let result = crossbar::cues::cue_drop(&mut self.store, name.as_bytes());
+        let right = self.cues.drop(name);
+        self.compare(result, right)
     }
-    if return_to(table, store, shadow, names, held, &name, same) == 0 {
-        return 1;
+
+    // Returns to a cue.
+    fn return_to(&mut self, name: &str) -> u32 {
+        let result = crossbar::cues::cue_return(
+            &mut self.stage.table,
+            &self.store,
+            name.as_bytes(),
+        );
+        let right = self.cues.return_to(name, &mut self.stage.shadow);
+        self.compare(result, right)
     }
-    0
+
+    // The number of the proved switch. Where the shadow has another the two differ.
+    fn compare(&mut self, outcome: u32, right: Result<(), Refusal>) -> u32 {
+        let number = right.map_or_else(|refusal| refusal as u32, |_| 0);
+        self.stage.agree = self.stage.agree && outcome == number;
+        outcome
+    }
+
+    // The end of a line. The two agree if they do so in every call, in the clock and in which name is at which place.
+    fn close(&mut self) {
+        let clocks = read_u32(&self.stage.table, 12) == self.stage.shadow.clock();
+        let cues = crossbar::cues::cue_check(&self.store) == 0 && self.has_same_names();
+        self.stage.agree = self.stage.agree && clocks && cues;
+        self.stage.say_cells();
+        self.stage.close();
+    }
+
+    // Whether the places of the store have the names of the shadow's cues.
+    fn has_same_names(&self) -> bool {
+        for place in 0..CUES {
+            let at = STORE_HEADER_BYTES + PLACE_BYTES * place;
+            if !is_name(&self.store[at..at + NAME_BYTES], self.cues.name_at(place)) {
+                return false;
+            }
+        }
+        true
+    }
+}
+
+// Whether the bytes of a place are those of a name, and zeros behind it. A free place has zeros alone.
+fn is_name(bytes: &[u8], name: &str) -> bool {
+    let letters = name.as_bytes();
+    bytes
+        .iter()
+        .enumerate()
+        .all(|(k, byte)| *byte == letters.get(k).copied().unwrap_or(0))
 }

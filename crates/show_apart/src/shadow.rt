@@ -1,318 +1,298 @@
 // Scope 4, the PIFO switch, written plainly and apart from the crossbar: no lists, no crosspoints, no phases. All
 // waiting cells stand in one flat array, in no order, and whatever is asked of them is searched for from end to end. At
 // fair outputs (scope 15) it makes its own ranks, by division.
-ghost use Rattle.std.specs.Prelude.{◌<◌};
+ghost use Rattle.std.specs.Prelude.{◌<◌, ◌≤◌};
 
-// A shadow switch has 2,048 places for cells, its number of ports, its clock, and how many places have been taken; the
-// marks of its fair outputs, the last rank that each of sixteen outputs sent, and the last that each of 2,048 flows was
-// given. A cell that has left leaves its place unused.
-pub(crate) type Shadow = [u32; 16404];
+use crate::row::Row;
 
-const PLACES: usize = 2048;
+// Sixteen inputs and outputs, eight flows of each pair, and 64 cells of each input that wait.
+const PORTS: usize = 16;
 
-const PORTS: usize = 14336;
+const FLOWS: usize = 8;
 
-const CLOCK: usize = 14337;
+const LIMIT: usize = 64;
 
-const USED: usize = 14338;
+const PLACES: usize = PORTS * LIMIT;
 
-const FAIR: usize = 14339;
+const GIVEN: usize = PORTS * PORTS * FLOWS;
 
-const LEFT: usize = 14340;
-
-const GIVEN: usize = 14356;
-
-// The seven numbers of a place: 1 if a cell waits there, else 0; then the cell, with its tag before its slot.
-const WAITS: usize = 0;
-
-const INPUT: usize = 1;
-
-const OUTPUT: usize = 2;
-
-const FLOW: usize = 3;
-
-const RANK: usize = 4;
-
-const SLOT: usize = 6;
-
-// A switch in which no cell waits. Bit o of `fair` marks output o.
-pub(crate) fn fresh(ports: u32, first: u32, fair: u32) -> Shadow {
-    let mut shadow = [0; 16404];
-    shadow[PORTS] = ports;
-    shadow[CLOCK] = first;
-    shadow[FAIR] = fair;
-    shadow
+// How a switch starts: its number of ports, the number of its first slot, and the marks of its fair outputs: bit o
+// marks output o.
+#[derive(Clone, Copy)]
+pub(crate) struct Start {
+    pub(crate) ports: u32,
+    pub(crate) first: u32,
+    pub(crate) fair: u32,
+    ghost some_ports: { 0 < ports },
+    ghost few_ports: { ports ≤ 16 },
 }
 
-// The number of the next slot.
-pub(crate) fn clock(shadow: &Shadow) -> u32 {
-    shadow[CLOCK]
-}
-
-// Takes a slot. A record is the number of the call, which is not looked at, then input, output, flow, rank and tag.
-// The result is 0, or the number of the refusal and 16 times the record's place. What each of sixteen outputs sends
-// goes into `sent`, in the seven numbers of a place.
-pub(crate) fn slot(shadow: &mut Shadow, records: &[[u32; 6]], sent: &mut [u32; 112]) -> u64 {
-    let clock = shadow[CLOCK];
-    if 4294967295 <= clock {
-        return 3;
-    }
-    let fault = first_fault(shadow, records);
-    if fault == 0 {
-        accept(shadow, records);
-        send(shadow, sent);
-        shadow[CLOCK] = clock + 1;
-    }
-    fault
-}
-
-// The first record at fault, by the cells that wait before the slot.
-fn first_fault(shadow: &Shadow, records: &[[u32; 6]]) -> u64 {
-    let mut before = [0; 6];
-    let mut k = 0;
-    while k < records.len() {
-        let record = records[k];
-        let number = fault_of(shadow, record, k, before);
-        k += 1;
-        if number != 0 {
-            return number as u64 + 16 * k as u64;
+impl Start {
+    // In slot 0, and without fair outputs.
+    pub(crate) fn with_ports(ports: u32) -> Start
+        requires some_ports { 0 < ports }
+        requires few_ports { ports ≤ 16 }
+    {
+        Start {
+            ports,
+            first: 0,
+            fair: 0,
         }
-        before = record;
     }
-    0
+
+    // The same, in another slot.
+    pub(crate) fn in_slot(self, first: u32) -> Start {
+        Start {
+            ports: self.ports,
+            first,
+            fair: self.fair,
+        }
+    }
+
+    // The same, with fair outputs.
+    pub(crate) fn with_fair(self, fair: u32) -> Start {
+        Start {
+            ports: self.ports,
+            first: self.first,
+            fair,
+        }
+    }
 }
 
-// The checks of a record, in their order: 0 if it has no fault.
-fn fault_of(shadow: &Shadow, record: [u32; 6], k: usize, before: [u32; 6]) -> u8 {
-    let ports = shadow[PORTS];
-    let input = record[INPUT];
-    if ports <= input || ports <= record[OUTPUT] {
-        return 4;
-    }
-    if 7 < record[FLOW] {
-        return 5;
-    }
-    if 0 < k && input <= before[INPUT] {
-        return 6;
-    }
-    if is_fair(shadow, record[OUTPUT]) && (record[RANK] == 0 || 1024 < record[RANK]) {
-        return 14;
-    }
-    let rank = rank_of(shadow, record);
-    if 4294967295 < rank {
-        return 15;
-    }
-    if falls(shadow, input, record[OUTPUT], record[FLOW], rank as u32) {
-        return 7;
-    }
-    if 64 <= count_of(shadow, input) {
-        return 8;
-    }
-    0
+// Why the shadow turns a call back, by the numbers of scope 6.
+#[derive(Clone, Copy)]
+pub(crate) enum Refusal {
+    ClockEnd = 3,
+    NoSuchPort = 4,
+    NoSuchFlow = 5,
+    InputOrder = 6,
+    RankOrder = 7,
+    Full = 8,
+    BadName = 11,
+    CuesFull = 12,
+    NoSuchCue = 13,
+    BadWeight = 14,
+    RankEnd = 15,
 }
 
-// Of an output below 16.
-fn is_fair(shadow: &Shadow, output: u32) -> bool {
-    (shadow[FAIR] >> (output % 16)) % 2 == 1
+// Why a slot is turned back, and the place of the record at fault, counted from 1; 0 where no record is.
+#[derive(Clone, Copy)]
+pub(crate) struct TurnedBack {
+    refusal: Refusal,
+    record: usize,
 }
 
-// The rank of a record's cell: the record's, or at a fair output the last rank that counts and the stride of the weight.
-fn rank_of(shadow: &Shadow, record: [u32; 6]) -> u64 {
-    if !is_fair(shadow, record[OUTPUT]) {
-        return record[RANK] as u64;
+impl TurnedBack {
+    // Whether this is what the outcome of a slot call says.
+    pub(crate) fn is_said_by(self, outcome: u64) -> bool {
+        outcome % 256 == self.refusal as u64 && outcome / 256 == self.record as u64
     }
-    last_of(shadow, record) as u64 + stride_of(record[RANK]) as u64
 }
 
-// The larger of the last rank that a record's flow was given and the last that its output sent.
-fn last_of(shadow: &Shadow, record: [u32; 6]) -> u32 {
-    let given = shadow[GIVEN + flow_of(record)];
-    let left = shadow[LEFT + (record[OUTPUT] % 16) as usize];
-    if given < left {
-        return left;
+// A cell that waits, with its slot.
+#[derive(Clone, Copy, PartialEq, Eq)]
+pub(crate) struct Cell {
+    pub(crate) input: u32,
+    pub(crate) output: u32,
+    pub(crate) flow: u32,
+    pub(crate) rank: u32,
+    pub(crate) tag: u32,
+    pub(crate) slot: u32,
+}
+
+// What each output sends.
+pub(crate) type Departures = [Option<Cell>; PORTS];
+
+// A shadow switch: its number of ports, its clock and the marks of its fair outputs; the last rank that each fair
+// output sent, and the last that each flow was given there; and the cells that wait.
+#[derive(Clone, Copy)]
+pub(crate) struct Shadow {
+    ports: u32,
+    clock: u32,
+    fair: u32,
+    left: [u32; PORTS],
+    given: [u32; GIVEN],
+    waiting: [Option<Cell>; PLACES],
+    ghost some_ports: { 0 < ports },
+    ghost few_ports: { ports ≤ 16 },
+}
+
+impl Shadow {
+    // A switch in which no cell waits.
+    pub(crate) fn fresh(start: Start) -> Shadow {
+        Shadow {
+            ports: start.ports,
+            clock: start.first,
+            fair: start.fair,
+            left: [0; PORTS],
+            given: [0; GIVEN],
+            waiting: [None; PLACES],
+        }
     }
-    given
-}
 
-fn stride_of(weight: u32) -> u32 {
-    if weight == 0 {
-        return 0;
+    // The number of the next slot.
+    pub(crate) fn clock(&self) -> u32 {
+        self.clock
     }
-    1048576 / weight
+
+    // Takes a slot, and answers what each output sends. A slot that is turned back changes nothing. The numbers of the
+    // rows' calls are not looked at.
+    pub(crate) fn slot(&mut self, rows: &[Row]) -> Result<Departures, TurnedBack> {
+        let clock = self.clock;
+        if clock == u32::MAX {
+            return Err(TurnedBack {
+                refusal: Refusal::ClockEnd,
+                record: 0,
+            });
+        }
+        let mut next = *self;
+        let mut last = None;
+        for (k, row) in rows.iter().enumerate() {
+            if let Err(refusal) = next.take(row, last) {
+                return Err(TurnedBack {
+                    refusal,
+                    record: k + 1,
+                });
+            }
+            last = Some(row.input);
+        }
+        let departures = next.send();
+        next.clock = clock + 1;
+        *self = next;
+        Ok(departures)
+    }
+
+    // The checks of a record, in their order, behind one of the input `last`. A record without a fault becomes a cell
+    // that waits, of the rank made, which a fair output's flow is given.
+    fn take(&mut self, row: &Row, last: Option<u32>) -> Result<(), Refusal> {
+        if row.input >= self.ports || row.output >= self.ports {
+            return Err(Refusal::NoSuchPort);
+        }
+        if row.flow >= 8 {
+            return Err(Refusal::NoSuchFlow);
+        }
+        if last.is_some_and(|input| row.input <= input) {
+            return Err(Refusal::InputOrder);
+        }
+        let rank = self.rank_of(row)?;
+        if self.falls(row, rank) {
+            return Err(Refusal::RankOrder);
+        }
+        if self.count_of(row.input) >= LIMIT {
+            return Err(Refusal::Full);
+        }
+        self.store(row, rank);
+        if self.is_fair(row.output) {
+            self.given[flow_of(row)] = rank;
+        }
+        Ok(())
+    }
+
+    // Whether an output is fair.
+    fn is_fair(&self, output: u32) -> bool
+        requires { output < 16 }
+    {
+        (self.fair >> output) % 2 == 1
+    }
+
+    // The rank of a record's cell: the record's; or at a fair output the last rank, which is the larger of that which
+    // the flow was given and that which the output sent, and the stride of the weight.
+    fn rank_of(&self, row: &Row) -> Result<u32, Refusal>
+        requires input_bound { row.now.input < 16 }
+        requires output_bound { row.now.output < 16 }
+        requires flow_bound { row.now.flow < 8 }
+    {
+        if !self.is_fair(row.output) {
+            return Ok(row.rank);
+        }
+        if row.rank == 0 || row.rank > 1024 {
+            return Err(Refusal::BadWeight);
+        }
+        let last = self.given[flow_of(row)].max(self.left[row.output as usize]);
+        let stride = 1048576 / row.rank;
+        last.checked_add(stride).ok_or(Refusal::RankEnd)
+    }
+
+    // Whether a cell of a record's flow waits with a higher rank.
+    fn falls(&self, row: &Row, rank: u32) -> bool {
+        self.waiting.iter().any(|place| {
+            matches!(place, Some(cell) if cell.input == row.input
+                && cell.output == row.output
+                && cell.flow == row.flow
+                && cell.rank > rank)
+        })
+    }
+
+    // How many cells of an input wait.
+    fn count_of(&self, input: u32) -> usize {
+        self.waiting
+            .iter()
+            .filter(|place| matches!(place, Some(cell) if cell.input == input))
+            .count()
+    }
+
+    // A record's cell, with the slot, at the first free place.
+    fn store(&mut self, row: &Row, rank: u32) {
+        let free = self.waiting.iter().position(|place| place.is_none());
+        if let Some(place) = free {
+            self.waiting[place] = Some(Cell {
+                input: row.input,
+                output: row.output,
+                flow: row.flow,
+                rank,
+                tag: row.tag,
+                slot: self.clock,
+            });
+        }
+    }
+
+    // Each output sends its first cell, if it has one.
+    fn send(&mut self) -> Departures {
+        let mut departures = [None; PORTS];
+        for output in 0..PORTS {
+            departures[output] = self.send_from(output);
+        }
+        departures
+    }
+
+    // The first cell for an output, whose place is free then. At a fair output its rank is remembered.
+    fn send_from(&mut self, output: usize) -> Option<Cell>
+        requires { output < 16 }
+    {
+        let first = self.first_for(output as u32)?;
+        for place in &mut self.waiting {
+            if *place == Some(first) {
+                *place = None;
+            }
+        }
+        if self.is_fair(output as u32) {
+            self.left[output] = first.rank;
+        }
+        Some(first)
+    }
+
+    // The cell of highest output priority for an output: by rank, then slot, then the turn of its input.
+    fn first_for(&self, output: u32) -> Option<Cell> {
+        self.waiting
+            .iter()
+            .filter_map(|place| place.filter(|cell| cell.output == output))
+            .min_by_key(|cell| (cell.rank, cell.slot, self.turn_of(cell)))
+    }
+
+    // How many inputs come before a cell's in its slot: input slot mod N is first, then the next, round to the start.
+    fn turn_of(&self, cell: &Cell) -> u64 {
+        let round = u64::from(self.ports);
+        (u64::from(cell.input) + round - u64::from(cell.slot) % round) % round
+    }
 }
 
-// The number of a record's flow, of inputs and outputs below 16 and flows below 8.
-fn flow_of(record: [u32; 6]) -> usize
+// The number of a record's flow: by input, then output, then flow.
+// Kept as one number: a literal of a struct that has an array of arrays is not proved yet.
+fn flow_of(row: &Row) -> usize
+    requires input_bound { row.now.input < 16 }
+    requires output_bound { row.now.output < 16 }
+    requires flow_bound { row.now.flow < 8 }
     ensures { result < 2048 }
 {
-    let pair = 16 * (record[INPUT] % 16) + record[OUTPUT] % 16;
-    (8 * pair + record[FLOW] % 8) as usize
-}
-
-// Whether a cell of the flow waits with a higher rank.
-fn falls(shadow: &Shadow, input: u32, output: u32, flow: u32, rank: u32) -> bool {
-    let mut k = 0;
-    while k < PLACES {
-        if field(shadow, k, WAITS) != 0
-            && field(shadow, k, INPUT) == input
-            && field(shadow, k, OUTPUT) == output
-            && field(shadow, k, FLOW) == flow
-            && rank < field(shadow, k, RANK)
-        {
-            return true;
-        }
-        k += 1;
-    }
-    false
-}
-
-// How many cells of an input wait.
-fn count_of(shadow: &Shadow, input: u32) -> u32 {
-    let mut count = 0;
-    let mut k = 0;
-    while k < PLACES {
-        if field(shadow, k, WAITS) != 0 && field(shadow, k, INPUT) == input {
-            count += 1;
-        }
-        k += 1;
-    }
-    count
-}
-
-// Each record becomes a cell that waits.
-fn accept(shadow: &mut Shadow, records: &[[u32; 6]]) {
-    let mut k = 0;
-    while k < records.len() {
-        take(shadow, records[k]);
-        k += 1;
-    }
-}
-
-// A record becomes a cell of the rank made, which a fair output's flow is given.
-fn take(shadow: &mut Shadow, record: [u32; 6]) {
-    let rank = rank_of(shadow, record);
-    if 4294967295 < rank {
-        return;
-    }
-    let mut cell = record;
-    cell[RANK] = rank as u32;
-    store(shadow, cell);
-    if is_fair(shadow, record[OUTPUT]) {
-        shadow[GIVEN + flow_of(record)] = rank as u32;
-    }
-}
-
-// A record, with the slot, at the next place.
-fn store(shadow: &mut Shadow, record: [u32; 6]) {
-    let used = shadow[USED];
-    if 2048 <= used {
-        return;
-    }
-    let place = used as usize;
-    let mut f = INPUT;
-    while f < SLOT {
-        shadow[7 * place + f] = record[f];
-        f += 1;
-    }
-    shadow[7 * place + SLOT] = shadow[CLOCK];
-    shadow[7 * place] = 1;
-    shadow[USED] = used + 1;
-}
-
-// Each output sends its first cell, if it has one.
-fn send(shadow: &mut Shadow, sent: &mut [u32; 112]) {
-    let mut output = 0;
-    while output < 16 {
-        let place = first_for(shadow, output as u32);
-        remember(shadow, place, output);
-        leave(shadow, place, sent, output);
-        output += 1;
-    }
-}
-
-// The rank of the cell at a place, if it is one, is the last that a fair output sent.
-fn remember(shadow: &mut Shadow, place: usize, output: usize)
-    requires { output < 16 }
-{
-    if PLACES <= place || !is_fair(shadow, output as u32) {
-        return;
-    }
-    shadow[LEFT + output] = field(shadow, place, RANK);
-}
-
-// Where the cell of highest output priority for an output waits.
-fn first_for(shadow: &Shadow, output: u32) -> usize {
-    let mut first = PLACES;
-    let mut k = 0;
-    while k < PLACES {
-        first = earlier(shadow, output, first, k);
-        k += 1;
-    }
-    first
-}
-
-// Of a place found so far and the next one, the place of the cell that the output sends first.
-fn earlier(shadow: &Shadow, output: u32, first: usize, k: usize) -> usize
-    requires { k < 2048 }
-{
-    if field(shadow, k, WAITS) == 0 || field(shadow, k, OUTPUT) != output {
-        return first;
-    }
-    if first < PLACES {
-        if precedes(shadow, first, k) {
-            return first;
-        }
-    }
-    k
-}
-
-// Whether the cell at a place is sent before the one at another: by rank, then slot, then the turn of its input.
-fn precedes(shadow: &Shadow, a: usize, b: usize) -> bool
-    requires a_bound { a < 2048 }
-    requires b_bound { b < 2048 }
-{
-    let rank = field(shadow, a, RANK);
-    let other = field(shadow, b, RANK);
-    if rank != other {
-        return rank < other;
-    }
-    let slot = field(shadow, a, SLOT);
-    let later = field(shadow, b, SLOT);
-    if slot != later {
-        return slot < later;
-    }
-    let ports = shadow[PORTS];
-    turn_of(ports, slot, field(shadow, a, INPUT)) < turn_of(ports, slot, field(shadow, b, INPUT))
-}
-
-// How many inputs come before an input in a slot: input slot mod N is first, then the next, round to the start.
-fn turn_of(ports: u32, slot: u32, input: u32) -> u64 {
-    if ports == 0 {
-        return 0;
-    }
-    let round = ports as u64;
-    (input as u64 + round - slot as u64 % round) % round
-}
-
-// Moves the cell at a place, if it is one, to what the output sends.
-fn leave(shadow: &mut Shadow, place: usize, sent: &mut [u32; 112], output: usize)
-    requires { output < 16 }
-{
-    if PLACES <= place {
-        return;
-    }
-    let mut f = WAITS;
-    while f <= SLOT {
-        sent[7 * output + f] = shadow[7 * place + f];
-        f += 1;
-    }
-    shadow[7 * place] = 0;
-}
-
-// A number of a place.
-fn field(shadow: &Shadow, k: usize, f: usize) -> u32
-    requires k_bound { k < 2048 }
-    requires f_bound { f < 7 }
-{
-    shadow[7 * k + f]
+    (128 * row.input + 8 * row.output + row.flow) as usize
 }

@@ -1,177 +1,126 @@
 // The proved switch and the shadow side by side: the same calls to both, and what they come to compared.
-ghost use Rattle.std.specs.Prelude.{◌≤◌, length};
-
-use crate::say::{say, say_answer, say_cells, say_refusal, say_verdict};
-use crate::shadow;
-use crate::shadow::Shadow;
+use crate::row::{Row, rows_of};
+use crate::say::{say_answer, say_cells, say_name, say_refusal, say_verdict};
+use crate::shadow::{Cell, Departures, Shadow, Start, TurnedBack};
 use layout::word::read_u32;
-use layout::{ANSWER_BYTES, ARRIVAL_BYTES, DEPARTURES_BYTES, FAIR_BYTES, PORTS, TALLY_BYTES};
+use layout::{ANSWER_BYTES, DEPARTURE_BYTES, FAIR_BYTES, PORTS, TALLY_BYTES};
 use std::io::Stdout;
 
-// The bytes of a table, a tally and an answer, and of the arrivals of a show's call.
+// The bytes of a table, a tally and an answer.
 pub(crate) type Table = [u8; FAIR_BYTES];
 
 pub(crate) type Tally = [u8; TALLY_BYTES];
 
 pub(crate) type Answer = [u8; ANSWER_BYTES];
 
-type Arrivals = [u8; MOST_BYTES];
-
 // A show lends at most one record more than can be accepted.
-const MOST_BYTES: usize = (PORTS + 1) * ARRIVAL_BYTES;
+const RECORDS: usize = PORTS + 1;
 
-// The numbers of the departures of an answer.
-const SENT: usize = DEPARTURES_BYTES / 4;
-
-// A show of so many slot calls on a fresh switch without fair outputs. A row is an arrival: the number of its call,
-// counted from 0, then input, output, flow, rank and tag. A show that is not told aloud tells its refusals, and its
-// cells at the end.
-pub(crate) fn show(
-    out: Stdout,
-    name: &[u8],
-    ports: u32,
-    first: u32,
-    calls: u32,
-    rows: &[[u32; 6]],
-    aloud: bool,
-) {
-    show_fair(out, name, ports, first, 0, calls, rows, aloud);
+// The proved switch, by the bytes that its host keeps, and the shadow; whether all slots are told, or the refusals
+// alone; and whether the two came to the same in all calls so far.
+#[derive(Drop)]
+pub(crate) struct Stage {
+    pub(crate) out: Stdout,
+    pub(crate) table: Table,
+    pub(crate) tally: Tally,
+    pub(crate) shadow: Shadow,
+    pub(crate) aloud: bool,
+    pub(crate) agree: bool,
 }
 
-// The same with fair outputs, by their marks.
-pub(crate) fn show_fair(
-    out: Stdout,
-    name: &[u8],
-    ports: u32,
-    first: u32,
-    fair: u32,
-    calls: u32,
-    rows: &[[u32; 6]],
-    aloud: bool,
-) {
-    let mut table = [0u8; FAIR_BYTES];
-    let mut tally = [0u8; TALLY_BYTES];
-    let mut shadow = shadow::fresh(ports, first, fair);
-    say(out, name);
-    crossbar::start(ports, first, fair, &mut table);
-    let same = play(out, &mut table, &mut tally, &mut shadow, calls, rows, aloud);
-    if !aloud {
-        say_cells(out, &tally);
-    }
-    say_verdict(out, same, b"as the shadow says\n");
+// A show of so many slot calls on a fresh switch, told aloud.
+pub(crate) fn show(out: Stdout, name: &str, start: Start, calls: u32, rows: &[Row]) {
+    let mut stage = Stage::open(out, name, start, true);
+    stage.play(calls, rows);
+    stage.close();
 }
 
-// So many calls. Whether the two switches agree.
-pub(crate) fn play(
-    out: Stdout,
-    table: &mut Table,
-    tally: &mut Tally,
-    shadow: &mut Shadow,
-    calls: u32,
-    rows: &[[u32; 6]],
-    aloud: bool,
-) -> bool {
-    let mut same = true;
-    let mut at = 0;
-    let mut call = 0;
-    while call < calls {
-        let end = end_of(rows, at, call);
-        same = step(out, table, tally, shadow, &rows[at..end], aloud) && same;
-        at = end;
-        call += 1;
-    }
-    same
-}
-
-// Where the rows of a call begin.
-pub(crate) fn start_of(rows: &[[u32; 6]], call: u32) -> usize
-    ensures { result ≤ length rows.now }
-{
-    let mut k = 0;
-    while k < rows.len() {
-        if rows[k][0] == call {
-            return k;
+impl Stage {
+    // Both switches fresh, and a new line with the name of a show.
+    pub(crate) fn open(out: Stdout, name: &str, start: Start, aloud: bool) -> Stage {
+        let mut table = [0; FAIR_BYTES];
+        say_name(out, name);
+        crossbar::start(start.ports, start.first, start.fair, &mut table);
+        Stage {
+            out,
+            table,
+            tally: [0; TALLY_BYTES],
+            shadow: Shadow::fresh(start),
+            aloud,
+            agree: true,
         }
-        k += 1;
     }
-    k
-}
 
-// Where the rows of a call end that begin at a place.
-pub(crate) fn end_of(rows: &[[u32; 6]], at: usize, call: u32) -> usize
-    requires { at ≤ length rows.now }
-    ensures { (at ≤ result) × (result ≤ length rows.now) }
-{
-    let mut k = at;
-    while k < rows.len() {
-        if rows[k][0] != call {
-            return k;
+    // So many slot calls.
+    pub(crate) fn play(&mut self, calls: u32, rows: &[Row]) {
+        for call in 0..calls {
+            self.slot(rows_of(rows, call));
         }
-        k += 1;
     }
-    k
-}
 
-// A slot call to both switches, told. Whether they agree in its result and its departures.
-pub(crate) fn step(
-    out: Stdout,
-    table: &mut Table,
-    tally: &mut Tally,
-    shadow: &mut Shadow,
-    records: &[[u32; 6]],
-    aloud: bool,
-) -> bool {
-    let mut arrivals = [0u8; MOST_BYTES];
-    let mut answer = [0u8; ANSWER_BYTES];
-    let mut sent = [0u32; SENT];
-    let length = lend(&mut arrivals, records);
-    let result = slot_with(table, &arrivals, length, &mut answer, tally);
-    let right = shadow::slot(shadow, records, &mut sent);
-    if result != 0 {
-        say_refusal(out, result);
-    } else if aloud {
-        say_answer(out, &answer);
-    }
-    result % 256 + 16 * (result / 256) == right && same_departures(&answer, &sent)
-}
-
-// The records as bytes, as many as there is room for. How many bytes there are.
-fn lend(arrivals: &mut Arrivals, records: &[[u32; 6]]) -> usize {
-    let mut k = 0;
-    while k < MOST_BYTES {
-        if records.len() <= k / ARRIVAL_BYTES {
-            return k;
+    // A slot call to both, with as many rows as there is room for.
+    pub(crate) fn slot(&mut self, rows: &[Row]) {
+        let mut arrivals = [[[0; 4]; 5]; RECORDS];
+        let mut answer = [0; ANSWER_BYTES];
+        for (arrival, row) in arrivals.iter_mut().zip(rows) {
+            *arrival = row.record();
         }
-        let number = records[k / ARRIVAL_BYTES][1 + k % ARRIVAL_BYTES / 4];
-        arrivals[k] = ((number >> (8 * (k % 4))) % 256) as u8;
-        k += 1;
-    }
-    MOST_BYTES
-}
-
-// A slot call with the first of the arrivals.
-fn slot_with(
-    table: &mut Table,
-    arrivals: &Arrivals,
-    length: usize,
-    answer: &mut Answer,
-    tally: &mut Tally,
-) -> u64 {
-    let all: &[u8] = arrivals;
-    if all.len() < length {
-        return 0;
-    }
-    crossbar::slot(table, &all[0..length], answer, tally)
-}
-
-// Whether an answer has the departures that the shadow sent, and no others.
-fn same_departures(answer: &Answer, sent: &[u32; SENT]) -> bool {
-    let mut k = 0;
-    while k < SENT {
-        if read_u32(answer, 4 * k) != sent[k] {
-            return false;
+        let records = &arrivals[..rows.len().min(RECORDS)];
+        let lent = records.as_flattened().as_flattened();
+        let outcome = crossbar::slot(&mut self.table, lent, &mut answer, &mut self.tally);
+        if outcome != 0 {
+            say_refusal(self.out, outcome);
+        } else if self.aloud {
+            say_answer(self.out, &answer);
         }
-        k += 1;
+        let right = is_right(outcome, &answer, self.shadow.slot(rows));
+        self.agree = self.agree && right;
+    }
+
+    // The tally's cells.
+    pub(crate) fn say_cells(&self) {
+        say_cells(self.out, &self.tally);
+    }
+
+    // The end of a line.
+    pub(crate) fn close(&self) {
+        say_verdict(self.out, self.agree, "as the shadow says");
+    }
+}
+
+// Whether the proved switch's outcome and its answer are what the shadow says.
+fn is_right(outcome: u64, answer: &Answer, shadow: Result<Departures, TurnedBack>) -> bool {
+    match shadow {
+        Ok(departures) => outcome == 0 && has_departures(answer, &departures),
+        Err(turned_back) => turned_back.is_said_by(outcome)
+            && has_departures(answer, &[None; PORTS]),
+    }
+}
+
+// Whether an answer has these departures, and no others.
+fn has_departures(answer: &Answer, departures: &Departures) -> bool {
+    for (output, departure) in departures.iter().enumerate() {
+        for (k, number) in numbers_of(departure).iter().enumerate() {
+            if read_u32(answer, DEPARTURE_BYTES * output + 4 * k) != *number {
+                return false;
+            }
+        }
     }
     true
+}
+
+// The seven numbers of a departure: 1 and the cell, its tag before its slot; or zeros.
+fn numbers_of(departure: &Option<Cell>) -> [u32; 7] {
+    match departure {
+        Some(cell) => [
+            1,
+            cell.input,
+            cell.output,
+            cell.flow,
+            cell.rank,
+            cell.tag,
+            cell.slot,
+        ],
+        None => [0; 7],
+    }
 }
