@@ -345,9 +345,6 @@ module _ (table numbers : List ℕ) {input from : ℕ} (r : Removable table numb
     free-is : free ≡ start + length left
     free-is = c.next ∙ ap (λ n. start + length (staying table numbers start n)) all
 
-    pub closed-low : section_room * input ≤ free
-    closed-low = omega (arith, free-is)
-
     pub closed-high : free ≤ section_room * input + count_in table input
     closed-high = omega (arith, free-is, length-staying table numbers start entries)
 
