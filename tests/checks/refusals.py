@@ -50,9 +50,9 @@ def scope_refusals():
 
 
 def code_names():
-    """The names in code, by number, from the function that gives a refusal its number."""
-    arms = re.findall(r"Refusal::(\w+) => (\d+),", read("crates/cell/src/lib.rt"))
-    return {int(number): name for name, number in arms}
+    """The names in code, by number."""
+    cases = re.findall(r"^    (\w+) = (\d+),$", read("crates/cell/src/lib.rt"), re.M)
+    return {int(number): name for name, number in cases}
 
 
 def compare(path, tellings, scope, names, numbers):
@@ -98,13 +98,14 @@ def host_order(names):
 
 def tellings():
     """Each file that tells refusals, what it tells, and the numbers that it has to tell."""
-    case = r"^    {} (?P<word>[a-z ]+): {}\n    (?P<name>[A-Z]\w+),$"
+    case = r"^    // (?P<word>[a-z ]+): (?P<when>.*)\n    (?P<name>[A-Z]\w+) = (?P<number>\d+),$"
+    named = r"^    /// (?P<word>[a-z ]+): (?P<when>.*)\n    (?P<name>[A-Z]\w+),$"
     macro = r"^#define (?P<name>\w+) +(?P<number>\d+)u +/\* (?P<word>[a-z ]+): (?P<when>.*) \*/$"
     row = r'^    (?P<number>\d+): \("(?P<word>.*)", "(?P<when>.*)"\),$'
     item = r"^\.TP\n(?P<number>\d+)\n(?P<word>[a-z ]+):"
     # The manual page says in its own words, of a trace's lines, when a refusal comes.
-    yield "crates/cell/src/lib.rt", by_place("crates/cell/src/lib.rt", case.format("//", "(?P<when>.*)")), EVERY
-    yield "host/src/lib.rs", by_place("host/src/lib.rs", case.format("///", "(?P<when>.*)")), EVERY
+    yield "crates/cell/src/lib.rt", told("crates/cell/src/lib.rt", case), EVERY
+    yield "host/src/lib.rs", by_place("host/src/lib.rs", named), EVERY
     yield "include/crossbar.h", told("include/crossbar.h", macro), EVERY
     yield "include/oq.h", told("include/oq.h", macro), OF_THE_OQ
     yield "viewer/show.py", told("viewer/show.py", row), OF_THE_PLAYERS
