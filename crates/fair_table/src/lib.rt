@@ -2,6 +2,7 @@
 // looked at apart from the cells, and the tables that are written whole: of a fresh switch, and of an older table.
 #![tactic(auto)]
 
+pub mod results;
 pub mod start;
 
 ghost use Rattle.std.specs.Prelude.{true, ◌≡◌, ◌≤◌, length};
