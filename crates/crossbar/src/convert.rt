@@ -5,8 +5,10 @@ ghost use Rattle.layout.specs.Fair.{fair_number};
 ghost use Rattle.layout.specs.Host.{result_of};
 ghost use Rattle.layout.specs.Older.{convert_call};
 ghost use Rattle.layout.specs.Table.{decode};
+ghost use Rattle.fair_table.specs.Results.{number_of_result};
 
 use cell::Refusal;
+use fair_table::results::number_of_result;
 use fair_table::write_older;
 use layout::{FAIR_BYTES, FAIR_NUMBER};
 
@@ -17,12 +19,21 @@ pub fn convert(old: &[u8], table: &mut [u8]) -> u32
     ensures table_after { table.new ≡ buffer_after fair_number table.old
         (convert_call decode old.now table.old) }
 {
+    number_of_result(write(old, table))
+}
+
+// The same with the refusal as it is.
+fn write(old: &[u8], table: &mut [u8]) -> Result<(), Refusal>
+    ensures value { number_of_result result ≡ result_of (convert_call decode old.now table.old) }
+    ensures table_after { table.new ≡ buffer_after fair_number table.old
+        (convert_call decode old.now table.old) }
+{
     if !slot_check::is_table(old) {
-        return Refusal::BrokenTable.number();
+        return Err(Refusal::BrokenTable);
     }
     if table.len() < FAIR_BYTES {
-        return Refusal::ShortBuffer.number();
+        return Err(Refusal::ShortBuffer);
     }
     write_older(old, FAIR_NUMBER, table);
-    0
+    Ok(())
 }

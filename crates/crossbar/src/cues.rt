@@ -4,13 +4,15 @@ ghost use Rattle.std.specs.Prelude.{◌≡◌};
 ghost use Rattle.layout.specs.Cues.{store_call, store_buffer, store_check_call, set_call, drop_call, return_call};
 ghost use Rattle.layout.specs.Cues.{store_after, table_returned};
 ghost use Rattle.layout.specs.Host.{result_of};
+ghost use Rattle.fair_table.specs.Results.{number_of_result};
 
 use cell::Refusal;
 use cue_store::check::is_store;
 use cue_store::name::number_of;
 use cue_store::place::{clear_cue, place_for, place_of, read_cue, write_cue, write_no_cues};
 use fair_table::is_fair_table;
-use layout::{CUES, STORE_BYTES};
+use fair_table::results::number_of_result;
+use layout::STORE_BYTES;
 
 // Writes a cue store in which no cue is held into the first bytes of the buffer: 0. Refuses with 10 a buffer that is too
 // short, and then writes nothing.
@@ -43,22 +45,29 @@ pub fn cue_set(table: &[u8], store: &mut [u8], name: &[u8]) -> u32
     ensures store_after { store.new ≡ store_after store.old
         (set_call table.now store.old name.now) }
 {
+    number_of_result(set(table, store, name))
+}
+
+// The same with the refusal as it is.
+fn set(table: &[u8], store: &mut [u8], name: &[u8]) -> Result<(), Refusal>
+    ensures value { number_of_result result ≡ result_of (set_call table.now store.old name.now) }
+    ensures store_after { store.new ≡ store_after store.old
+        (set_call table.now store.old name.now) }
+{
     if !is_fair_table(table) {
-        return Refusal::BrokenTable.number();
+        return Err(Refusal::BrokenTable);
     }
     if !is_store(store) {
-        return Refusal::BrokenTable.number();
+        return Err(Refusal::BrokenTable);
     }
-    let number = number_of(name);
-    if number == 0 {
-        return Refusal::BadName.number();
-    }
-    let place = place_for(store, number);
-    if place == CUES {
-        return Refusal::CuesFull.number();
-    }
+    let Some(number) = number_of(name) else {
+        return Err(Refusal::BadName);
+    };
+    let Some(place) = place_for(store, number) else {
+        return Err(Refusal::CuesFull);
+    };
     write_cue(store, place, number, table);
-    0
+    Ok(())
 }
 
 // Drops a cue, and its place is free: 0. Refuses with 2 a store that is broken, then with 11 a name that is not 1 to 8
@@ -68,19 +77,26 @@ pub fn cue_drop(store: &mut [u8], name: &[u8]) -> u32
     ensures store_after { store.new ≡ store_after store.old
         (drop_call store.old name.now) }
 {
+    number_of_result(drop(store, name))
+}
+
+// The same with the refusal as it is.
+fn drop(store: &mut [u8], name: &[u8]) -> Result<(), Refusal>
+    ensures value { number_of_result result ≡ result_of (drop_call store.old name.now) }
+    ensures store_after { store.new ≡ store_after store.old
+        (drop_call store.old name.now) }
+{
     if !is_store(store) {
-        return Refusal::BrokenTable.number();
+        return Err(Refusal::BrokenTable);
     }
-    let number = number_of(name);
-    if number == 0 {
-        return Refusal::BadName.number();
-    }
-    let place = place_of(store, number);
-    if place == CUES {
-        return Refusal::NoSuchCue.number();
-    }
+    let Some(number) = number_of(name) else {
+        return Err(Refusal::BadName);
+    };
+    let Some(place) = place_of(store, number) else {
+        return Err(Refusal::NoSuchCue);
+    };
     clear_cue(store, place);
-    0
+    Ok(())
 }
 
 // Returns to a cue: the lent table becomes that of the switch it holds, clock included, and the cue stays: 0. Refuses
@@ -91,20 +107,27 @@ pub fn cue_return(table: &mut [u8], store: &[u8], name: &[u8]) -> u32
     ensures table_after { table.new ≡ table_returned table.old
         (return_call table.old store.now name.now) }
 {
+    number_of_result(return_to(table, store, name))
+}
+
+// The same with the refusal as it is.
+fn return_to(table: &mut [u8], store: &[u8], name: &[u8]) -> Result<(), Refusal>
+    ensures value { number_of_result result ≡ result_of (return_call table.old store.now name.now) }
+    ensures table_after { table.new ≡ table_returned table.old
+        (return_call table.old store.now name.now) }
+{
     if !is_fair_table(table) {
-        return Refusal::BrokenTable.number();
+        return Err(Refusal::BrokenTable);
     }
     if !is_store(store) {
-        return Refusal::BrokenTable.number();
+        return Err(Refusal::BrokenTable);
     }
-    let number = number_of(name);
-    if number == 0 {
-        return Refusal::BadName.number();
-    }
-    let place = place_of(store, number);
-    if place == CUES {
-        return Refusal::NoSuchCue.number();
-    }
+    let Some(number) = number_of(name) else {
+        return Err(Refusal::BadName);
+    };
+    let Some(place) = place_of(store, number) else {
+        return Err(Refusal::NoSuchCue);
+    };
     read_cue(store, place, table);
-    0
+    Ok(())
 }

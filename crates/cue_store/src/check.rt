@@ -18,12 +18,10 @@ pub fn is_store(store: &[u8]) -> bool
     if !is_header(store) {
         return false;
     }
-    let mut k = 0;
-    while k < CUES {
+    for k in 0..CUES {
         if !is_place(store, k) {
             return false;
         }
-        k += 1;
     }
     true
 }
@@ -52,7 +50,7 @@ fn is_place(store: &[u8], k: usize) -> bool
     if !is_name(number) {
         return false;
     }
-    if place_of(store, number) < k {
+    if place_of(store, number) != Some(k) {
         return false;
     }
     fair_table::is_fair_table(&store[at..at + FAIR_BYTES])

@@ -1,28 +1,32 @@
 // Names of cues. A name of up to eight bytes is a number of 64 bits, the first byte the least significant; so two are
 // compared at once. 0 is the number of no name.
-ghost use Rattle.std.specs.Prelude.{◌≡◌};
+ghost use Rattle.std.specs.Prelude.{◌≡◌, ◌≢◌, MatchOption};
 ghost use Rattle.model.specs.Cues.{is_letter};
 ghost use Rattle.cue_store.specs.Names.{name_number, is_name};
 
 use layout::NAME_BYTES;
 
-// The number of a name; 0 if it is not 1 to 8 lower-case letters.
-pub fn number_of(name: &[u8]) -> u64
-    ensures { result ≡ name_number name.now }
+// The number of a name, if it is 1 to 8 lower-case letters.
+pub fn number_of(name: &[u8]) -> Option<u64>
+    ensures { MatchOption result (name_number name.now ≡ 0)
+        (λ n. (n ≡ name_number name.now) × (n ≢ 0)) }
 {
     if name.len() > NAME_BYTES {
-        return 0;
+        return None;
     }
     let mut number = 0;
     let mut i = name.len();
     while i > 0 {
         i -= 1;
         if !is_letter(name[i]) {
-            return 0;
+            return None;
         }
-        number = 256 * number + name[i] as u64;
+        number = 256 * number + u64::from(name[i]);
     }
-    number
+    if number == 0 {
+        return None;
+    }
+    Some(number)
 }
 
 // Whether a number is that of a name: letters, at least one, then zeros.
@@ -43,11 +47,9 @@ pub fn is_name(number: u64) -> bool
 }
 
 // Whether a byte is a letter, a to z.
+#[tactic(auto, unfolding(model::specs::Cues::is_letter))]
 fn is_letter(b: u8) -> bool
     ensures { result ≡ is_letter b }
 {
-    if b < 97 {
-        return false;
-    }
-    b <= 122
+    b.is_ascii_lowercase()
 }

@@ -40,10 +40,8 @@ fn write_new(old: &[u8], store: &mut [u8])
 {
     word::write_u32(store, 0, FAIR_NUMBER);
     run::copy(old, 4, store, 4, 12);
-    let mut k = 0;
-    while k < CUES {
+    for k in 0..CUES {
         write_place(old, k, store);
-        k += 1;
     }
 }
 

@@ -1,6 +1,6 @@
 // The places of a cue store. Place k stands at byte 16 + 24688 * k: a name in eight bytes, then a table.
 // A caller shows that the bytes have a store's length and that there is such a place; the bytes may be any.
-ghost use Rattle.std.specs.Prelude.{◌≡◌, ◌++◌, ◌<◌, ◌≤◌, length, replicate};
+ghost use Rattle.std.specs.Prelude.{◌≡◌, ◌++◌, ◌<◌, ◌≤◌, length, replicate, MatchOption};
 ghost use Rattle.model.specs.Cues.{cue_limit, no_cues};
 ghost use Rattle.layout.specs.Code.{put};
 ghost use Rattle.layout.specs.Cues.{store_size, place_size, store_bytes};
@@ -30,31 +30,30 @@ pub fn name_at(store: &[u8], k: usize) -> u64
     word::read_u64(store, start_of(k))
 }
 
-// The first place whose name has this number, or CUES. The number 0 finds the lowest free place.
-pub fn place_of(store: &[u8], number: u64) -> usize
+// The first place whose name has this number, if there is one. The number 0 finds the lowest free place.
+pub fn place_of(store: &[u8], number: u64) -> Option<usize>
     requires { length store.now ≡ store_size }
-    ensures { result ≡ place_of store.now number }
+    ensures { MatchOption result (place_of store.now number ≡ cue_limit)
+        (λ k. (k ≡ place_of store.now number) × (k < cue_limit)) }
 {
-    let mut k = 0;
-    while k < CUES {
+    for k in 0..CUES {
         if name_at(store, k) == number {
-            return k;
+            return Some(k);
         }
-        k += 1;
     }
-    CUES
+    None
 }
 
-// The place that a cue takes whose name has this number: the one that has it, else the lowest free one, or CUES.
-pub fn place_for(store: &[u8], number: u64) -> usize
+// The place that a cue takes whose name has this number: the one that has it, else the lowest free one, if there is one.
+pub fn place_for(store: &[u8], number: u64) -> Option<usize>
     requires { length store.now ≡ store_size }
-    ensures { result ≡ place_for store.now number }
+    ensures { MatchOption result (place_for store.now number ≡ cue_limit)
+        (λ k. (k ≡ place_for store.now number) × (k < cue_limit)) }
 {
-    let held = place_of(store, number);
-    if held < CUES {
-        return held;
+    match place_of(store, number) {
+        Some(held) => Some(held),
+        None => place_of(store, 0),
     }
-    place_of(store, 0)
 }
 
 // Puts a cue at a place: its name, and the switch's table.
