@@ -1,6 +1,6 @@
 -- A slot on what a caller lends as bytes, for a tally of the right length.
+use Rattle.cell.specs.Checked.{Checked}
 use Rattle.std.specs.Prelude.{ℕ, List, ◌≡◌}
-use Rattle.cell.specs.declared.Fault.{Fault}
 use Rattle.model.specs.Checks.{Outcome, refusal_of}
 use Rattle.model.specs.Crossbar.{Course}
 use Rattle.model.specs.Tally.{tally_after, arrival_count}
@@ -14,9 +14,9 @@ unfoldable pub lent_slot : List ℕ → List ℕ → ℕ → Outcome Course
 lent_slot table arrivals room = slot_of (decode table) (records_of arrivals) room tally_size
 
 -- what it leaves: its refusal, the table, the answer's buffer and the tally
-abbrev pub LentLeaves : Outcome Course → List ℕ → List ℕ → List ℕ → List ℕ → Fault → List ℕ → List ℕ → List ℕ → Type 0
-LentLeaves o table arrivals answer tally fault table' answer' tally' =
-    (fault ≡ refusal_of o)
+abbrev pub LentLeaves : Outcome Course → List ℕ → List ℕ → List ℕ → List ℕ → Checked → List ℕ → List ℕ → List ℕ → Type 0
+LentLeaves o table arrivals answer tally checked table' answer' tally' =
+    (checked ≡ refusal_of o)
     × ((table' ≡ table_after table o)
     × ((answer' ≡ answer_after answer o)
     × (tally' ≡ tally_bytes (tally_after (arrival_count (records_of arrivals)) o (tally_of tally)))))
