@@ -19,6 +19,8 @@ pub struct Line {
 }
 
 // line = key "=" number "\n"
+// Always inlined, so that a constant key is compared as one.
+#[inline(always)]
 pub fn read_line(text: &[u8], key: Key) -> Option<Line>
     ensures { result ≡ line_of text.now (read_line key text.now) }
 {
@@ -39,6 +41,7 @@ pub fn begins(text: &[u8], key: Key) -> bool
 }
 
 // number "\n"; number = "0" | digit { digit }, the first not "0", at most 4294967295
+#[inline(always)]
 fn read_body(text: &[u8]) -> Option<Line>
     ensures { result ≡ line_of text.now (read_body text.now) }
 {
