@@ -51,9 +51,9 @@ finished engine last stage l text table buffer table' buffer' stage' l' taken n 
     }) in
     over-finished stage' l' table' (run-over run)
 
-pub status-few : (stage : Stage) → status_of stage ≤ 1
+pub status_few : (stage : Stage) → status_of stage ≤ 1
 unfolding status_of
-status-few Opening = omega arith
-status-few Playing = omega arith
-status-few Ended = omega arith
-status-few TurnedBack = omega arith
+status_few Opening = omega arith
+status_few Playing = omega arith
+status_few Ended = omega arith
+status_few TurnedBack = omega arith
