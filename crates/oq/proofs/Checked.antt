@@ -1,6 +1,6 @@
 -- Whether bytes are the table of an output-queued switch: the frame, then a table of its cells, and where they wait, by
 -- the sets that the check of this table hands on.
---     a-member, no-members              whether the set of each input is empty
+--     sets-empty                        whether the set of each input is empty
 --     broken, in-a-list, in-no-list     a table whose cells all wait in buffers: its check, then whether none of
 --                                       them is in a list, then none at a crosspoint
 --     other-frame, by-core              framed
@@ -10,6 +10,8 @@ use native.Mathlib.Nat.{zero-add}
 use native.Mathlib.Omega.{arith}
 use mathlib.Core.Bool.{Bool, true, false, ◌&&◌}
 use mathlib.Core.List.Memᴰ
+use mathlib.Core.Logic.{◌⊎◌, inl, inr}
+use Rattle.std.specs.Prelude.{◌↔◌, IsTrue, EachIndex, slice_index}
 use mathlib.Core.List.{List, [], Memᴰ, flatten}
 use mathlib.Core.Path.{◌≡◌, refl, sym, ap, ap₂, ◌∙◌}
 use borrow.Author.Tests.{eqb-true, eq-eqb, ne_eqb}
@@ -18,7 +20,7 @@ use lib.ListN.{length, take, drop, get_or}
 use Rattle.laws.specs.Lists.{all?, none?, between, numbers_from, up_to}
 use Rattle.laws.proofs.Lists.{all?-at, all?-places, none?-e, none?-i}
 use Rattle.laws.proofs.Numbers.{mem-numbers_from, numbers_from-mem, numbers_from-at}
-use Rattle.laws.proofs.Tests.{same, by-fail, and_i, and_l, and_r, and-false-l, and_false_r}
+use Rattle.laws.proofs.Tests.{same, clash, either, by-fail, and_i, and_l, and_r, and-false-l, and_false_r}
 use Rattle.sets.specs.Sets.{set_from}
 use Rattle.sets.proofs.Members.{set_from-empty}
 use Rattle.cell.specs.Limits.{port_limit, section_room}
@@ -49,12 +51,16 @@ use Rattle.layout.proofs.Parts.{part-behind}
 -- a set for each input
 
 module _ (sets : List ℕ) where
-  pub a-member : (input : ℕ) → (get_or sets input 0 ≡ 0 → ⊥) → false ≡ all? (λ set. eqb set 0) sets
-  a-member input h =
-      sym (by-fail _ (λ t. h (eqb-true (get_or sets input 0) 0 (all?-at (λ set. eqb set 0) sets input 0 t refl))))
-
-  pub no-members : ((input : ℕ) → input < length sets → get_or sets input 0 ≡ 0) → true ≡ all? (λ set. eqb set 0) sets
-  no-members h = sym (all?-places (λ set. eqb set 0) 0 sets (λ input inside. eq-eqb _ 0 (h input inside)))
+  pub sets-empty : (b : Bool) → (IsTrue b ↔ EachIndex sets (λ k. slice_index sets k ≡ 0))
+      → b ≡ all? (λ set. eqb set 0) sets
+  sets-empty b h = go (either b)
+    where
+      go : (b ≡ true) ⊎ (b ≡ false) → b ≡ all? (λ set. eqb set 0) sets
+      go (inl t) =
+          t ∙ sym (all?-places (λ set. eqb set 0) 0 sets (λ input inside. eq-eqb _ 0 (h.0 t input inside)))
+      go (inr f) =
+          f
+          ∙ sym (by-fail _ (λ t. clash (h.1 (λ k inside. eqb-true _ 0 (all?-at (λ set. eqb set 0) sets k 0 t refl))) f))
 
 ------------------------------------------------------------------------
 -- the places

@@ -2,7 +2,7 @@
 --     framed, core-table            the frame of the table, and its cells
 --     plain-leaves                  what a slot leaves where no output is fair
 --     fault-leaves, clear-rankable  where a fault is found; and where none is, every rank can be made
---     fair-leaves                   what a slot leaves where the ranks were made
+--     served-clear, fair-leaves     it runs where the ranks were made, and what it leaves
 --     first-tell                    no record behind the seventeenth is looked at
 use Prim.Native.Nat.{ℕ, ◌+◌, ◌-◌, ◌≤◌}
 use native.Mathlib.Omega.{arith}
@@ -11,6 +11,7 @@ use mathlib.Core.Logic.{◌⊎◌, inl, inr}
 use mathlib.Core.List.{List, ◌++◌, map, append_assoc}
 use mathlib.Core.Option.{Option, none, some}
 use mathlib.Core.Path.{◌≡◌, refl, sym, ap, ap₂, ◌∙◌}
+use Rattle.std.specs.Prelude.{Err}
 use borrow.Author.Tests.{leb-true, leb-false}
 use borrow.Rule.Slice.PartMut.{put_mid}
 use lib.Dec.{eqb, leb}
@@ -19,8 +20,8 @@ use lib.Seq.{take_at, drop_at, take_all, length-take-le}
 use Rattle.laws.specs.Lists.{all?}
 use Rattle.laws.proofs.Tests.{either, and_l, and_r}
 use Rattle.cell.specs.declared.Arrival.{Arrival}
+use Rattle.cell.specs.Checked.{Checked, no_fault}
 use Rattle.cell.specs.declared.Fault.{Fault}
-use Rattle.cell.specs.declared.Fault.TheVariants.{Clear, At}
 use Rattle.cell.specs.declared.Refusal.{Refusal}
 use Rattle.cell.specs.declared.Refusal.TheVariants.{ClockEnd}
 use Rattle.cell.specs.Cell.{arrival_fits}
@@ -182,7 +183,7 @@ module _ (table : List ℕ) (b : bytes? table ≡ true) (t : is_fair_oq_table ta
           (sym (unmarked-remembered m none-fair records d.departures))
       plain-table (refused r place) = core-kept
 
-      pub plain-leaves : (fault : Fault) (new answer' : List ℕ)
+      pub plain-leaves : (fault : Checked) (new answer' : List ℕ)
           → ServedLeaves (slot_oq s (some records)) (core_in table) answer fault new answer'
           → HeldLeaves table records answer fault (put_mid core_start table_size table new) answer'
       plain-leaves fault new answer' (f, (n, a)) =
@@ -209,20 +210,20 @@ module _ (table : List ℕ) (b : bytes? table ≡ true) (t : is_fair_oq_table ta
         go false p none q = rw (p, q, slot_of, fair_fault_in)
         go false p (some f) q = rw (p, q, slot_of, fair_fault_in)
 
-    refused-leaves : (o : Outcome Served) {r : Refusal} {place : ℕ} → refusal_of o ≡ At r place
+    refused-leaves : (o : Outcome Served) (fault : Fault) → refusal_of o ≡ Err fault
         → (table ≡ table_held table records o) × (answer ≡ answer_after oq answer o)
     unfolding refusal_of table_held answer_after
-    refused-leaves (done d) e = absurd (clear-not e)
-    refused-leaves (refused r place) e = (refl, refl)
+    refused-leaves (done d) fault e = absurd (clear-not e)
+    refused-leaves (refused r place) fault e = (refl, refl)
 
-    pub fault-leaves : (fault : Fault) {r : Refusal} {place : ℕ} → fault ≡ At r place → fault ≡ fair_fault_in s m records
-        → HeldLeaves table records answer fault table answer
-    fault-leaves fault e f =
-        let kept = refused-leaves outcome (fault-outcome ∙ sym f ∙ e) in
-        (f ∙ sym fault-outcome, (kept.0, kept.1))
+    pub fault-leaves : (fault : Fault) (result : Checked) → fair_fault_in s m records ≡ Err fault → result ≡ Err fault
+        → HeldLeaves table records answer result table answer
+    fault-leaves fault result f e =
+        let kept = refused-leaves outcome fault (fault-outcome ∙ f) in
+        (e ∙ sym f ∙ sym fault-outcome, (kept.0, kept.1))
 
     -- no fault was found
-    module _ (clear : fair_fault_in s m records ≡ Clear) where
+    module _ (clear : fair_fault_in s m records ≡ no_fault) where
       no-fault : record_fault_from s.ports s.clock (cells s) m 1 none records ≡ none
       unfolding fair_fault_in fault_of
       no-fault =
@@ -240,11 +241,15 @@ module _ (table : List ℕ) (b : bytes? table ≡ true) (t : is_fair_oq_table ta
 
       -- the cells take the slot with the ranks made; they keep their length
       module _ (made : List Arrival) (ranked : made ≡ map (make m) records) (fits : all? arrival_fits records ≡ true)
-          (fault : Fault) (core' answer' : List ℕ) (size : length core' ≡ table_size)
+          (fault : Checked) (core' answer' : List ℕ) (size : length core' ≡ table_size)
           (served : ServedLeaves (slot_oq s (some made)) (core_in table) answer fault core' answer') where
         made-outcome : slot_oq s (some made) ≡ outcome
         unfolding fair_of
         made-outcome = ap (λ l. slot_oq s (some l)) ranked ∙ sym (slot-made-oq (fair_of table) records no-fault)
+
+        -- they run
+        pub served-clear : fault ≡ no_fault
+        served-clear = served.0 ∙ ap refusal_of made-outcome ∙ fault-outcome ∙ clear
 
         -- and the memory after it
         module _ (memory' : List ℕ) (bytes : bytes? (three core' size memory') ≡ true) (long : length memory' ≡ memory_size)
@@ -273,7 +278,7 @@ module _ (table : List ℕ) (b : bytes? table ≡ true) (t : is_fair_oq_table ta
                 (left-trailing m 0 d.departures (port_limit - s.ports) m.left))
 
             whole-table : (o : Outcome Served) → slot_oq s (some made) ≡ o → fault ≡ refusal_of o
-                → core' ≡ table_served (core_in table) o → answer' ≡ oq_answer_after answer o → fault ≡ Clear
+                → core' ≡ table_served (core_in table) o → answer' ≡ oq_answer_after answer o → fault ≡ no_fault
                 → bytes_of word_size fair_number_oq ++ (core' ++ memory') ≡ table_held table records o
             unfolding table_served table_held fair_of after_of fair_bytes refusal_of
             whole-table (done d) e f c a k =

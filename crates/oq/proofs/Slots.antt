@@ -1,24 +1,27 @@
 -- A slot call on what the host lends.
---     lent-torn, lent-table, lent-short    what is found before its records are looked at
---     lent-held, lent-refuses, lent-clear  what the slot leaves, and where something was found; that nothing was
+--     lent-held, lent-refuses              what the slot leaves, and where something was found before its records
 --     clear_room                           a slot that ran had room for its answer
---     counted-refused, counted_ran         the tally, as the code counts it
 --     slot-tally, slot-called              what the call answers and leaves
-use Prim.Native.Nat.{ℕ, ◌+◌, ◌*◌, ◌/◌, ◌%◌, ◌≤◌, ◌<◌, min}
+use Prim.Native.Nat.{ℕ, zero, suc, ◌+◌, ◌*◌, ◌/◌, ◌≤◌, min}
 use native.Mathlib.Omega.{arith}
 use mathlib.Core.Bool.{Bool, true, false}
 use mathlib.Core.Logic.{inl, inr}
-use mathlib.Core.List.{List, map}
+use mathlib.Core.List.{List, [], ◌∷◌, map}
 use mathlib.Core.Option.{Option, none, some}
 use mathlib.Core.Path.{◌≡◌, refl, sym, ap, ap₂, ◌∙◌, subst}
 use borrow.Author.Tests.{ltb-false}
 use lib.Dec.{ltb}
 use lib.ListN.{length, take}
 use Rattle.cell.specs.declared.Arrival.{Arrival}
+use Rattle.cell.specs.Cell.{arrival_fits}
+use Rattle.cell.specs.Checked.{Checked, no_fault}
 use Rattle.cell.specs.declared.Fault.{Fault}
-use Rattle.cell.specs.declared.Fault.TheVariants.{Clear, At}
 use Rattle.cell.specs.declared.Refusal.{Refusal}
-use Rattle.cell.specs.declared.Refusal.TheVariants.{BrokenTable, ShortBuffer}
+use Rattle.cell.specs.declared.Refusal.TheVariants.{BrokenTable}
+use Rattle.laws.specs.Lists.{all?}
+use Rattle.laws.proofs.Lists.{all?-nil, all?-cons}
+use Rattle.laws.proofs.Tests.{and_i, and_l, and_r}
+use Rattle.std.specs.Prelude.{Err}
 use Rattle.cell.specs.declared.Tally.{Tally}
 use Rattle.cell.specs.Limits.{port_limit}
 use Rattle.cell.specs.Refusal.{number}
@@ -36,49 +39,23 @@ use Rattle.layout.specs.Engine.{oq, lent_slot, slot_call, table_after, answer_af
 use Rattle.layout.specs.Fair.{fair_number_oq, fair_of, decode_fair_oq}
 use Rattle.layout.specs.Host.{fault_result, filled, result_of}
 use Rattle.layout.specs.TallyBytes.{tally_size, tally_of, tally_bytes}
-use Rattle.layout.proofs.Arrivals.{length-arrivals_of, records_of-whole, records_of-broken, records_of-some}
-use Rattle.layout.proofs.Engine.{lent_slot-arrivals, lent_slot-short, lent_slot-slot, slot_call-tally, tally_bytes_after-broken}
+use Rattle.layout.proofs.Arrivals.{length-arrivals_of, records_of-whole, records_of-some, records_of-fits}
+use Rattle.layout.proofs.Engine.{slot_call-tally, tally_bytes_after-broken}
 use Rattle.layout.proofs.Engine.{tally_bytes_after-counts}
-use Rattle.layout.proofs.Fair.{decode_with-some, is-table-with, is_table_with-none}
+use Rattle.layout.proofs.Fair.{decode_with-some, is-table-with}
 use Rattle.layout.proofs.Host.{result-fault}
 use Rattle.layout.proofs.OqRead.{served-outputs}
+use Rattle.layout.proofs.Number.{bytes?}
 use Rattle.layout.proofs.Table.{sound-ports}
 use Rattle.layout_answer.specs.Code.{sent_in}
 use Rattle.layout_answer.proofs.Departures.{sent-departures}
 use Rattle.layout_arrivals.proofs.Reading.{first-records}
-use Rattle.layout_tally.specs.Counted.{counted_as}
+use Rattle.layout_tally.specs.Counted.{counted_by}
 use Rattle.slot_faults.proofs.Faults.{clear-not}
-use Rattle.oq.specs.Code.{lent_call, LentLeaves, Lent, table_held, HeldLeaves, counted_by}
+use Rattle.fair_faults.specs.CodeFairFault.{lent_fault}
+use Rattle.fair_faults.proofs.Lent.{Lends, lent-refused, lent-called}
+use Rattle.oq.specs.Code.{lent_call, LentLeaves, table_held, HeldLeaves}
 use Rattle.oq.proofs.Held.{first-tell}
-
-------------------------------------------------------------------------
--- before the records are looked at
-
-module _ (table arrivals : List ℕ) (room : ℕ) where
-  pub lent-torn : (length arrivals % arrival_size ≡ 0 → ⊥) → Lent table arrivals room (At BrokenTable 0)
-  lent-torn torn =
-      ap (λ a. lent_slot oq (decode_fair_oq table) a room tally_size) (records_of-broken arrivals torn)
-      ∙ lent_slot-arrivals oq (decode_fair_oq table) room tally_size
-
-  pub lent-table : is_fair_oq_table table ≡ false → Lent table arrivals room (At BrokenTable 0)
-  unfolding lent_slot
-  lent-table broken =
-      ap (λ x. lent_slot oq x (records_of arrivals) room tally_size) (is_table_with-none fair_number_oq sound_oq table broken)
-
-  module _ (whole : length arrivals % arrival_size ≡ 0) (t : is_fair_oq_table table ≡ true) where
-    abbrev all : List Arrival
-    all = arrivals_of (length arrivals / arrival_size) arrivals
-
-    lent-parts : lent_call table arrivals room ≡ lent_slot oq (some (fair_of table)) (some all) room tally_size
-    lent-parts =
-        ap₂ (λ x a. lent_slot oq x a room tally_size) (is-table-with fair_number_oq sound_oq table t)
-        (records_of-whole arrivals whole)
-
-    pub lent-short : room < departures_size → Lent table arrivals room (At ShortBuffer 0)
-    lent-short short = lent-parts ∙ lent_slot-short oq (fair_of table) all room short
-
-    lent-slot : departures_size ≤ room → lent_call table arrivals room ≡ fair_slot_oq (fair_of table) (some all)
-    lent-slot long = lent-parts ∙ lent_slot-slot oq (fair_of table) all room long
 
 ------------------------------------------------------------------------
 -- the slot
@@ -90,14 +67,22 @@ unfolding table_held table_after
 same-table table arrivals records e (done d) = rw e refl
 same-table table arrivals records e (refused r place) = refl
 
+all?-take : {A : Type 0} (p : A → Bool) (n : ℕ) (l : List A) → all? p l ≡ true → all? p (take n l) ≡ true
+all?-take p zero l h = all?-nil p
+all?-take p (suc n) [] h = h
+all?-take p (suc n) (x ∷ l) h =
+    all?-cons p x (take n l)
+    ∙ and_i (p x) (all? p (take n l)) (and_l _ _ (sym (all?-cons p x l) ∙ h))
+    (all?-take p n l (and_r (p x) (all? p l) (sym (all?-cons p x l) ∙ h)))
+
 few-ports : (table : List ℕ) → is_fair_oq_table table ≡ true → (fair_of table).core.ports ≤ port_limit
 few-ports table t =
     let h = decode_with-some fair_number_oq sound_oq table _ (is-table-with fair_number_oq sound_oq table t) in
     sound-ports (fair_of table).core (sound-oq-table (fair_of table).core h.1)
 
 -- the table, the arrivals and the room are right, and the slot was taken with the first records
-module _ (table arrivals answer : List ℕ) (clear : Lent table arrivals (length answer) Clear) (records : List Arrival)
-    (many : ℕ) (count : many ≡ min (length arrivals / arrival_size) held_limit)
+module _ (table arrivals answer : List ℕ) (clear : Lends (is_fair_oq_table table) (length arrivals) (length answer) departures_size)
+    (records : List Arrival) (many : ℕ) (count : many ≡ min (length arrivals / arrival_size) held_limit)
     (read : take (min (length arrivals / arrival_size) held_limit) records
     ≡ arrivals_of (min (length arrivals / arrival_size) held_limit) arrivals) where
   abbrev lent : List Arrival
@@ -107,14 +92,14 @@ module _ (table arrivals answer : List ℕ) (clear : Lent table arrivals (length
   firsts = ap (λ k. take k records) count ∙ read ∙ first-records (length arrivals / arrival_size) arrivals
 
   called : lent_call table arrivals (length answer) ≡ fair_slot_oq (fair_of table) (some lent)
-  called = lent-slot table arrivals (length answer) clear.1 clear.0 clear.2
+  called = lent-called oq table arrivals (length answer) clear
 
-  pub lent-held : (fault : Fault) (table' answer' : List ℕ)
+  pub lent-held : (fault : Checked) (table' answer' : List ℕ)
       → HeldLeaves table (take many records) answer fault table' answer'
       → LentLeaves (lent_call table arrivals (length answer)) table arrivals answer fault table' answer'
   unfolding table_held table_after
   lent-held fault table' answer' held =
-      elim (first-tell (fair_of table) lent (few-ports table clear.0)) [
+      elim (first-tell (fair_of table) lent (few-ports table clear.sound)) [
         | inl e ↦
             let h : HeldLeaves table lent answer fault table' answer' =
             subst (λ l. HeldLeaves table l answer fault table' answer') (firsts ∙ e) held in
@@ -122,7 +107,7 @@ module _ (table arrivals answer : List ℕ) (clear : Lent table arrivals (length
               h.0,
               (
                 h.1.0
-                    ∙ same-table table arrivals lent (records_of-whole arrivals clear.1)
+                    ∙ same-table table arrivals lent (records_of-whole arrivals clear.whole)
                     (fair_slot_oq (fair_of table) (some lent)),
                 h.1.1,
               ),
@@ -139,18 +124,20 @@ module _ (table arrivals answer : List ℕ) (clear : Lent table arrivals (length
             )
       ]
 
--- something was found
-pub lent-refuses : (table arrivals answer : List ℕ) (f : Fault) {r : Refusal} {place : ℕ} → f ≡ At r place
-    → Lent table arrivals (length answer) f
-    → LentLeaves (lent_call table arrivals (length answer)) table arrivals answer f table answer
-unfolding refusal_of table_after answer_after
-lent-refuses table arrivals answer Clear e h = absurd (clear-not e)
-lent-refuses table arrivals answer (At r place) e h = rw h (refl, (refl, refl))
+  -- they fit
+  pub firsts-fit : bytes? arrivals ≡ true → all? arrival_fits (take many records) ≡ true
+  firsts-fit b =
+      ap (all? arrival_fits) firsts
+      ∙ all?-take arrival_fits held_limit lent (records_of-fits arrivals lent b (records_of-whole arrivals clear.whole))
 
--- nothing was
-pub lent-clear : (table arrivals : List ℕ) (room : ℕ) (f : Fault) → f ≡ Clear → Lent table arrivals room f
-    → Lent table arrivals room Clear
-lent-clear table arrivals room f e h = subst (Lent table arrivals room) e h
+-- something was found
+pub lent-refuses : (table arrivals answer : List ℕ) (fault : Fault) (result : Checked)
+    → lent_fault (is_fair_oq_table table) (length arrivals) (length answer) departures_size ≡ Err fault
+    → result ≡ Err fault
+    → LentLeaves (lent_call table arrivals (length answer)) table arrivals answer result table answer
+unfolding refusal_of table_after answer_after
+lent-refuses table arrivals answer fault result found e =
+    rw (lent-refused oq table arrivals (length answer) fault found) (e, (refl, refl))
 
 ------------------------------------------------------------------------
 -- a slot that ran
@@ -187,8 +174,8 @@ ran table arrivals room d q = go (decode_fair_oq table) refl (records_of arrival
         }
 
 -- it had room for its answer
-pub clear_room : (table arrivals : List ℕ) (room : ℕ) (f : Fault) → f ≡ refusal_of (lent_call table arrivals room)
-    → f ≡ Clear → departures_size ≤ room
+pub clear_room : (table arrivals : List ℕ) (room : ℕ) (f : Checked) → f ≡ refusal_of (lent_call table arrivals room)
+    → f ≡ no_fault → departures_size ≤ room
 unfolding refusal_of
 clear_room table arrivals room f e c = go (lent_call table arrivals room) refl
   where
@@ -208,16 +195,6 @@ ran-outputs x records d q = go (fair-called (λ s. s.ports) (λ s. s.clock) cell
 
 ------------------------------------------------------------------------
 -- the tally
-
-pub counted-refused : (f : Fault) {r : Refusal} {place : ℕ} → f ≡ At r place
-    → (many : ℕ) (answer : List ℕ) (t after : Tally) → after ≡ counted_as false 0 0 t → after ≡ counted_by f many answer t
-unfolding counted_by counted_as
-counted-refused f e many answer t after h = rw e h
-
-pub counted_ran : (f : Fault) → f ≡ Clear → (many sent : ℕ) (answer : List ℕ) (t after : Tally) → sent ≡ sent_in answer
-    → after ≡ counted_as true many sent t → after ≡ counted_by f many answer t
-unfolding counted_by counted_as
-counted_ran f e many sent answer t after d h = rw e (h ∙ ap (λ k. counted_as true many k t) d)
 
 module _ (table arrivals answer : List ℕ) (t : Tally) where
   -- as the definitions count
@@ -265,7 +242,7 @@ module _ (table arrivals answer tally : List ℕ) where
     unfolding slot_call
     same-call = ap (lent_slot oq (decode_fair_oq table) (records_of arrivals) (length answer)) size
 
-    pub slot-called : (fault : Fault) (table' answer' tally' : List ℕ)
+    pub slot-called : (fault : Checked) (table' answer' tally' : List ℕ)
         → LentLeaves (lent_call table arrivals (length answer)) table arrivals answer fault table' answer'
         → (before after : Tally) → before ≡ tally_of tally
         → after ≡ counted_by fault (length arrivals / arrival_size) answer' before → tally' ≡ tally_bytes after

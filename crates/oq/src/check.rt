@@ -9,61 +9,38 @@ ghost use Rattle.layout.specs.Table.{is_table, state_of};
 
 use fair_table::is_framed;
 use layout::word::read_u32;
-use layout::{
-    CORE_AT, FAIR_NUMBER_OQ, MEMORY_AT, OQ_NUMBER, OQ_NUMBER_BYTES, OQ_TABLE_BYTES, PORTS,
-};
+use layout::{CORE_AT, FAIR_NUMBER_OQ, MEMORY_AT, OQ_NUMBER, OQ_NUMBER_BYTES, OQ_TABLE_BYTES};
 use slot_check::sort_table;
 
 // A framed table of cells that all wait in buffers.
 pub(crate) fn is_fair_oq_table(table: &[u8]) -> bool
     ensures { result ≡ is_fair_oq_table table.now }
 {
-    if !is_framed(table, FAIR_NUMBER_OQ) {
-        return false;
-    }
-    is_buffered(&table[CORE_AT..MEMORY_AT])
+    is_framed(table, FAIR_NUMBER_OQ) && is_buffered(&table[CORE_AT..MEMORY_AT])
 }
 
 // The older table: the number, then a table in which every cell waits in a buffer.
 pub(crate) fn is_oq_table(table: &[u8]) -> bool
     ensures { result ≡ is_oq_table table.now }
 {
-    if table.len() != OQ_TABLE_BYTES {
-        return false;
-    }
-    if read_u32(table, 0) != OQ_NUMBER {
-        return false;
-    }
-    is_buffered(&table[OQ_NUMBER_BYTES..])
+    table.len() == OQ_TABLE_BYTES
+        && read_u32(table, 0) == OQ_NUMBER
+        && is_buffered(&table[OQ_NUMBER_BYTES..])
 }
 
 // A table in which every cell waits in a buffer: none is in a list or at a crosspoint.
 fn is_buffered(table: &[u8]) -> bool
     ensures { result ≡ (is_table table.now && all_buffered (state_of table.now)) }
 {
-    let mut listed = [0u64; PORTS];
-    let mut heads = [0u64; PORTS];
-    let mut crossed = [0u64; PORTS];
-    let mut buffered = [0u64; PORTS];
-    if !sort_table(table, &mut listed, &mut heads, &mut crossed, &mut buffered) {
-        return false;
+    match sort_table(table) {
+        Some(sets) => are_empty(&sets.listed) && are_empty(&sets.crossed),
+        None => false,
     }
-    if !are_empty(&listed) {
-        return false;
-    }
-    are_empty(&crossed)
 }
 
 // Whether the set of each input is empty.
 fn are_empty(sets: &[u64]) -> bool
     ensures { result ≡ all? (λ set. eqb set 0) sets.now }
 {
-    let mut input = 0;
-    while input < sets.len() {
-        if sets[input] != 0 {
-            return false;
-        }
-        input += 1;
-    }
-    true
+    sets.iter().all(|set| *set == 0)
 }

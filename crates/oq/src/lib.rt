@@ -14,8 +14,8 @@ use cell::Refusal;
 use check::is_fair_oq_table;
 use layout::result::result_of;
 use layout::{ARRIVAL_BYTES, FAIR_NUMBER_OQ, TALLY_BYTES};
-use layout_tally::{read, write};
-use slot::{counted_by, take_slot};
+use layout_tally::{counted_by, read, write};
+use slot::take_slot;
 
 // Writes the table of a fresh switch into the first bytes of the buffer: 0. Output o is fair if bit o of `fair` is 1.
 // Refuses with 1 a number of ports that is not 1 to 16, then with 4 a mark at an output that is not below it, then with
@@ -56,13 +56,9 @@ pub fn oq_slot(table: &mut [u8], arrivals: &[u8], answer: &mut [u8], tally: &mut
         return Refusal::BrokenTable.number() as u64;
     }
     let before = read(tally);
-    let fault = take_slot(table, arrivals, answer);
-    let after = counted_by(
-        fault,
-        (arrivals.len() / ARRIVAL_BYTES) as u64,
-        answer,
-        before,
-    );
+    let checked = take_slot(table, arrivals, answer);
+    let many = (arrivals.len() / ARRIVAL_BYTES) as u64;
+    let after = counted_by(checked, many, answer, before);
     write(tally, after);
-    result_of(fault)
+    result_of(checked)
 }
