@@ -103,7 +103,7 @@ fn scan_each(
 
 // Rules 1 to 3 for an input, along the heads of its list. The first whose crosspoint is empty is scheduled; up to there
 // a head is asked with none, since it stands before the one to come, and from there on with that. Nothing branches on
-// which heads are urgent, as that would be guessed badly.
+// which heads are urgent, as that would be guessed badly. Kept as whiles: they go down a set, and count no index.
 fn scan(table: &[u8], heads: u64, leaders: Leaders, input: usize) -> Found
     requires best_known { BestKnown table.now leaders.keys.now leaders.best.now leaders.least.now }
     requires input_bound { (input < ports_in table.now) × (heads ≡ head_set table.now (places_in table.now) input) }
