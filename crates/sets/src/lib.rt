@@ -21,7 +21,7 @@ pub fn push(set: u64, member: bool) -> u64
     requires { set < 2 ^ 63 }
     ensures { result ≡ pushed set member }
 {
-    2 * set + member as u64
+    2 * set + u64::from(member)
 }
 
 // The set with a position in it.
@@ -37,7 +37,7 @@ pub fn with_if(set: u64, j: usize, member: bool) -> u64
     requires { j < 64 }
     ensures { result ≡ cond member (with_one set j) set }
 {
-    set | ((member as u64) << j)
+    set | (u64::from(member) << j)
 }
 
 // The set with a position not in it.
@@ -97,7 +97,7 @@ pub fn open(set: u64, j: usize) -> u64
 pub fn first(set: u64) -> usize
     ensures { result ≡ first_of set }
 {
-    u64::trailing_zeros(set) as usize
+    set.trailing_zeros() as usize
 }
 
 // The set without its first member.
@@ -112,5 +112,5 @@ pub fn rest(set: u64) -> u64
 pub fn size(set: u64) -> usize
     ensures { result ≡ size_of set }
 {
-    u64::count_ones(set) as usize
+    set.count_ones() as usize
 }

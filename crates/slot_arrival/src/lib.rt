@@ -96,12 +96,10 @@ fn new_place(table: &[u8], c: Cell) -> usize
     let first = CELLS * input;
     let end = layout_table::header::end_of(table, input);
     let flow = layout_table::entry::flow_word(c);
-    let mut k = end;
-    while first < k {
-        if in_list(table, k - 1, c, flow) {
-            return k;
+    for k in (first..end).rev() {
+        if in_list(table, k, c, flow) {
+            return k + 1;
         }
-        k -= 1;
     }
     first
 }
@@ -122,9 +120,7 @@ fn move_up(table: &mut [u8], at: usize, end: usize)
     requires { (length table.old ≡ table_size) × (at ≤ end) × (end < entry_limit) }
     ensures { table.new ≡ moved_up (record_start at) (record_start end) entry_size table.old }
 {
-    let mut k = end;
-    while at < k {
-        k -= 1;
+    for k in (at..end).rev() {
         layout_table::entry::copy_record(table, k, k + 1);
     }
 }

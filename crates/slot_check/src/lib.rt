@@ -28,6 +28,16 @@ pub struct Sets {
     pub buffered: [u64; PORTS],
 }
 
+impl Sets {
+    // No cell at any place.
+    pub const EMPTY: Sets = Sets {
+        listed: [0; PORTS],
+        heads: [0; PORTS],
+        crossed: [0; PORTS],
+        buffered: [0; PORTS],
+    };
+}
+
 // The same of one input.
 #[derive(Clone, Copy)]
 struct Sorted {
@@ -72,12 +82,7 @@ fn sort_sections(bytes: &[u8], ports: u32, clock: u32) -> Option<Sets>
     ensures value { is_some result ≡ all? (is_section ports clock bytes.now) (between 0 port_limit) }
     ensures handed { IfSome result (λ s. Handed bytes.now s.listed s.heads s.crossed s.buffered) }
 {
-    let mut sets = Sets {
-        listed: [0; PORTS],
-        heads: [0; PORTS],
-        crossed: [0; PORTS],
-        buffered: [0; PORTS],
-    };
+    let mut sets = Sets::EMPTY;
     let mut marks = [0u8; 256];
     for input in 0..PORTS {
         let section = sort_section(bytes, ports, clock, input, &mut marks)?;
@@ -178,15 +183,13 @@ fn slots_differ(bytes: &[u8], may: bool, first: usize, end: usize) -> bool
         return true;
     }
     let mut met = [0u64; 256];
-    let mut k = first;
-    while k < end {
+    for k in first..end {
         let byte = entry::slot_byte_of(bytes, k) as usize;
         let others = met[byte];
         if shares_slot(bytes, k, first, others) {
             return false;
         }
         met[byte] = sets::with(others, k - first);
-        k += 1;
     }
     true
 }

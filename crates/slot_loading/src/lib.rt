@@ -20,7 +20,7 @@ use layout::{CELLS, PORTS};
 use slot_view::{NO_KEY, Sets};
 
 // Above every flow word.
-const NO_FLOW: u16 = 65535;
+const NO_FLOW: u16 = u16::MAX;
 
 // The cells of an input by their places, as sets of positions.
 #[derive(Clone, Copy)]
@@ -35,12 +35,7 @@ pub fn fill_sets(table: &[u8]) -> Sets
     requires { IsTable table.now }
     ensures { SetsOf table.now (places_in table.now) result.listed result.heads result.crossed result.buffered }
 {
-    let mut sets = Sets {
-        listed: [0; PORTS],
-        heads: [0; PORTS],
-        crossed: [0; PORTS],
-        buffered: [0; PORTS],
-    };
+    let mut sets = Sets::EMPTY;
     for input in 0..layout_table::header::ports_of(table) {
         let places = sort(table, input);
         sets.listed[input] = places.listed;
@@ -85,9 +80,7 @@ fn sort(table: &[u8], input: usize) -> Places
     let first = CELLS * input;
     let mut low = 0;
     let mut high = 0;
-    let mut k = layout_table::header::end_of(table, input);
-    while first < k {
-        k -= 1;
+    for k in (first..layout_table::header::end_of(table, input)).rev() {
         let place = layout_table::entry::place_of(table, k);
         low = sets::push(low, place % 2 == 1);
         high = sets::push(high, place / 2 % 2 == 1);

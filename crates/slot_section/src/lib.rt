@@ -45,10 +45,8 @@ pub fn are_unused(bytes: &[u8], from: usize, to: usize) -> bool
         return bits_of(bytes, from, to) == 0;
     }
     let mut bits = bits_of(bytes, to - BLOCK, to);
-    let mut k = from;
-    while k + BLOCK < to {
-        bits = bits | bits_of(bytes, k, k + BLOCK);
-        k += BLOCK;
+    for k in (from..to - BLOCK).step_by(BLOCK) {
+        bits |= bits_of(bytes, k, k + BLOCK);
     }
     bits == 0
 }
@@ -59,10 +57,8 @@ fn bits_of(bytes: &[u8], from: usize, to: usize) -> u64
     ensures { eqb result 0 ≡ all? (is_unused bytes.now) (between from to) }
 {
     let mut bits = 0;
-    let mut k = from;
-    while k < to {
-        bits = bits | record_bits(bytes, k);
-        k += 1;
+    for k in from..to {
+        bits |= record_bits(bytes, k);
     }
     bits
 }
@@ -103,9 +99,9 @@ pub fn collect(
         if !in_reach(bytes, ports, clock, k) {
             return None;
         }
-        bits = bits | word::read_u32(bytes, entry::start_of(k));
+        bits |= word::read_u32(bytes, entry::start_of(k));
         let byte = entry::slot_byte_of(bytes, k) as usize;
-        again = again | (marks[byte] == mark);
+        again |= marks[byte] == mark;
         marks[byte] = mark;
         let place = entry::place_of(bytes, k);
         low = sets::push(low, place % 2 == 1);
@@ -142,7 +138,7 @@ pub fn crosspoints_differ(bytes: &[u8], first: usize, crossed: u64) -> bool
     let mut left = crossed;
     while left != 0 {
         let output = entry::output_of(bytes, first + sets::first(left)) as usize;
-        twice = twice | sets::has(outputs, output);
+        twice |= sets::has(outputs, output);
         outputs = sets::with(outputs, output);
         left = sets::rest(left);
     }
@@ -177,7 +173,7 @@ pub fn flows_together(
         let flow = entry::flow_number(bytes, k);
         let key = entry::key_of(bytes, k);
         let met = marks[flow] == mark;
-        broken = broken | breaks_flow(flow == last, key <= last_key, met);
+        broken |= breaks_flow(flow == last, key <= last_key, met);
         heads = sets::with_if(heads, position, !met);
         marks[flow] = mark;
         last = flow;

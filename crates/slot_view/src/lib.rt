@@ -6,7 +6,7 @@ use layout::PORTS;
 pub use slot_check::Sets;
 
 // Above the key of every cell.
-pub const NO_KEY: u64 = 18446744073709551615;
+pub const NO_KEY: u64 = u64::MAX;
 
 // The choice of a phase, rules 1 to 4: whether a cell is urgent; for each input its scheduled cell, and the positions
 // of those of its cells that are matched; and for each output the best cell at its crosspoints. `NOWHERE` stands for
