@@ -1,5 +1,6 @@
 // Sets of positions below 64 as the bits of a number: position j is a member exactly if bit j is set. The set with no
-// member is 0, so a loop over a set takes its first member and goes on with the rest while the rest is not 0.
+// member is 0, so a loop over a set takes its first member and goes on with the rest while the rest is not 0: it counts
+// no index.
 #![tactic(auto)]
 
 ghost use Rattle.std.specs.Prelude.{cond, ◌≡◌, ◌<◌, ◌^◌};

@@ -115,7 +115,7 @@ fn in_list(table: &[u8], k: usize, c: Cell, flow: u16) -> bool
     layout::word::read_u32(table, layout_table::entry::start_of(k)) == flow as u32 + 65536
 }
 
-// Moves the entries from `at` up to `end` one place up.
+// Moves the entries from `at` up to `end` one place up: each as two words, where `copy_within` would move single bytes.
 fn move_up(table: &mut [u8], at: usize, end: usize)
     requires { (length table.old ≡ table_size) × (at ≤ end) × (end < entry_limit) }
     ensures { table.new ≡ moved_up (record_start at) (record_start end) entry_size table.old }

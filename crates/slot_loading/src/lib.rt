@@ -19,7 +19,7 @@ ghost use Rattle.slot_loading.specs.Code.{Sorted, Crossed, CrossedBelow, BestBel
 use layout::{CELLS, PORTS};
 use slot_view::{NO_KEY, Sets};
 
-// Above every flow word.
+// Above every flow word: no Option, so that a flow is compared with the last one by one test.
 const NO_FLOW: u16 = u16::MAX;
 
 // The cells of an input by their places, as sets of positions.

@@ -28,7 +28,7 @@ pub struct Places {
 // So many unused records are gathered together: their number is known, and the processor's wide registers serve.
 const BLOCK: usize = 8;
 
-// The number of no flow.
+// The number of no flow: no Option, so that a flow is compared with the last one by one test.
 const NO_FLOW: usize = 128;
 
 // The bits of a record's first four bytes that no entry has: those of an output above 15, a flow above 7 and a place
