@@ -222,9 +222,6 @@ pub record Rest (b₀ : List ℕ) (at₀ : ℕ) (whole b : List ℕ) (at : ℕ) 
   pub same : length b ≡ length b₀
 
 module _ {b₀ : List ℕ} {at₀ : ℕ} {whole : List ℕ} where
-  pub rest-start : at₀ ≤ last_place → Rest b₀ at₀ whole b₀ at₀ whole
-  rest-start h = record { bytes = λ f. refl; place = refl; within = h; same = refl }
-
   module _ {b : List ℕ} {at : ℕ} where
     pub rest-step : {s t c : List ℕ} {next : ℕ} → length b₀ < last_place → Rest b₀ at₀ whole b at (s ++ t)
         → Tried b at s c next
