@@ -1,6 +1,5 @@
 -- The records of a slot, looked at one by one.
---     no_record, held-length, held_next    the first records of an array that holds 17
---     record_next                          the first of the records behind the first n
+--     no_record, record_next               what stands past the end, and the first of the records behind the first n
 --     coming-take, coming-drop             the cells of the first records, and of those behind them
 --     Passed, Says                         the first records have no fault; what the check of the next one says
 --     next-says                            it says so by the cell that the record would become
@@ -13,7 +12,7 @@ use mathlib.Core.List.{List, [], ◌∷◌}
 use mathlib.Core.Option.{Option, none, some}
 use mathlib.Core.Path.{◌≡◌, refl, sym, ap, ap₂, ◌∙◌}
 use lib.ListN.{length, take, drop, get_or, length-map, drop_of_length-le}
-use lib.Seq.{slice-cons, drop-cons, length-take-le}
+use lib.Seq.{drop-cons}
 use Rattle.cell.specs.Checked.{Checked, no_fault, fault_with}
 use Rattle.cell.specs.declared.Arrival.{Arrival}
 use Rattle.cell.specs.declared.Cell.{Cell}
@@ -32,18 +31,11 @@ use Rattle.slot_faults.proofs.Faults.{clear-not}
 use Rattle.slot_faults.proofs.Stored.{table-ports, table-clock}
 
 ------------------------------------------------------------------------
--- the first records of an array
+-- the next record
 
 -- no record: it stands for what lies past the end
 abbrev pub no_record : Arrival
 no_record = record { input = 0; output = 0; flow = 0; rank = 0; tag = 0 }
-
-module _ (held : List Arrival) (many : ℕ) (all : length held ≡ 17) (enough : many ≤ 17) where
-  pub held-length : length (take many held) ≡ many
-  held-length = length-take-le many held (omega arith)
-
-  pub held_next : (n : ℕ) → n < many → drop n (take many held) ≡ get_or held n no_record ∷ drop (n + 1) (take many held)
-  held_next n less = rw add-one (slice-cons n many held no_record less (omega arith))
 
 pub record_next : (records : List Arrival) (n : ℕ) → n < length records
     → drop n records ≡ get_or records n no_record ∷ drop (n + 1) records

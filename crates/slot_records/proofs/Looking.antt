@@ -1,7 +1,6 @@
 -- A slot on lent records.
 --     lent-table, lent-short, lent-slot           2, 10, then what the clock and the records say
 --     first-seventeen, lent-first, tally-first    it looks at no record behind the seventeenth
---     no_record                                   what stands past the end of an array of records
 use Prim.Native.Nat.{ℕ, ◌≤◌, ◌<◌}
 use mathlib.Core.Bool.{Bool, true, false}
 use mathlib.Core.Logic.{◌⊎◌, inl, inr}
@@ -27,7 +26,6 @@ use Rattle.layout.specs.Table.{state_of, decode, is_table, IsTable}
 use Rattle.layout.specs.TallyBytes.{tally_size}
 use Rattle.layout.proofs.Table.{is_table-some, decode-sound, sound-ports}
 use Rattle.slot_faults.specs.CodeFault.{fault_in}
-pub use Rattle.slot_faults.proofs.Records.{no_record}
 use Rattle.slot_faults.proofs.Slots.{slot-fault, seventeen-tell}
 pub use Rattle.slot_faults.proofs.Slots.{first-seventeen}
 use Rattle.slot_records.specs.Records.{records_slot}
