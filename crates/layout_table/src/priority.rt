@@ -8,7 +8,7 @@ ghost use Rattle.layout_table.specs.CodeEntries.{better_of};
 
 use crate::{entry, header};
 
-// A number that no entry has.
+// A number that no entry has. Kept as a number, not an Option: a slot keeps rows of u16 that hold either.
 pub const NOWHERE: u16 = layout::ENTRIES as u16;
 
 // The choice of an output between the cell that it would send so far and another one, by their numbers. Either may be
