@@ -275,7 +275,8 @@ impl Shadow {
     fn first_for(&self, output: u32) -> Option<Cell> {
         self.waiting
             .iter()
-            .filter_map(|place| place.filter(|cell| cell.output == output))
+            .filter(|place| matches!(place, Some(cell) if cell.output == output))
+            .filter_map(|place| *place)
             .min_by_key(|cell| (cell.rank, cell.slot, self.turn_of(cell)))
     }
 
