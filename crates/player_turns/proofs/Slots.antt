@@ -12,8 +12,9 @@ use lib.ListN.{length, take}
 use lib.Seq.{take_at}
 use Rattle.cell.specs.declared.Arrival.{Arrival}
 use Rattle.cell.specs.declared.Cell.{Cell}
+use Rattle.std.specs.Prelude.{Err}
+use Rattle.cell.specs.Checked.{Checked, no_fault}
 use Rattle.cell.specs.declared.Fault.{Fault}
-use Rattle.cell.specs.declared.Fault.TheVariants.{Clear, At}
 use Rattle.cell.specs.declared.Refusal.{Refusal}
 use Rattle.cell.specs.Cell.{arrival_fits}
 use Rattle.cell.specs.Limits.{port_limit}
@@ -54,29 +55,29 @@ module _ {A : Type 0} (f : A → List (Option Cell) × Switch) (table table' ans
     switch : table' ≡ encode (f x).1
     departures : take departures_size answer' ≡ departures_bytes port_limit (f x).0
 
-  seen-left : (o : Outcome A) (fault : Fault) → fault ≡ refusal_of o → ((x : A) → o ≡ done x → Made x)
+  seen-left : (o : Outcome A) (checked : Checked) → checked ≡ refusal_of o → ((x : A) → o ≡ done x → Made x)
       → ((r : Refusal) (place : ℕ) → o ≡ refused r place → table' ≡ table)
-      → SlotLeft (seen f o) table fault table' answer'
+      → SlotLeft (seen f o) table checked table' answer'
   unfolding refusal_of table_taken
-  seen-left (done x) fault e ran kept =
+  seen-left (done x) checked e ran kept =
       let made = ran x refl in
       record {
         refusal = e;
         switch = made.switch;
         departures = λ y g. let same : f x ≡ y = cc in rw (← same) made.departures;
       }
-  seen-left (refused r place) fault e ran kept =
+  seen-left (refused r place) checked e ran kept =
       record { refusal = e; switch = kept r place refl; departures = λ y g. cc }
 
-module _ (engine : Engine) (table answer : List ℕ) (rs : List Arrival) (fault : Fault) (table' answer' : List ℕ) where
+module _ (engine : Engine) (table answer : List ℕ) (rs : List Arrival) (checked : Checked) (table' answer' : List ℕ) where
   pub course-left : engine ≡ Crossbar → TableOf engine table → answer_size ≤ length answer
-      → SoundLeaves (records_slot table (length answer) rs) table answer fault table' answer'
-      → SlotLeft ((machine_of engine).slot (state_of table) rs) table fault table' answer'
+      → SoundLeaves (records_slot table (length answer) rs) table answer checked table' answer'
+      → SlotLeft ((machine_of engine).slot (state_of table) rs) table checked table' answer'
   unfolding machine_of crossbar table_after answer_after answer_of filled
   course-left is good room leaves =
       let (e, (t, a)) = rw (lent-slot table (length answer) (table_is engine table good) room rs) at leaves in
       rw is
-      (seen-left (λ c. (c.departures, c.switch)) table table' answer' (slot (state_of table) (some rs)) fault e
+      (seen-left (λ c. (c.departures, c.switch)) table table' answer' (slot (state_of table) (some rs)) checked e
       (λ c o. record {
         switch = rw o at t;
         departures =
@@ -86,12 +87,12 @@ module _ (engine : Engine) (table answer : List ℕ) (rs : List Arrival) (fault 
       })
       (λ r place o. rw o at t))
 
-  pub served-left : engine ≡ Oq → ServedLeaves (slot_oq (state_of table) (some rs)) table answer fault table' answer'
-      → SlotLeft ((machine_of engine).slot (state_of table) rs) table fault table' answer'
+  pub served-left : engine ≡ Oq → ServedLeaves (slot_oq (state_of table) (some rs)) table answer checked table' answer'
+      → SlotLeft ((machine_of engine).slot (state_of table) rs) table checked table' answer'
   unfolding machine_of oq table_served
   served-left is (e, (t, a)) =
       rw is
-      (seen-left (λ d. (d.departures, d.switch)) table table' answer' (slot_oq (state_of table) (some rs)) fault e
+      (seen-left (λ d. (d.departures, d.switch)) table table' answer' (slot_oq (state_of table) (some rs)) checked e
       (λ d o. record {
         switch = rw o at t;
         departures = ap (take departures_size) (rw o at a) ∙ bytes-served answer d;
@@ -99,15 +100,15 @@ module _ (engine : Engine) (table answer : List ℕ) (rs : List Arrival) (fault 
       (λ r place o. rw o at t))
 
 -- the fault of an outcome tells it
-outcome-at : {A : Type 0} (o : Outcome A) {r : Refusal} {place : ℕ} → At r place ≡ refusal_of o → o ≡ refused r place
+outcome-at : {A : Type 0} (o : Outcome A) {fault : Fault} → Err fault ≡ refusal_of o → o ≡ refused fault.refusal fault.place
 unfolding refusal_of
 outcome-at (done c) e = cc
-outcome-at (refused s p) {r} {place} e =
-    let x : s ≡ r = cc in
-    let y : p ≡ place = cc in
-    ap (λ s. refused s p) x ∙ ap (refused r) y
+outcome-at (refused s p) {fault} e =
+    let told : Fault = record { refusal = s; place = p } in
+    let same : fault ≡ told = cc in
+    ap (λ f. refused f.refusal f.place) (sym same)
 
-outcome-clear : {A : Type 0} (o : Outcome A) → Clear ≡ refusal_of o → (x : A) × (o ≡ done x)
+outcome-clear : {A : Type 0} (o : Outcome A) → no_fault ≡ refusal_of o → (x : A) × (o ≡ done x)
 unfolding refusal_of
 outcome-clear (done x) e = (x, refl)
 outcome-clear (refused s p) e =
@@ -115,7 +116,7 @@ outcome-clear (refused s p) e =
     absurd (omega arith)
 
 module _ (engine : Engine) (table : List ℕ) (good : TableOf engine table) (held rs : List Arrival) (same : held ≡ rs)
-    (clock l : ℕ) (buffer : List ℕ) (found : Fault) (table' answer' : List ℕ)
+    (clock l : ℕ) (buffer : List ℕ) (found : Checked) (table' answer' : List ℕ)
     (left : SlotLeft ((machine_of engine).slot (state_of table) held) table found table' answer') where
   abbrev outcome : Outcome (List (Option Cell) × Switch)
   outcome = (machine_of engine).slot (state_of table) rs
@@ -123,20 +124,20 @@ module _ (engine : Engine) (table : List ℕ) (good : TableOf engine table) (hel
   here : SlotLeft outcome table found table' answer'
   here = rw same at left
 
-  pub slot-stopped : {r : Refusal} {place : ℕ} → found ≡ At r place → (buffer' : List ℕ) (n k : ℕ) → k ≡ line_of l place
-      → Wrote (refusal_text r k) buffer buffer' n
+  pub slot-stopped : {fault : Fault} → found ≡ Err fault → (buffer' : List ℕ) (n k : ℕ) → k ≡ line_of l fault.place
+      → Wrote (refusal_text fault.refusal k) buffer buffer' n
       → SlotPlayed outcome clock l table buffer table' buffer' (Stopped n)
   unfolding slot_text played_of
-  slot-stopped {r} {place} f buffer' n k m w =
-      let o : outcome ≡ refused r place = outcome-at outcome (sym f ∙ here.refusal) in
-      let x : Wrote (slot_text clock l (refused r place)) buffer buffer' n = rw m at w in
+  slot-stopped {fault} f buffer' n k m w =
+      let o : outcome ≡ refused fault.refusal fault.place = outcome-at outcome (sym f ∙ here.refusal) in
+      let x : Wrote (slot_text clock l (refused fault.refusal fault.place)) buffer buffer' n = rw m at w in
       record {
         result = ap Stopped x.count ∙ sym (ap (played_of clock l) o);
         bytes = x.bytes ∙ sym (ap (λ o. filled (slot_text clock l o) buffer) o);
         switch = here.switch;
       }
 
-  pub slot-ran : all? arrival_fits rs ≡ true → found ≡ Clear → (buffer' : List ℕ) (n : ℕ)
+  pub slot-ran : all? arrival_fits rs ≡ true → found ≡ no_fault → (buffer' : List ℕ) (n : ℕ)
       → Wrote (line Slot clock ++ departures_text (departures_in 16 answer')) buffer buffer' n
       → SlotPlayed outcome clock l table buffer table' buffer' (Ran n)
   unfolding slot_text played_of

@@ -6,7 +6,7 @@
 use Rattle.std.specs.Prelude.{ℕ, List, ◌++◌, ◌≡◌, length, take}
 use Rattle.std.proofs.Math.Option.{Option}
 use Rattle.cell.specs.declared.Cell.{Cell}
-use Rattle.cell.specs.declared.Fault.{Fault}
+use Rattle.cell.specs.Checked.{Checked}
 use Rattle.cell.specs.Limits.{port_limit}
 use Rattle.model.specs.Checks.{Outcome, done, refused, refusal_of}
 use Rattle.model.specs.State.{Switch}
@@ -42,9 +42,9 @@ table_taken table (done x) = encode x.1
 table_taken table (refused r place) = table
 
 -- what a slot leaves: its refusal, the table, and where it ran the departures, at the start of the answer
-pub record SlotLeft (o : Outcome (List (Option Cell) × Switch)) (table : List ℕ) (fault : Fault) (table' answer' : List ℕ)
+pub record SlotLeft (o : Outcome (List (Option Cell) × Switch)) (table : List ℕ) (checked : Checked) (table' answer' : List ℕ)
     : Type 0 where
-  pub refusal : fault ≡ refusal_of o
+  pub refusal : checked ≡ refusal_of o
   pub switch : table' ≡ table_taken table o
   pub departures : (x : List (Option Cell) × Switch) → o ≡ done x
       → take departures_size answer' ≡ departures_bytes port_limit x.0

@@ -4,7 +4,7 @@
 // turn by turn it is the same text however the trace arrives.
 #![tactic(auto)]
 
-ghost use Rattle.std.specs.Prelude.{◌≡◌, ◌+◌, ◌*◌, ◌≤◌, length, take};
+ghost use Rattle.std.specs.Prelude.{◌≡◌, ◌+◌, ◌*◌, ◌≤◌, length};
 ghost use Rattle.trace.specs.Flat.{arrivals_from};
 ghost use Rattle.trace.specs.Piece.{next_in, header_in};
 ghost use Rattle.trace.specs.Contents.{block_limit, block_numbers, block_lines};
@@ -19,7 +19,6 @@ ghost use Rattle.player_turns.specs.Turns.{machine_of, TableOf, standing, Took, 
 ghost use Rattle.player_turns.specs.Code.{Turned, Closed, SlotLeft, SlotPlayed};
 
 use cell::{Arrival, Fault, Refusal, Switch};
-use layout::HELD;
 use layout_table::header::write_fresh;
 use trace::{Answer, Key, Opening};
 
@@ -52,7 +51,8 @@ pub struct Turn {
     pub written: usize,
 }
 
-// What became of a block's slot, with the number of bytes written: it ran, or it was refused.
+// What became of a block's slot, with the number of bytes written: it ran, or it was refused. Both cases carry that number
+// alone, so a Result would not say which is which.
 #[derive(Clone, Copy)]
 enum Played {
     Ran(usize),
@@ -249,16 +249,16 @@ fn play_slot(
     let many = count as usize;
     let records = player_lines::records_of(numbers, many);
     let mut answer = [0u8; layout::ANSWER_BYTES];
-    match slot_on(engine, table, records, many, &mut answer) {
-        Fault::At(refusal, place) => {
+    match slot_on(engine, table, &records[..many], &mut answer) {
+        Ok(()) => Played::Ran(player_lines::put_slot(out, clock, &answer)),
+        Err(fault) => {
             Played::Stopped(trace_line_writer::put_refusal(
                 out,
                 0,
-                refusal,
-                player_lines::line_of(line, place),
+                fault.refusal,
+                player_lines::line_of(line, fault.place),
             ))
         }
-        Fault::Clear => Played::Ran(player_lines::put_slot(out, clock, &answer)),
     }
 }
 
@@ -266,18 +266,17 @@ fn play_slot(
 fn slot_on(
     engine: Engine,
     table: &mut [u8],
-    records: [Arrival; HELD],
-    many: usize,
+    records: &[Arrival],
     answer: &mut [u8],
-) -> Fault
+) -> Result<(), Fault>
     requires table_of { TableOf engine table.old }
     requires answer_size_in_bounds { answer_size ≤ length answer.old }
-    requires many_le_held_limit { many ≤ held_limit }
-    ensures { SlotLeft ((machine_of engine).slot (state_of table.old) (take many records))
+    requires many_le_held_limit { length records.now ≤ held_limit }
+    ensures { SlotLeft ((machine_of engine).slot (state_of table.old) records.now)
         table.old result table.new answer.new }
 {
     match engine {
-        Engine::Crossbar => slot_call::sound_slot(table, records, many, answer),
-        Engine::Oq => oq_slot::sound_slot(table, records, many, answer),
+        Engine::Crossbar => slot_call::sound_slot(table, records, answer),
+        Engine::Oq => oq_slot::sound_slot(table, records, answer),
     }
 }
