@@ -1,11 +1,9 @@
 -- A slot call on what the host lends.
---     lent-torn, lent-table, lent-short    what is found before its records are looked at
---     lent_runs, lent-refuses, lent-clear  what the slot leaves, and where something was found; that nothing was
+--     lent_runs, lent-refuses              what the slot leaves, and where something was found before its records
 --     records-fit                          the records that are looked at have numbers of 32 bits
 --     clear_room                           a slot that ran had room for its answer
---     counted-refused, counted_ran         the tally, as the code counts it
 --     slot-leaves                          what the call leaves, with the tally
-use Prim.Native.Nat.{ℕ, zero, suc, ◌/◌, ◌%◌, ◌≤◌, ◌<◌, min}
+use Prim.Native.Nat.{ℕ, zero, suc, ◌/◌, ◌≤◌, min}
 use native.Mathlib.Omega.{arith}
 use mathlib.Core.Bool.{Bool, true, false}
 use mathlib.Core.Logic.{inl, inr}
@@ -20,10 +18,9 @@ use Rattle.laws.proofs.Lists.{all?-nil, all?-cons}
 use Rattle.laws.proofs.Tests.{and_i, and_l, and_r}
 use Rattle.cell.specs.declared.Arrival.{Arrival}
 use Rattle.cell.specs.declared.Cell.{Cell}
+use Rattle.std.specs.Prelude.{Ok, Err}
+use Rattle.cell.specs.Checked.{Checked, no_fault}
 use Rattle.cell.specs.declared.Fault.{Fault}
-use Rattle.cell.specs.declared.Fault.TheVariants.{Clear, At}
-use Rattle.cell.specs.declared.Refusal.{Refusal}
-use Rattle.cell.specs.declared.Refusal.TheVariants.{BrokenTable, ShortBuffer}
 use Rattle.cell.specs.declared.Tally.{Tally}
 use Rattle.cell.specs.Cell.{arrival_fits}
 use Rattle.cell.specs.Limits.{port_limit}
@@ -39,22 +36,22 @@ use Rattle.layout.specs.Frame.{is_fair_table}
 use Rattle.layout.specs.Engine.{crossbar, lent_slot as lent_slot_of, table_after, answer_after, tally_after}
 use Rattle.layout.specs.Fair.{decode_fair, fair_number, fair_bytes, fair_of}
 use Rattle.layout.specs.Host.{filled}
-use Rattle.layout.specs.TallyBytes.{tally_size, tally_of, tally_bytes}
+use Rattle.layout.specs.TallyBytes.{tally_of, tally_bytes}
 use Rattle.layout.proofs.Answer.{answer-parts}
-use Rattle.layout.proofs.Arrivals.{length-arrivals_of, records_of-whole, records_of-broken, records_of-some, records_of-fits}
-use Rattle.layout.proofs.Engine.{lent_slot-arrivals, lent_slot-short, lent_slot-slot}
-use Rattle.layout.proofs.Fair.{is-table-with, is_table_with-none, decode_with-some}
+use Rattle.layout.proofs.Arrivals.{length-arrivals_of, records_of-whole, records_of-some, records_of-fits}
+use Rattle.layout.proofs.Fair.{is-table-with, decode_with-some}
 use Rattle.layout.proofs.Limits.{length-departures}
 use Rattle.layout.proofs.Number.{bytes?}
 use Rattle.layout.proofs.Table.{sound-ports}
 use Rattle.layout_answer.specs.Code.{sent_in}
 use Rattle.layout_answer.proofs.Departures.{sent-departures}
 use Rattle.layout_arrivals.proofs.Reading.{first-records}
-use Rattle.layout_tally.specs.Counted.{counted_as}
+use Rattle.layout_tally.specs.Counted.{counted_by}
 use Rattle.slot_faults.proofs.Faults.{clear-not}
-use Rattle.fair_faults.specs.CodeFairFault.{fair_fault_in}
+use Rattle.fair_faults.specs.CodeFairFault.{fair_fault_in, lent_fault}
+use Rattle.fair_faults.proofs.Lent.{Lends, lent-refused, lent-called}
 use Rattle.fair_faults.proofs.Slots.{fair-by-fault, fair-seventeen}
-use Rattle.fair_slot.specs.Code.{lent_slot, LentLeaves, SlotLeaves, Lent, RanLeaves, table_ran, counted_by}
+use Rattle.fair_slot.specs.Code.{lent_slot, LentLeaves, SlotLeaves, RanLeaves, table_ran}
 use Rattle.fair_slot.proofs.Plain.{refused-not}
 
 all?-take : {A : Type 0} (p : A → Bool) (n : ℕ) (l : List A) → all? p l ≡ true → all? p (take n l) ≡ true
@@ -66,38 +63,11 @@ all?-take p (suc n) (a ∷ l) h =
     ∙ and_i (p a) (all? p (take n l)) (and_l (p a) (all? p l) both) (all?-take p n l (and_r (p a) (all? p l) both))
 
 ------------------------------------------------------------------------
--- before the records are looked at
-
-module _ (table arrivals : List ℕ) (room : ℕ) where
-  pub lent-torn : (length arrivals % arrival_size ≡ 0 → ⊥) → Lent table arrivals room (At BrokenTable 0)
-  lent-torn torn =
-      ap (λ a. lent_slot_of crossbar (decode_fair table) a room tally_size) (records_of-broken arrivals torn)
-      ∙ lent_slot-arrivals crossbar (decode_fair table) room tally_size
-
-  pub lent-table : is_fair_table table ≡ false → Lent table arrivals room (At BrokenTable 0)
-  unfolding lent_slot_of
-  lent-table broken =
-      ap (λ x. lent_slot_of crossbar x (records_of arrivals) room tally_size) (is_table_with-none _ _ table broken)
-
-  module _ (whole : length arrivals % arrival_size ≡ 0) (t : is_fair_table table ≡ true) where
-    abbrev all : List Arrival
-    all = arrivals_of (length arrivals / arrival_size) arrivals
-
-    whole-lent : lent_slot table arrivals room ≡ lent_slot_of crossbar (some (fair_of table)) (some all) room tally_size
-    whole-lent =
-        ap₂ (λ x a. lent_slot_of crossbar x a room tally_size) (is-table-with _ _ table t) (records_of-whole arrivals whole)
-
-    pub lent-short : room < answer_size → Lent table arrivals room (At ShortBuffer 0)
-    lent-short short = whole-lent ∙ lent_slot-short crossbar (fair_of table) all room short
-
-    lent-slot : answer_size ≤ room → lent_slot table arrivals room ≡ fair_slot (fair_of table) (some all)
-    lent-slot long = whole-lent ∙ lent_slot-slot crossbar (fair_of table) all room long
-
-------------------------------------------------------------------------
 -- the slot
 
 -- the table, the arrivals and the room are right
-module _ (table arrivals answer : List ℕ) (clear : Lent table arrivals (length answer) Clear) where
+module _ (table arrivals answer : List ℕ)
+    (clear : Lends (is_fair_table table) (length arrivals) (length answer) answer_size) where
   abbrev x : Fair Switch
   x = fair_of table
 
@@ -105,7 +75,7 @@ module _ (table arrivals answer : List ℕ) (clear : Lent table arrivals (length
   every = arrivals_of (length arrivals / arrival_size) arrivals
 
   few-ports : x.core.ports ≤ port_limit
-  few-ports = sound-ports x.core (decode_with-some _ _ table x (is-table-with _ _ table clear.0)).1
+  few-ports = sound-ports x.core (decode_with-some _ _ table x (is-table-with _ _ table clear.sound)).1
 
   module _ (records : List Arrival) (many : ℕ) (number : many ≡ min (length arrivals / arrival_size) held_limit)
       (read : take (min (length arrivals / arrival_size) held_limit) records
@@ -118,13 +88,13 @@ module _ (table arrivals answer : List ℕ) (clear : Lent table arrivals (length
       records-fit b =
           ap (all? arrival_fits) first
           ∙ all?-take arrival_fits held_limit every
-          (records_of-fits arrivals every b (records_of-whole arrivals clear.1))
+          (records_of-fits arrivals every b (records_of-whole arrivals clear.whole))
 
       comes : lent_slot table arrivals (length answer) ≡ fair_slot x (some every)
-      comes = lent-slot table arrivals (length answer) clear.1 clear.0 clear.2
+      comes = lent-called crossbar table arrivals (length answer) clear
 
       -- all records are looked at, or the slot is refused
-      whole-runs : (fault : Fault) (table' answer' : List ℕ)
+      whole-runs : (fault : Checked) (table' answer' : List ℕ)
           → RanLeaves (fair_slot x (some (take held_limit every))) (take held_limit every) table answer
           fault table' answer'
           → LentLeaves (fair_slot x (some every)) table arrivals answer fault table' answer'
@@ -156,10 +126,10 @@ module _ (table arrivals answer : List ℕ) (clear : Lent table arrivals (length
           same-table : (o : Outcome Course) → table_ran table every o ≡ table_after crossbar table arrivals o
           same-table (done c) =
               ap (λ a. fair_bytes fair_number (after_of (λ d. d.departures) (λ d. d.switch) x a (done c)))
-              (sym (records_of-whole arrivals clear.1))
+              (sym (records_of-whole arrivals clear.whole))
           same-table (refused r place) = refl
 
-      pub lent_runs : (fault : Fault) (table' answer' : List ℕ)
+      pub lent_runs : (fault : Checked) (table' answer' : List ℕ)
           → RanLeaves (fair_slot x (some (take many records))) (take many records) table answer fault table' answer'
           → LentLeaves (lent_slot table arrivals (length answer)) table arrivals answer fault table' answer'
       lent_runs fault table' answer' h =
@@ -168,17 +138,13 @@ module _ (table arrivals answer : List ℕ) (clear : Lent table arrivals (length
           (subst (λ l. RanLeaves (fair_slot x (some l)) l table answer fault table' answer') first h))
 
 -- something was found
-pub lent-refuses : (table arrivals answer : List ℕ) (f : Fault) {r : Refusal} {place : ℕ} → f ≡ At r place
-    → Lent table arrivals (length answer) f
-    → LentLeaves (lent_slot table arrivals (length answer)) table arrivals answer f table answer
+pub lent-refuses : (table arrivals answer : List ℕ) (fault : Fault) (result : Checked)
+    → lent_fault (is_fair_table table) (length arrivals) (length answer) answer_size ≡ Err fault
+    → result ≡ Err fault
+    → LentLeaves (lent_slot table arrivals (length answer)) table arrivals answer result table answer
 unfolding refusal_of table_after answer_after
-lent-refuses table arrivals answer Clear e h = absurd (clear-not e)
-lent-refuses table arrivals answer (At r place) e h = rw h (refl, (refl, refl))
-
--- nothing was
-pub lent-clear : (table arrivals : List ℕ) (room : ℕ) (f : Fault) → f ≡ Clear → Lent table arrivals room f
-    → Lent table arrivals room Clear
-lent-clear table arrivals room f e h = subst (Lent table arrivals room) e h
+lent-refuses table arrivals answer fault result found e =
+    rw (lent-refused crossbar table arrivals (length answer) fault found) (e, (refl, refl))
 
 ------------------------------------------------------------------------
 -- a slot that ran
@@ -220,19 +186,19 @@ ran-outputs : (x : Fair Switch) (records : List Arrival) (c : Course) → fair_s
     → length c.departures ≡ x.core.ports
 ran-outputs x records c h = go (fair_fault_in x.core x.memory records) refl
   where
-    go : (f : Fault) → fair_fault_in x.core x.memory records ≡ f → length c.departures ≡ x.core.ports
-    go Clear e =
+    go : (f : Checked) → fair_fault_in x.core x.memory records ≡ f → length c.departures ≡ x.core.ports
+    go (Ok done_with) e =
         let cs = becoming x.core.clock x.memory records in
         let came : fair_slot x (some records) ≡ done (run x.core cs) = fair-by-fault run x records ∙ rw e in
         let same : run x.core cs ≡ c = cc in
         ap (λ d. length d.departures) (sym same) ∙ run-outputs x.core cs
-    go (At r place) e =
-        let came : fair_slot x (some records) ≡ refused r place = fair-by-fault run x records ∙ rw e in
+    go (Err fault) e =
+        let came : fair_slot x (some records) ≡ refused fault.refusal fault.place = fair-by-fault run x records ∙ rw e in
         absurd (refused-not (sym came ∙ h))
 
 -- it had room for its answer
-pub clear_room : (table arrivals : List ℕ) (room : ℕ) (f : Fault) → f ≡ refusal_of (lent_slot table arrivals room)
-    → f ≡ Clear → answer_size ≤ room
+pub clear_room : (table arrivals : List ℕ) (room : ℕ) (f : Checked) → f ≡ refusal_of (lent_slot table arrivals room)
+    → f ≡ no_fault → answer_size ≤ room
 unfolding refusal_of
 clear_room table arrivals room f e c = go (lent_slot table arrivals room) refl
   where
@@ -242,16 +208,6 @@ clear_room table arrivals room f e c = go (lent_slot table arrivals room) refl
 
 ------------------------------------------------------------------------
 -- the tally
-
-pub counted-refused : (f : Fault) {r : Refusal} {place : ℕ} → f ≡ At r place
-    → (many : ℕ) (answer : List ℕ) (t after : Tally) → after ≡ counted_as false 0 0 t → after ≡ counted_by f many answer t
-unfolding counted_by counted_as
-counted-refused f e many answer t after h = rw e h
-
-pub counted_ran : (f : Fault) → f ≡ Clear → (many sent : ℕ) (answer : List ℕ) (t after : Tally) → sent ≡ sent_in answer
-    → after ≡ counted_as true many sent t → after ≡ counted_by f many answer t
-unfolding counted_by counted_as
-counted_ran f e many sent answer t after d h = rw e (h ∙ ap (λ k. counted_as true many k t) d)
 
 module _ (table arrivals answer : List ℕ) (t : Tally) where
   -- as the definitions count
@@ -277,7 +233,7 @@ module _ (table arrivals answer : List ℕ) (t : Tally) where
       ap₂ (λ n k. after_run n k t) many sent
 
   -- what the call leaves, with the tally counted from it
-  pub slot-leaves : (tally : List ℕ) (fault : Fault) (table' answer' tally' : List ℕ)
+  pub slot-leaves : (tally : List ℕ) (fault : Checked) (table' answer' tally' : List ℕ)
       → LentLeaves (lent_slot table arrivals (length answer)) table arrivals answer fault table' answer'
       → (after : Tally) → t ≡ tally_of tally → after ≡ counted_by fault (length arrivals / arrival_size) answer' t
       → tally' ≡ tally_bytes after

@@ -16,7 +16,7 @@ use lib.ListN.{length, take, drop, take-append-drop}
 use lib.Seq.{drop-drop}
 use Rattle.laws.proofs.Tests.{and_l, and_r}
 use Rattle.cell.specs.declared.Arrival.{Arrival}
-use Rattle.cell.specs.declared.Fault.{Fault}
+use Rattle.cell.specs.Checked.{Checked}
 use Rattle.cell.specs.declared.Refusal.{Refusal}
 use Rattle.cell.specs.declared.Tally.{Tally}
 use Rattle.model.specs.Checks.{Outcome, done, refused, refusal_of}
@@ -144,7 +144,7 @@ module _ (table arrivals : List ℕ) (b : bytes? table ≡ true) (plain : is_pla
       (ap (λ a. fair_bytes fair_number (after_of (λ d. d.departures) (λ d. d.switch) (fair_of table) a (done c))) whole
       ∙ kept c records)
 
-  pub plain-leaves : (answer tally : List ℕ) (fault : Fault) (core answer' tally' : List ℕ)
+  pub plain-leaves : (answer tally : List ℕ) (fault : Checked) (core answer' tally' : List ℕ)
       → CoreLeaves (core_slot (core_in table) arrivals (length answer)) (core_in table) arrivals answer tally
       fault core answer' tally'
       → SlotLeaves (lent_slot table arrivals (length answer)) table arrivals answer tally

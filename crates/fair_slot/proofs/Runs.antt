@@ -1,7 +1,7 @@
 -- A slot on a sound table, with room for the answer.
 --     runs-refused     a fault was found
 --     runs-ranked      none was, so the ranks can be made
---     runs-made        and the cells took the slot with the ranks made: what is left
+--     made-clear, runs-made    and the cells took the slot with the ranks made: they ran, and what is left
 use Prim.Native.Nat.{ℕ, ◌-◌, ◌≤◌}
 use mathlib.Core.Bool.{true}
 use mathlib.Core.List.{List, ◌++◌, map, append_assoc}
@@ -11,9 +11,9 @@ use borrow.Rule.Slice.PartMut.{put_mid}
 use lib.ListN.{length, take}
 use Rattle.laws.specs.Lists.{all?}
 use Rattle.cell.specs.declared.Arrival.{Arrival}
+use Rattle.std.specs.Prelude.{Err}
+use Rattle.cell.specs.Checked.{Checked, no_fault}
 use Rattle.cell.specs.declared.Fault.{Fault}
-use Rattle.cell.specs.declared.Fault.TheVariants.{Clear, At}
-use Rattle.cell.specs.declared.Refusal.{Refusal}
 use Rattle.cell.specs.Cell.{arrival_fits}
 use Rattle.cell.specs.Limits.{port_limit}
 use Rattle.model.specs.Checks.{Outcome, done, refused, refusal_of, no_departures}
@@ -51,23 +51,20 @@ unfolding core_answer answer_after
 same_answer answer (done c) = refl
 same_answer answer (refused r place) = refl
 
-module _ (table answer : List ℕ) (records : List Arrival) (fault : Fault) where
+module _ (table answer : List ℕ) (records : List Arrival) where
   abbrev x : Fair Switch
   x = fair_of table
 
   -- a fault was found
-  pub runs-refused : {r : Refusal} {place : ℕ} → fault ≡ At r place → fault ≡ fair_fault_in x.core x.memory records
-      → RanLeaves (fair_slot x (some records)) records table answer fault table answer
+  pub runs-refused : (fault : Fault) (result : Checked) → fair_fault_in x.core x.memory records ≡ Err fault
+      → result ≡ Err fault → RanLeaves (fair_slot x (some records)) records table answer result table answer
   unfolding refusal_of table_ran answer_after
-  runs-refused {r} {place} bad found =
-      let turned : fair_slot x (some records) ≡ refused r place =
-      fair-by-fault run x records ∙ rw (sym found ∙ bad) in
+  runs-refused fault result found bad =
+      let turned : fair_slot x (some records) ≡ refused fault.refusal fault.place =
+      fair-by-fault run x records ∙ rw found in
       rw turned (bad, (refl, refl))
 
-  module _ (clear : fault ≡ Clear) (found : fault ≡ fair_fault_in x.core x.memory records) where
-    none_found : fair_fault_in x.core x.memory records ≡ Clear
-    none_found = sym found ∙ clear
-
+  module _ (none_found : fair_fault_in x.core x.memory records ≡ no_fault) where
     pub runs-ranked : all? (rankable x.memory) records ≡ true
     runs-ranked =
         records-rankable _ _ _ x.memory 1 none records (fair-clear x.core x.memory records none_found).1
@@ -116,7 +113,14 @@ module _ (table answer : List ℕ) (records : List Arrival) (fault : Fault) wher
             ∙ outputs-read x.core _ good (made-fits fit) answer course made-runs in
             rw (read, left-trailing x.memory 0 course.departures _ x.memory.left)
 
-      pub runs-made : (ran : Fault) (core answer' : List ℕ)
+      -- they ran
+      pub made-clear : (ran : Checked) (core answer' : List ℕ)
+          → SoundLeaves (records_slot (core_in table) (length answer) made) (core_in table) answer ran core answer'
+          → ran ≡ no_fault
+      unfolding refusal_of
+      made-clear ran core answer' (f, (n, a)) = f ∙ ap refusal_of core-runs
+
+      pub runs-made : (ran : Checked) (core answer' : List ℕ)
           → SoundLeaves (records_slot (core_in table) (length answer) made) (core_in table) answer ran core answer'
           → (new : List ℕ) → let all = put_mid core_start table_size table core in
           let whole = put_mid memory_start (length all - memory_start) all new in

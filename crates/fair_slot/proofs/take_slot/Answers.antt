@@ -1,0 +1,58 @@
+-- What is found before the records, or the slot with the first of them.
+use Rattle.std.proofs.Common.{◌≡◌, length, sym, ap, ◌∙◌}
+use Rattle.cell.specs.Checked.{no_fault}
+use Rattle.cell.proofs.Checked.{handed_on}
+use Rattle.layout.specs.Answer.{answer_size}
+use Rattle.layout.specs.Frame.{is_fair_table}
+use Rattle.layout_table.proofs.Places.{known_bytes}
+use Rattle.fair_faults.specs.CodeFairFault.{lent_fault}
+use Rattle.fair_faults.proofs.Lent.{Lends, lent-room}
+use Rattle.fair_slot.proofs.Calls.{lent-refuses, lent_runs, records-fit}
+use Rattle.fair_slot.proofs.take_slot.Goals as goal
+use Rattle.fair_slot.proofs.take_slot.Goals.{After-lent_fault}
+
+found : (c : After-lent_fault)
+    → let a = c.args in
+    c.lent_fault.result
+    ≡ lent_fault (is_fair_table a.table.now) (length a.arrivals.now) (length a.answer.now) answer_size
+found c =
+    c.lent_fault.ensures
+    ∙ ap (λ t. lent_fault t (length c.args.arrivals.now) (length c.args.answer.now) answer_size)
+    c.is_fair_table.ensures
+
+-- nothing was found there
+clear : (c : After-lent_fault) → c.lent_fault.result ≡ no_fault
+    → let a = c.args in
+    Lends (is_fair_table a.table.now) (length a.arrivals.now) (length a.answer.now) answer_size
+clear c was = lent-room _ _ _ _ (sym (found c) ∙ was)
+
+pub returns-in_err-lent_fault : goal.returns-in_err-lent_fault
+returns-in_err-lent_fault c =
+    let a = c.args in
+    lent-refuses a.table.now a.arrivals.now a.answer.now _ _
+    (sym (found (goal.at.returns-in_err-lent_fault c).After-lent_fault) ∙ c.in_err-lent_fault.was)
+    (handed_on _ _ c.from_residual.ensures.1)
+
+pub sound_slot-requires-clause-sound : goal.sound_slot-requires-clause-sound
+sound_slot-requires-clause-sound c =
+    (clear (goal.at.sound_slot-requires-clause-sound c).After-lent_fault c.in_ok-lent_fault.was).sound
+
+pub sound_slot-requires-clause-fits : goal.sound_slot-requires-clause-fits
+sound_slot-requires-clause-fits c =
+    let a = c.args in
+    records-fit a.table.now a.arrivals.now a.answer.now
+    (clear (goal.at.sound_slot-requires-clause-fits c).After-lent_fault c.in_ok-lent_fault.was)
+    c.read_records-records.result c.few-many.result c.few-many.ensures c.read_records-records.ensures
+    (known_bytes _ c.type_inv.arrivals)
+
+pub sound_slot-requires-clause-room : goal.sound_slot-requires-clause-room
+sound_slot-requires-clause-room c =
+    (clear (goal.at.sound_slot-requires-clause-room c).After-lent_fault c.in_ok-lent_fault.was).long
+
+pub returns : goal.returns
+returns c =
+    let a = c.args in
+    lent_runs a.table.now a.arrivals.now a.answer.now
+    (clear (goal.at.returns c).After-lent_fault c.in_ok-lent_fault.was)
+    c.read_records-records.result c.few-many.result c.few-many.ensures c.read_records-records.ensures c.sound_slot.result
+    _ _ c.sound_slot.ensures
