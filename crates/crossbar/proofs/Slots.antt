@@ -6,7 +6,7 @@ use native.Mathlib.Omega.{arith}
 use mathlib.Core.List.{List}
 use mathlib.Core.Path.{◌≡◌, refl, sym, ap, ◌∙◌}
 use lib.ListN.{length}
-use Rattle.cell.specs.declared.Fault.{Fault}
+use Rattle.cell.specs.Checked.{Checked}
 use Rattle.cell.specs.declared.Refusal.TheVariants.{BrokenTable}
 use Rattle.cell.specs.Refusal.{number}
 use Rattle.layout.specs.Engine.{crossbar, lent_slot, slot_call, table_after, answer_after, CallLeaves}
@@ -38,7 +38,7 @@ module _ (table arrivals answer tally : List ℕ) where
     unfolding slot_call lent_slot
     call-lent = rw size
 
-    pub slot-called : (fault : Fault) (table' answer' tally' : List ℕ)
+    pub slot-called : (fault : Checked) (table' answer' tally' : List ℕ)
         → SlotLeaves (Fair.lent_slot table arrivals (length answer)) table arrivals answer tally
         fault table' answer' tally'
         → (result : ℕ) → result ≡ fault_result fault → Answers result table' answer' tally'
