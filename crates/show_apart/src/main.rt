@@ -15,7 +15,6 @@ mod wrong;
 
 use layout::{ANSWER_BYTES, ARRIVAL_BYTES, FAIR_BYTES, TALLY_BYTES};
 use row::{Row, rows};
-use say::{say, tell};
 use shadow::Start;
 use stage::show;
 use std::io::Stdout;
@@ -36,14 +35,13 @@ fn main(rt: HostRuntime) {
 
 // `rank=05` gives 9, by the reader.
 fn bad_line(out: Stdout) {
-    match trace_reader::verify(b"ports=2\nfirst=0\nslot=0\nin=0\nout=1\nflow=0\nrank=05\n") {
-        Ok(_) => say(out, b"rank=05: DIFFERS\n"),
+    let text = b"ports=2\nfirst=0\nslot=0\nin=0\nout=1\nflow=0\nrank=05\n";
+    let _ = match trace_reader::verify(text) {
+        Ok(_) => println!(out; "rank=05: DIFFERS"),
         Err(bad) => {
-            tell(out, b"rank=05: ", bad.refusal.number() as u64);
-            tell(out, b" at line ", bad.line as u64);
-            say(out, b"\n");
+            println!(out; "rank=05: {} at line {}", bad.refusal.number(), bad.line)
         }
-    }
+    };
 }
 
 // 1 comes before 4, and 4 before 10.

@@ -70,14 +70,3 @@ pub(crate) fn say_verdict(out: Stdout, same: bool, text: &str) {
     let verdict = if same { text } else { "DIFFERS" };
     let _ = println!(out; "{verdict}");
 }
-
-// A text of bytes and a number.
-pub(crate) fn tell(out: Stdout, text: &[u8], n: u64) {
-    say(out, text);
-    let _ = out.print(n);
-}
-
-// A text of bytes.
-pub(crate) fn say(out: Stdout, text: &[u8]) {
-    let _ = out.write_all(text);
-}
