@@ -1,7 +1,7 @@
 -- Whether bytes are the table of an output-queued switch: the frame, then a table of its cells, and where they wait, by
 -- the sets that the check of this table hands on.
 --     sets-empty                        whether the set of each input is empty
---     broken, in-a-list, in-no-list     a table whose cells all wait in buffers: its check, then whether none of
+--     in-a-list, in-no-list             a table whose cells all wait in buffers: its check, then whether none of
 --                                       them is in a list, then none at a crosspoint
 --     other-frame, by-core              framed
 --     other-size, other-number, by-inner   the older table, with the number in front
@@ -184,9 +184,6 @@ module _ (t : List ℕ) (g : IsTable t) where
 -- a table in which every cell waits in a buffer
 abbrev wholly : List ℕ → Bool
 wholly t = is_table t && all_buffered (state_of t)
-
-pub broken : (t : List ℕ) → is_table t ≡ false → false ≡ wholly t
-broken t h = sym (and-false-l (is_table t) (all_buffered (state_of t)) h)
 
 module _ (t lists heads crosses buffers : List ℕ) (whole : is_table t ≡ true) (h : Handed t lists heads crosses buffers)
   where
