@@ -25,7 +25,7 @@ use Rattle.layout.proofs.Arrivals.{records_of-whole, records_of-broken}
 use Rattle.layout.proofs.Engine.{lent_slot-arrivals, lent_slot-short, lent_slot-slot}
 use Rattle.layout.proofs.Fair.{is-table-with, is_table_with-none}
 use Rattle.slot_faults.proofs.Faults.{clear-not}
-use Rattle.fair_faults.specs.CodeFairFault.{lent_fault}
+use Rattle.fair_faults.specs.Lent.{lent_fault}
 
 -- nothing turns it back
 pub record Lends (is_table : Bool) (arrivals room size : ℕ) : Type 0 where

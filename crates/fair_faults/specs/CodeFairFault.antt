@@ -1,24 +1,15 @@
 -- What turns a slot back where some outputs are fair, by its table, its memory and its records.
-use Rattle.std.specs.Prelude.{ℕ, ◌%◌, Bool, true, false, cond, ◌&&◌, List, ltb, eqb}
+use Rattle.std.specs.Prelude.{ℕ, true, false, cond, List, eqb}
 use Rattle.std.proofs.Math.Option.{Option, none, some}
 use Rattle.cell.specs.Checked.{Checked, no_fault, fault_with}
 use Rattle.cell.specs.declared.Arrival.{Arrival}
 use Rattle.cell.specs.declared.Cell.{Cell}
 use Rattle.cell.specs.declared.Refusal.{Refusal}
-use Rattle.cell.specs.declared.Refusal.TheVariants.{BrokenTable, ClockEnd, ShortBuffer, BadWeight, RankEnd}
+use Rattle.cell.specs.declared.Refusal.TheVariants.{ClockEnd, BadWeight, RankEnd}
 use Rattle.cell.specs.Limits.{clock_end}
 use Rattle.model.specs.State.{Switch, cells}
 use Rattle.model.specs.Fair.{Memory, bad_weight, rank_end, record_fault, record_fault_from}
-use Rattle.layout.specs.Arrivals.{arrival_size}
 use Rattle.slot_faults.specs.CodeFault.{fault_of}
-
--- what turns a slot back before its records are looked at: the table is broken or so many bytes are no whole records,
--- then the room is less than the answer's size
-unfoldable pub lent_fault : Bool → ℕ → ℕ → ℕ → Checked
-lent_fault is_table arrivals room size =
-    cond (is_table && eqb (arrivals % arrival_size) 0)
-    (cond (ltb room size) (fault_with ShortBuffer 0) no_fault)
-    (fault_with BrokenTable 0)
 
 -- the fault of a record of a slot, by the record before it
 abbrev pub fair_fault_by : Switch → Memory → Option Cell → Arrival → Option Refusal

@@ -1,1 +1,2 @@
 pub mod CodeFairFault
+pub mod Lent

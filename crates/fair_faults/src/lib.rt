@@ -10,7 +10,8 @@ ghost use Rattle.layout.specs.Fair.{core_in, fair_size, memory_in};
 ghost use Rattle.layout.specs.Memory.{memory_of, memory_size};
 ghost use Rattle.layout.specs.Table.{state_of, IsTable};
 ghost use Rattle.slot_faults.specs.CodeFault.{fault_at, fault_of, turn_after};
-ghost use Rattle.fair_faults.specs.CodeFairFault.{fair_fault_by, fair_fault_in, first_fair, lent_fault, rank_fault};
+ghost use Rattle.fair_faults.specs.CodeFairFault.{fair_fault_by, fair_fault_in, first_fair, rank_fault};
+ghost use Rattle.fair_faults.specs.Lent.{lent_fault};
 
 use cell::{Arrival, Fault, Refusal, Switch};
 use layout::{ARRIVAL_BYTES, CORE_AT, MEMORY_AT};
@@ -19,7 +20,7 @@ use slot_faults::checks::{port_fault, waiting_fault};
 
 // What turns a slot back before its records are looked at: 2, the table is broken or the arrivals are no whole records;
 // 10, the room is less than the answer's size.
-#[tactic(auto, unfolding(crate::specs::CodeFairFault::lent_fault))]
+#[tactic(auto, unfolding(crate::specs::Lent::lent_fault))]
 pub fn lent_fault(is_table: bool, arrivals: &[u8], room: usize, size: usize) -> Result<(), Fault>
     ensures { result ≡ lent_fault is_table (length arrivals.now) room size }
 {

@@ -46,9 +46,10 @@ use Rattle.layout.proofs.Table.{sound-ports}
 use Rattle.layout_answer.specs.Code.{sent_in}
 use Rattle.layout_answer.proofs.Departures.{sent-departures}
 use Rattle.layout_arrivals.proofs.Reading.{first-records}
-use Rattle.layout_tally.specs.Counted.{counted_by}
+use Rattle.layout_tally.specs.CodeCounted.{counted_by}
 use Rattle.slot_faults.proofs.Faults.{clear-not}
-use Rattle.fair_faults.specs.CodeFairFault.{fair_fault_in, lent_fault}
+use Rattle.fair_faults.specs.CodeFairFault.{fair_fault_in}
+use Rattle.fair_faults.specs.Lent.{lent_fault}
 use Rattle.fair_faults.proofs.Lent.{Lends, lent-refused, lent-called}
 use Rattle.fair_faults.proofs.Slots.{fair-by-fault, fair-seventeen}
 use Rattle.fair_slot.specs.Code.{lent_slot, LentLeaves, SlotLeaves, RanLeaves, table_ran}

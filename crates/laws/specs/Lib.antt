@@ -1,3 +1,3 @@
+pub mod CodeOptions
 pub mod Lists
-pub mod Options
 pub mod Order

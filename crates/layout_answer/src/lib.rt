@@ -4,7 +4,7 @@
 #![tactic(auto)]
 
 ghost use Rattle.std.specs.Prelude.{◌++◌, ◌≡◌, ◌+◌, ◌≤◌, length};
-ghost use Rattle.laws.specs.Options.{option_of};
+ghost use Rattle.laws.specs.CodeOptions.{option_of};
 ghost use Rattle.cell.specs.Limits.{port_limit};
 ghost use Rattle.layout.specs.Number.{bytes_of};
 ghost use Rattle.layout.specs.Answer.{departure_size, departures_size, occupancies_size, answer_size, departure_bytes};

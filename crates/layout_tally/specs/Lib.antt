@@ -1,1 +1,2 @@
+pub mod CodeCounted
 pub mod Counted

@@ -5,7 +5,8 @@ ghost use Rattle.std.specs.Prelude.{◌≡◌, ◌≤◌, length};
 ghost use Rattle.cell.specs.Checked.{no_fault};
 ghost use Rattle.layout.specs.Answer.{departures_size};
 ghost use Rattle.layout.specs.TallyBytes.{tally_of, tally_bytes, tally_size};
-ghost use Rattle.layout_tally.specs.Counted.{counted_as, counted_by};
+ghost use Rattle.layout_tally.specs.CodeCounted.{counted_by};
+ghost use Rattle.layout_tally.specs.Counted.{counted_as};
 
 use cell::{Fault, Tally};
 use layout_answer::departures_in;
@@ -39,7 +40,7 @@ pub fn counted(t: Tally, ran: bool, arrivals: u64, departures: u64) -> Tally
 
 // The tally after a slot with so many records: one that ran counts them and the departures of its answer, a refused one
 // only itself.
-#[tactic(auto, unfolding(crate::specs::Counted::counted_as, crate::specs::Counted::counted_by))]
+#[tactic(auto, unfolding(crate::specs::Counted::counted_as, crate::specs::CodeCounted::counted_by))]
 pub fn counted_by(checked: Result<(), Fault>, arrivals: u64, answer: &[u8], t: Tally) -> Tally
     requires { checked ≡ no_fault → departures_size ≤ length answer.now }
     ensures { result ≡ counted_by checked arrivals answer.now t }

@@ -50,9 +50,9 @@ use Rattle.layout.proofs.Table.{sound-ports}
 use Rattle.layout_answer.specs.Code.{sent_in}
 use Rattle.layout_answer.proofs.Departures.{sent-departures}
 use Rattle.layout_arrivals.proofs.Reading.{first-records}
-use Rattle.layout_tally.specs.Counted.{counted_by}
+use Rattle.layout_tally.specs.CodeCounted.{counted_by}
 use Rattle.slot_faults.proofs.Faults.{clear-not}
-use Rattle.fair_faults.specs.CodeFairFault.{lent_fault}
+use Rattle.fair_faults.specs.Lent.{lent_fault}
 use Rattle.fair_faults.proofs.Lent.{Lends, lent-refused, lent-called}
 use Rattle.oq.specs.Code.{lent_call, LentLeaves, table_held, HeldLeaves}
 use Rattle.oq.proofs.Held.{first-tell}

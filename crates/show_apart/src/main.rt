@@ -38,9 +38,7 @@ fn bad_line(out: Stdout) {
     let text = b"ports=2\nfirst=0\nslot=0\nin=0\nout=1\nflow=0\nrank=05\n";
     let _ = match trace_reader::verify(text) {
         Ok(_) => println!(out; "rank=05: DIFFERS"),
-        Err(bad) => {
-            println!(out; "rank=05: {} at line {}", bad.refusal.number(), bad.line)
-        }
+        Err(bad) => { println!(out; "rank=05: {} at line {}", bad.refusal.number(), bad.line) }
     };
 }
 

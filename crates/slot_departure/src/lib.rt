@@ -3,7 +3,7 @@
 #![tactic(auto)]
 
 ghost use Rattle.std.specs.Prelude.{◌≡◌, map, ◌+◌, ◌*◌, ◌-◌, ◌<◌, ◌≤◌, length, replicate};
-ghost use Rattle.laws.specs.Options.{option_of};
+ghost use Rattle.laws.specs.CodeOptions.{option_of};
 ghost use Rattle.cell.specs.Limits.{port_limit};
 ghost use Rattle.model.specs.Phase.{waiting};
 ghost use Rattle.model.specs.Crossbar.{leaving, departures_of};

@@ -5,7 +5,7 @@ use Rattle.cell.proofs.Checked.{handed_on}
 use Rattle.layout.specs.Answer.{answer_size}
 use Rattle.layout.specs.Frame.{is_fair_table}
 use Rattle.layout_table.proofs.Places.{known_bytes}
-use Rattle.fair_faults.specs.CodeFairFault.{lent_fault}
+use Rattle.fair_faults.specs.Lent.{lent_fault}
 use Rattle.fair_faults.proofs.Lent.{Lends, lent-room}
 use Rattle.fair_slot.proofs.Calls.{lent-refuses, lent_runs, records-fit}
 use Rattle.fair_slot.proofs.take_slot.Goals as goal

@@ -5,7 +5,7 @@ use Rattle.cell.proofs.Checked.{handed_on}
 use Rattle.layout.specs.Answer.{departures_size}
 use Rattle.layout.specs.CodeFair.{is_fair_oq_table}
 use Rattle.layout_table.proofs.Places.{known_bytes}
-use Rattle.fair_faults.specs.CodeFairFault.{lent_fault}
+use Rattle.fair_faults.specs.Lent.{lent_fault}
 use Rattle.fair_faults.proofs.Lent.{Lends, lent-room}
 use Rattle.oq.proofs.Slots.{lent-refuses, lent-held, firsts-fit}
 use Rattle.oq.proofs.slot.take_slot.Goals as goal
