@@ -11,7 +11,8 @@ ghost use Rattle.layout_table.specs.CodeEntries.{entry_with, flow_word, flow_num
 use cell::Cell;
 use layout::{CELLS, ENTRY_BYTES, HEADER_BYTES};
 
-// The byte of a place: in the list, at the crosspoint, in the output's buffer.
+// The byte of a place: in the list, at the crosspoint, in the output's buffer. Kept as bytes, not an enum: `write_place` takes
+// any byte, and `place_of` gives any.
 pub const LISTED: u8 = 1;
 
 pub const CROSSED: u8 = 2;

@@ -52,7 +52,7 @@ impl Failure {
     }
 }
 
-// How many bytes of text the window has, and whether no more will come.
+// How many bytes of text the window has, and whether no more will come: no Option, since there is text either way.
 #[derive(Clone, Copy)]
 struct Filling {
     filled: usize,

@@ -25,7 +25,8 @@ use trace::{Answer, Key, Opening};
 // What one turn can write at most: the line of a slot, and sixteen departures of five lines.
 const TURN_ROOM: usize = 16 + layout::PORTS * 76;
 
-// Which switch plays the slots.
+// Which switch plays the slots. Kept as an enum, not a type parameter: the theorems are on either (`machine_of`,
+// player_turns/specs/Turns).
 #[derive(Clone, Copy)]
 pub enum Engine {
     Crossbar,

@@ -17,7 +17,7 @@ use layout::word;
 use layout_table::entry;
 
 // What one pass over the entries of a section finds: whether two may have one slot, and the low and the high digits of
-// their places, as sets of positions.
+// their places, as sets of positions. `again` is no Option round the sets, which hold either way.
 #[derive(Clone, Copy)]
 pub struct Places {
     pub again: bool,
