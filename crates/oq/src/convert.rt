@@ -5,9 +5,11 @@ ghost use Rattle.layout.specs.Fair.{fair_number_oq};
 ghost use Rattle.layout.specs.Host.{result_of};
 ghost use Rattle.layout.specs.Older.{convert_call};
 ghost use Rattle.layout.specs.Oq.{decode_oq};
+ghost use Rattle.fair_table.specs.Results.{number_of_result};
 
 use crate::check::is_oq_table;
 use cell::Refusal;
+use fair_table::results::number_of_result;
 use fair_table::write_older;
 use layout::{FAIR_BYTES, FAIR_NUMBER_OQ, OQ_NUMBER_BYTES};
 
@@ -18,12 +20,21 @@ pub fn oq_convert(old: &[u8], table: &mut [u8]) -> u32
     ensures table_after { table.new ≡ buffer_after fair_number_oq table.old
         (convert_call decode_oq old.now table.old) }
 {
+    number_of_result(write(old, table))
+}
+
+// The same with the refusal as it is.
+fn write(old: &[u8], table: &mut [u8]) -> Result<(), Refusal>
+    ensures value { number_of_result result ≡ result_of (convert_call decode_oq old.now table.old) }
+    ensures table_after { table.new ≡ buffer_after fair_number_oq table.old
+        (convert_call decode_oq old.now table.old) }
+{
     if !is_oq_table(old) {
-        return Refusal::BrokenTable.number();
+        return Err(Refusal::BrokenTable);
     }
     if table.len() < FAIR_BYTES {
-        return Refusal::ShortBuffer.number();
+        return Err(Refusal::ShortBuffer);
     }
     write_older(&old[OQ_NUMBER_BYTES..], FAIR_NUMBER_OQ, table);
-    0
+    Ok(())
 }
