@@ -1,22 +1,23 @@
 -- Names, letter by letter: a name's number from its last letter on, and a number's letters from the first on.
-use Prim.Native.Nat.{ℕ, zero, suc, ◌+◌, ◌*◌, ◌-◌, ◌^◌, ◌/◌, ◌%◌, ◌≤◌, ◌<◌}
+use Prim.Native.Nat.{ℕ, zero, suc, ◌+◌, ◌*◌, ◌^◌, ◌/◌, ◌%◌, ◌≤◌, ◌<◌}
 use mathlib.Core.Bool.{Bool, true, false, cond, ◌&&◌, and_assoc}
 use mathlib.Core.Path.{◌≡◌, refl, sym, ◌∙◌, ap}
-use mathlib.Core.List.{List, [], ◌∷◌}
+use mathlib.Core.List.{List, [], ◌∷◌, ◌++◌}
+use Rattle.std.specs.List.{push}
+use Rattle.std.proofs.Common.{append_assoc, length-append}
+use Rattle.std.proofs.lemmas.List.{append-nil}
 use native.Mathlib.Nat.{pow-zero, pow-suc, pow-le-pow_right}
-use native.Mathlib.Numerals.{add-one}
 use native.Mathlib.Omega.{arith}
 use borrow.Author.Tests.{le-leb, lt-leb, eqb-true, eq-eqb, ne_eqb}
 use lib.Dec.{leb, eqb}
-use lib.ListN.{length, drop, get_or, length-drop}
-use lib.Seq.{drop-cons, drop-length}
+use lib.ListN.{length}
 use Rattle.laws.specs.Lists.{all?}
-use Rattle.laws.proofs.Lists.{all?-e, get_or-mem}
+use Rattle.laws.proofs.Lists.{all?-append}
 use Rattle.laws.proofs.Tests.{same, clash, by-fail, and_i, and_l, and_r, and-false-l, cond-pass, cond-fail}
 use Rattle.model.specs.Cues.{name_limit, is_letter, well_named}
 use Rattle.layout.specs.Stores.{name_of}
 use Rattle.layout.specs.Number.{bytes_of, number_of}
-use Rattle.layout.proofs.Number.{bytes?, bytes?-drop, number_of-below, number_of-bytes_of, length-bytes_of}
+use Rattle.layout.proofs.Number.{is_byte, bytes?, number_of-below, number_of-bytes_of, length-bytes_of}
 use Rattle.cue_store.specs.Names.{name_number, is_name}
 use Rattle.cue_store.proofs.Names.{number-none, number-name, number-bytes, is_name-i, is_name-well, is_name-bytes}
 
@@ -30,49 +31,75 @@ number-long name long =
     number-none name
     (by-fail (well_named name) (λ h. clash (search (and_l, and_r)) (lt-leb (length name) name_limit long)))
 
-pub number-other : (name : List ℕ) (i : ℕ) → i < length name → is_letter (get_or name i 0) ≡ false → name_number name ≡ 0
-unfolding well_named
-number-other name i inside other =
-    number-none name
-    (by-fail (well_named name) (λ h. clash (all?-e is_letter (search and_r) (get_or-mem name i 0 inside)) other))
-
--- the bytes from i on are letters, and this is their number
-abbrev pub NumberFrom : List ℕ → ℕ → ℕ → Type 0
-NumberFrom name i number = (all? is_letter (drop i name) ≡ true) × (number ≡ number_of (drop i name))
-
-pub number-start : (name : List ℕ) → NumberFrom name (length name) 0
-unfolding all? number_of
-number-start name = rw drop-length (refl, refl)
-
-pub number-next : (name : List ℕ) (i j number : ℕ) → i + 1 ≡ j → j ≤ length name → is_letter (get_or name i 0) ≡ true
-    → NumberFrom name j number → NumberFrom name i (256 * number + get_or name i 0)
-unfolding all? number_of
-number-next name i j number next inside letter h =
-    let here : i < length name = omega arith in
-    let first : drop i name ≡ get_or name i 0 ∷ drop j name =
-    drop-cons name i 0 here ∙ ap (λ k. get_or name i 0 ∷ drop k name) (sym (add-one i) ∙ next) in
-    let letters = and_i (is_letter (get_or name i 0)) (all? is_letter (drop j name)) letter h.0 in
-    (rw first letters, rw first (omega (arith, h.1)))
-
--- a byte more has room in 64 bits
-pub number-room : (name : List ℕ) (i number : ℕ) → bytes? name ≡ true → 0 < i → i ≤ length name
-    → length name ≤ name_limit → number ≡ number_of (drop i name) → number < 256 ^ 7
-number-room name i number bytes some inside short e =
-    omega (
-      arith,
-      number_of-below (length name - i) (drop i name) (bytes?-drop i name bytes) (length-drop i name),
-      pow-le-pow_right {n = 256} (omega arith) {i = length name - i} {j = 7} (omega arith),
-    )
-
-pub number-all : (name : List ℕ) (number : ℕ) → length name ≤ name_limit → NumberFrom name 0 number
-    → number ≡ name_number name
+-- letters alone, and not too many of them
+number-letters : (name : List ℕ) → length name ≤ name_limit → all? is_letter name ≡ true → name_number name ≡ number_of name
 unfolding name_number well_named number_of
-number-all [] number short h = h.1
-number-all (b ∷ bs) number short h =
-    h.1
-    ∙ sym (number-name (b ∷ bs)
+number-letters [] short h = refl
+number-letters (b ∷ bs) short h =
+    number-name (b ∷ bs)
     (and_i (leb 1 (suc (length bs))) _ (le-leb 1 (suc (length bs)) (omega arith))
-    (and_i (leb (suc (length bs)) name_limit) _ (le-leb (suc (length bs)) name_limit short) h.0)))
+    (and_i (leb (suc (length bs)) name_limit) _ (le-leb (suc (length bs)) name_limit short) h))
+
+-- the bytes behind those that are left are letters, and this is their number
+pub record Behind (name left : List ℕ) (number : ℕ) : Type 0 where
+  pub behind : List ℕ
+  pub split : name ≡ left ++ behind
+  pub letters : all? is_letter behind ≡ true
+  pub value : number ≡ number_of behind
+
+pub behind-start : {name left : List ℕ} → left ≡ name → Behind name left 0
+unfolding all? number_of
+behind-start {name} e = record { behind = []; split = rw e (sym (append-nil name)); letters = refl; value = refl }
+
+-- all is looked at
+pub behind-done : {name left : List ℕ} {number : ℕ} → length left ≡ 0 → length name ≤ name_limit → Behind name left number
+    → number ≡ name_number name
+behind-done {left = []} e short p =
+    p.value
+    ∙ ap number_of (sym p.split)
+    ∙ sym (number-letters _ short (ap (all? is_letter) p.split ∙ p.letters))
+behind-done {left = b ∷ bs} e short p = absurd (omega (arith, e))
+
+-- one more of them
+module _ {name left : List ℕ} {number : ℕ} (front : List ℕ) (b : ℕ) (e : left ≡ push front b) (p : Behind name left number) where
+  split : name ≡ front ++ (b ∷ p.behind)
+  split = p.split ∙ ap (λ l. l ++ p.behind) e ∙ append_assoc front (b ∷ []) p.behind
+
+  pub behind-next : is_letter b ≡ true → Behind name front (256 * number + b)
+  unfolding all? number_of
+  behind-next letter =
+      record {
+        behind = b ∷ p.behind;
+        split = split;
+        letters = and_i (is_letter b) (all? is_letter p.behind) letter p.letters;
+        value = omega (arith, p.value);
+      }
+
+  -- a byte that is no letter
+  pub behind-other : is_letter b ≡ false → name_number name ≡ 0
+  unfolding well_named all?
+  behind-other other =
+      number-none name
+      (by-fail (well_named name)
+      (λ h.
+      let letters : all? is_letter name ≡ true = search and_r in
+      let last = and_r (all? is_letter front) _
+      (sym (all?-append is_letter front (b ∷ p.behind)) ∙ ap (all? is_letter) (sym split) ∙ letters) in
+      clash (and_l (is_letter b) (all? is_letter p.behind) last) other))
+
+  -- a byte more has room in 64 bits
+  pub behind-room : bytes? name ≡ true → length name ≤ name_limit → number < 256 ^ 7
+  unfolding bytes? all?
+  behind-room bytes short =
+      let sizes = ap length split ∙ length-append front (b ∷ p.behind) in
+      let all = sym (all?-append is_byte front (b ∷ p.behind)) ∙ ap bytes? (sym split) ∙ bytes in
+      let last : bytes? p.behind ≡ true = and_r (is_byte b) _ (and_r (all? is_byte front) _ all) in
+      omega (
+        arith,
+        p.value,
+        number_of-below (length p.behind) p.behind last refl,
+        pow-le-pow_right {n = 256} (omega arith) {i = length p.behind} {j = 7} (omega (arith, sizes)),
+      )
 
 ------------------------------------------------------------------------
 -- whether a number is that of a name

@@ -15,13 +15,11 @@ pub fn number_of(name: &[u8]) -> Option<u64>
         return None;
     }
     let mut number = 0;
-    let mut i = name.len();
-    while i > 0 {
-        i -= 1;
-        if !is_letter(name[i]) {
+    for &letter in name.iter().rev() {
+        if !is_letter(letter) {
             return None;
         }
-        number = 256 * number + u64::from(name[i]);
+        number = 256 * number + u64::from(letter);
     }
     if number == 0 {
         return None;
@@ -37,6 +35,7 @@ pub fn is_name(number: u64) -> bool
         return false;
     }
     let mut rest = number;
+    // Kept as a while: a zero before the last letter is no letter, and the zeros behind it are none of what is left.
     while rest > 0 {
         if !is_letter((rest % 256) as u8) {
             return false;
