@@ -2,7 +2,9 @@
 ghost use Rattle.std.specs.Prelude.{◌≡◌};
 ghost use Rattle.layout.specs.Engine.{start_call, buffer_after};
 ghost use Rattle.layout.specs.Host.{result_of};
+ghost use Rattle.fair_table.specs.Results.{number_of_result};
 
+use crate::results::number_of_result;
 use crate::{marks_in_range, write_fresh};
 use cell::{Refusal, Switch};
 use layout::FAIR_BYTES;
@@ -15,15 +17,24 @@ pub fn start(ports: u32, first: u32, marks: u32, number: u32, table: &mut [u8]) 
     ensures table_after { table.new
         ≡ buffer_after number table.old (start_call ports first marks table.old) }
 {
+    number_of_result(write(ports, first, marks, number, table))
+}
+
+// The same with the refusal as it is.
+fn write(ports: u32, first: u32, marks: u32, number: u32, table: &mut [u8]) -> Result<(), Refusal>
+    ensures value { number_of_result result ≡ result_of (start_call ports first marks table.old) }
+    ensures table_after { table.new
+        ≡ buffer_after number table.old (start_call ports first marks table.old) }
+{
     if !Switch::ports_in_range(ports) {
-        return Refusal::BadSize.number();
+        return Err(Refusal::BadSize);
     }
     if !marks_in_range(ports, marks) {
-        return Refusal::NoSuchPort.number();
+        return Err(Refusal::NoSuchPort);
     }
     if table.len() < FAIR_BYTES {
-        return Refusal::ShortBuffer.number();
+        return Err(Refusal::ShortBuffer);
     }
     write_fresh(ports, first, marks, number, table);
-    0
+    Ok(())
 }
