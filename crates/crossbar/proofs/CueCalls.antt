@@ -37,6 +37,7 @@ use Rattle.model.proofs.CueLaws.{return-bad, return_held, return_new}
 use Rattle.model.proofs.FirstPlace.{first_passes, first-most}
 use Rattle.cue_store.specs.Code.{place_start, table_at, place_of, place_for}
 use Rattle.cue_store.specs.Names.{name_number}
+use Rattle.crossbar.specs.HeldPlace.{HeldAt, HeldNowhere}
 use Rattle.cue_store.proofs.Names.{number-zero, number-some}
 use Rattle.cue_store.proofs.Found.{place-named, place-free, table-at, put-cue, put-free, cues-four}
 
@@ -213,47 +214,86 @@ module _ (store name : List ℕ) (number : ℕ) (is : number ≡ name_number nam
 
   -- a place of the store, or none
   module _ (h : is_store store ≡ true) (n : number ≡ 0 → ⊥) (k : ℕ) (full : k ≡ cue_limit → ⊥) where
-    pub inside : k ≡ place_of store number → k < cue_limit
-    inside e =
-        omega (arith, e ∙ ap (place_of store) is, place-most store name (cues_of store) (is-store store h) (named n))
-
     pub inside-for : k ≡ place_for store number → k < cue_limit
     inside-for e =
         omega (arith, e ∙ ap (place_for store) is, place-for-most store name (cues_of store) (is-store store h) (named n))
 
 module _ (store name : List ℕ) where
-  pub drop-broken : is_store store ≡ false → (result : ℕ) → result ≡ 2 → Stored (drop_call store name) store result store
-  drop-broken h result r =
-      stored_refused _ store BrokenTable result (drop_call-store store name (store-none store h)) r
+  pub held-broken : is_store store ≡ false → HeldNowhere store name BrokenTable
+  held-broken h =
+      record {
+        drops = drop_call-store store name (store-none store h);
+        returns = λ table t. return_call-store table store name (store-none store h);
+      }
 
-  module _ (h : is_store store ≡ true) (number : ℕ) (is : number ≡ name_number name) where
-    drops-cue : drop_call store name ≡ drop_cue name (cues_of store)
-    drops-cue = drop_call-cues store name (cues_of store) (is-store store h)
+  module _ (h : is_store store ≡ true) where
+    held_cues : Cues (Fair Switch)
+    held_cues = cues_of store
 
-    pub drop-badly-named : number ≡ 0 → (result : ℕ) → result ≡ 11 → Stored (drop_call store name) store result store
-    drop-badly-named z result r =
-        stored_refused _ store BadName result (drops-cue ∙ drop-bad name (cues_of store) (unnamed store name number is z)) r
+    held-stand : decode_store store ≡ some held_cues
+    unfolding held_cues
+    held-stand = is-store store h
 
-    module _ (n : number ≡ 0 → ⊥) (k : ℕ) (e : k ≡ place_of store number) where
-      at : place_of store (name_number name) ≡ k
-      at = sym (e ∙ ap (place_of store) is)
+    drops-cue : drop_call store name ≡ drop_cue name held_cues
+    drops-cue = drop_call-cues store name held_cues held-stand
 
-      pub drop-lost : k ≡ cue_limit → (result : ℕ) → result ≡ 13 → Stored (drop_call store name) store result store
-      drop-lost full result r =
-          stored_refused _ store NoSuchCue result
-          (drops-cue
-          ∙ drop-none store name (cues_of store) (is-store store h) (named store name number is n) (at ∙ full))
-          r
+    returns_to : (table : List ℕ) → is_fair_table table ≡ true → return_call table store name ≡ return_to name held_cues
+    returns_to table t = return_call-cues table store name (fair_of table) held_cues (table-some table t) held-stand
 
-      pub drop-done : (k ≡ cue_limit → ⊥) → (store' : List ℕ)
-          → store' ≡ put (place_start k) place_size (replicate place_size 0) store
-          → Stored (drop_call store name) store 0 store'
-      drop-done full store' p =
-          let few = inside store name number is h n k full e in
-          stored-done _ store store' (set (cues_of store) k none)
-          (drops-cue
-          ∙ drop_at store name (cues_of store) (is-store store h) (named store name number is n) k at few)
-          (p ∙ put-free store (cues_of store) (is-store store h) k few)
+    pub held-badly-named : name_number name ≡ 0 → HeldNowhere store name BadName
+    held-badly-named z =
+        let bad = unnamed store name (name_number name) refl z in
+        record {
+          drops = drops-cue ∙ drop-bad name held_cues bad;
+          returns = λ table t. returns_to table t ∙ return-bad name held_cues bad;
+        }
+
+    module _ (number : ℕ) (is : number ≡ name_number name) (n : number ≡ 0 → ⊥) where
+      well : well_named name ≡ true
+      well = named store name number is n
+
+      pub held-nowhere : place_of store number ≡ cue_limit → HeldNowhere store name NoSuchCue
+      held-nowhere full =
+          let none_there = ap (place_of store) (sym is) ∙ full in
+          record {
+            drops = drops-cue ∙ drop-none store name held_cues held-stand well none_there;
+            returns = λ table t. returns_to table t ∙ return-none store name held_cues held-stand well none_there;
+          }
+
+      pub held-at : (k : ℕ) → k ≡ place_of store number → k < cue_limit → HeldAt store name k
+      held-at k e inside =
+          record { sound = h; named = λ z. n (is ∙ z); found = e ∙ ap (place_of store) is; inside = inside }
+
+  -- no place: the calls leave all as it was
+  pub drop-nowhere : (r : Refusal) (result : ℕ) → HeldNowhere store name r → result ≡ number r
+      → Stored (drop_call store name) store result store
+  drop-nowhere r result p e = stored_refused _ store r result p.drops e
+
+  pub return-nowhere : (table : List ℕ) → is_fair_table table ≡ true → (r : Refusal) (result : ℕ) → HeldNowhere store name r
+      → result ≡ number r → Returned (return_call table store name) table result table
+  return-nowhere table t r result p e = returned-refused _ table r result (p.returns table t) e
+
+  -- a place
+  module _ (k : ℕ) (p : HeldAt store name k) where
+    named-so : well_named name ≡ true
+    named-so = named store name (name_number name) refl p.named
+
+    pub drop-done : (store' : List ℕ) → store' ≡ put (place_start k) place_size (replicate place_size 0) store
+        → Stored (drop_call store name) store 0 store'
+    drop-done store' e =
+        stored-done _ store store' (set (cues_of store) k none)
+        (drop_call-cues store name (cues_of store) (is-store store p.sound)
+        ∙ drop_at store name (cues_of store) (is-store store p.sound) named-so k (sym p.found) p.inside)
+        (e ∙ put-free store (cues_of store) (is-store store p.sound) k p.inside)
+
+    pub return-done : (table : List ℕ) → is_fair_table table ≡ true → (table' : List ℕ) → table' ≡ table_at store k
+        → Returned (return_call table store name) table 0 table'
+    return-done table t table' e =
+        let back = return-at store name (cues_of store) (is-store store p.sound) named-so k (sym p.found) p.inside in
+        returned-done _ table table' back.0
+        (return_call-cues table store name (fair_of table) (cues_of store) (table-some table t) (is-store store p.sound)
+        ∙ back.1)
+        (e ∙ back.2)
 
 module _ (table store name : List ℕ) where
   pub set-broken-table : is_fair_table table ≡ false → (result : ℕ) → result ≡ 2
@@ -270,11 +310,6 @@ module _ (table store name : List ℕ) where
       → Returned (return_call table store name) table result table
   return-broken-table h result r =
       returned-refused _ table BrokenTable result (return_call-table table store name (table_none table h)) r
-
-  pub return-broken-store : is_store store ≡ false → (result : ℕ) → result ≡ 2
-      → Returned (return_call table store name) table result table
-  return-broken-store h result r =
-      returned-refused _ table BrokenTable result (return_call-store table store name (store-none store h)) r
 
   module _ (t : is_fair_table table ≡ true) (h : is_store store ≡ true) (number : ℕ) (is : number ≡ name_number name) where
     x : Fair Switch
@@ -298,18 +333,10 @@ module _ (table store name : List ℕ) where
     sets-cue : set_call table store name ≡ set_cue name x cues
     sets-cue = set_call-cues table store name x cues state stands
 
-    returns_to : return_call table store name ≡ return_to name cues
-    returns_to = return_call-cues table store name x cues state stands
-
     pub set-badly-named : number ≡ 0 → (result : ℕ) → result ≡ 11
         → Stored (set_call table store name) store result store
     set-badly-named z result r =
         stored_refused _ store BadName result (sets-cue ∙ set-bad name cues x (unnamed store name number is z)) r
-
-    pub return-badly-named : number ≡ 0 → (result : ℕ) → result ≡ 11
-        → Returned (return_call table store name) table result table
-    return-badly-named z result r =
-        returned-refused _ table BadName result (returns_to ∙ return-bad name cues (unnamed store name number is z)) r
 
     module _ (n : number ≡ 0 → ⊥) (k : ℕ) where
       w : well_named name ≡ true
@@ -331,19 +358,6 @@ module _ (table store name : List ℕ) where
           (p
           ∙ ap₂ (λ m bs. put (place_start k) place_size (bytes_of 8 m ++ bs) store) is (sym exact)
           ∙ put-cue store cues stands k name x few w)
-
-      pub return-lost : k ≡ place_of store number → k ≡ cue_limit → (result : ℕ) → result ≡ 13
-          → Returned (return_call table store name) table result table
-      return-lost e full result r =
-          returned-refused _ table NoSuchCue result
-          (returns_to ∙ return-none store name cues stands w (sym (e ∙ ap (place_of store) is) ∙ full)) r
-
-      pub return-done : k ≡ place_of store number → (k ≡ cue_limit → ⊥) → (table' : List ℕ) → table' ≡ table_at store k
-          → Returned (return_call table store name) table 0 table'
-      return-done e full table' p =
-          let few = inside store name number is h n k full e in
-          let back = return-at store name cues stands w k (sym (e ∙ ap (place_of store) is)) few in
-          returned-done _ table table' back.0 (returns_to ∙ back.1) (p ∙ back.2)
 
 ------------------------------------------------------------------------
 -- starting and checking a store

@@ -1,1 +1,2 @@
+pub mod HeldPlace
 pub mod HostCalls

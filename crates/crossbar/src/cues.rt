@@ -1,10 +1,11 @@
 // The calls of cues: up to four, each under a name, hold the whole switch, clock and memory included, in a cue store that
 // the host keeps. No call is lent a tally, so none is wound back.
-ghost use Rattle.std.specs.Prelude.{◌≡◌};
+ghost use Rattle.std.specs.Prelude.{◌≡◌, MatchResult};
 ghost use Rattle.layout.specs.Cues.{store_call, store_buffer, store_check_call, set_call, drop_call, return_call};
 ghost use Rattle.layout.specs.Cues.{store_after, table_returned};
 ghost use Rattle.layout.specs.Host.{result_of};
 ghost use Rattle.fair_table.specs.Results.{number_of_result};
+ghost use Rattle.crossbar.specs.HeldPlace.{HeldAt, HeldNowhere};
 
 use cell::Refusal;
 use cue_store::check::is_store;
@@ -86,15 +87,7 @@ fn drop(store: &mut [u8], name: &[u8]) -> Result<(), Refusal>
     ensures store_after { store.new ≡ store_after store.old
         (drop_call store.old name.now) }
 {
-    if !is_store(store) {
-        return Err(Refusal::BrokenTable);
-    }
-    let Some(number) = number_of(name) else {
-        return Err(Refusal::BadName);
-    };
-    let Some(place) = place_of(store, number) else {
-        return Err(Refusal::NoSuchCue);
-    };
+    let place = held_place(store, name)?;
     clear_cue(store, place);
     Ok(())
 }
@@ -119,6 +112,16 @@ fn return_to(table: &mut [u8], store: &[u8], name: &[u8]) -> Result<(), Refusal>
     if !is_fair_table(table) {
         return Err(Refusal::BrokenTable);
     }
+    let place = held_place(store, name)?;
+    read_cue(store, place, table);
+    Ok(())
+}
+
+// The place of the cue that is held under a name. Refuses with 2 a store that is broken, then with 11 a name that is
+// not 1 to 8 lower-case letters, then with 13 one that is not held.
+fn held_place(store: &[u8], name: &[u8]) -> Result<usize, Refusal>
+    ensures { MatchResult result (HeldAt store.now name.now) (HeldNowhere store.now name.now) }
+{
     if !is_store(store) {
         return Err(Refusal::BrokenTable);
     }
@@ -128,6 +131,5 @@ fn return_to(table: &mut [u8], store: &[u8], name: &[u8]) -> Result<(), Refusal>
     let Some(place) = place_of(store, number) else {
         return Err(Refusal::NoSuchCue);
     };
-    read_cue(store, place, table);
-    Ok(())
+    Ok(place)
 }
