@@ -3,9 +3,9 @@
 --     read_line-missing, -behind            a line, by what follows its key
 --     rest                                  the slice from a place
 --     number-bad, -got, taken, bad-err      a line as a cursor has it
-use Prim.Native.Nat.{ℕ, suc, ◌+◌, ◌-◌, ◌≤◌, ◌<◌}
+use Prim.Native.Nat.{ℕ, ◌+◌, ◌-◌, ◌≤◌}
 use native.Mathlib.Omega.{arith}
-use mathlib.Core.List.{List, ◌∷◌, ◌++◌}
+use mathlib.Core.List.{List, ◌++◌}
 use mathlib.Core.Option.{Option as Math, none, some, bind}
 use mathlib.Core.Path.{◌≡◌, refl, sym, ap, ◌∙◌}
 use lib.ListN.{length, take, drop, length-append, length-drop}
@@ -17,9 +17,9 @@ use Rattle.trace.specs.Line.{key_text, line, after, read_line}
 use Rattle.trace.specs.Reader.{from, got, bad_at, number}
 use Rattle.trace_line_reader.specs.Reading.{line_of}
 use Rattle.trace.proofs.Line.{after-exact, read_line-exact}
-use Rattle.trace.proofs.Lengths.{length-line}
 use Rattle.trace.proofs.Blocks.{number-some, number-none}
 use Rattle.trace_line_reader.specs.Code.{read_body}
+use Rattle.trace_line_reader.proofs.Numbers.{read_body-nil}
 
 -- the rest of a text, by how much was read
 pub drop-rest : (x rest t : List ℕ) → t ≡ x ++ rest
@@ -59,14 +59,6 @@ module _ (t : List ℕ) where
       let (r, w) = drop-rest x s.1 t g in
       rw (← f) (ap (λ u. some (s.0, u)) r, w)
 
-  -- behind the first byte
-  pub line_of-later : {o : Math (ℕ × List ℕ)} {n i b : ℕ} {u : List ℕ} → t ≡ b ∷ u → i < length u
-      → o ≡ some (n, drop (i + 1) u) → line_of t o ≡ Some (record { number = n; length = i + 2 })
-  line_of-later {n} {i} {b} {u} e h g =
-      let j : i + 2 ≡ suc (i + 1) = omega arith in
-      let d : drop (i + 1) u ≡ drop (i + 2) t = rw (e, j) in
-      line_of-some (g ∙ ap (λ x. some (n, x)) d) (omega (arith, ap length e))
-
 -- a line is its key and what stands behind it
 module _ (k : Key) (t : List ℕ) where
   pub read_line-missing : after (key_text k) t ≡ none → read_line k t ≡ none
@@ -78,29 +70,15 @@ module _ (k : Key) (t : List ℕ) where
     unfolding read_line read_body bind
     read_line-behind = rw h
 
-    pub line_of-behind : {l : Line} → line_of u (read_body u) ≡ Some l
-        → (line_of t (read_line k t) ≡ Some (record { number = l.number; length = length (key_text k) + l.length }))
-        × (length (key_text k) + l.length ≤ length t)
-    unfolding line_of
-    line_of-behind {l} e = go (read_body u) refl
-      where
-        result : Type 0
-        result =
-            (line_of t (read_line k t) ≡ Some (record { number = l.number; length = length (key_text k) + l.length }))
-            × (length (key_text k) + l.length ≤ length t)
-
-        go : (o : Math (ℕ × List ℕ)) → read_body u ≡ o → result
-        go none f =
-            let z : ◌≡◌ {A = ℕ} 0 1 = cc (ap (line_of u) f) in
-            absurd (omega arith)
-        go (some s) f =
-            let g : record { number = s.0; length = length u - length s.1 } ≡ l = cc (ap (line_of u) f) in
-            let r : read_line k t ≡ some s = read_line-behind ∙ f in
-            let a = simp length-append at (ap length (read_line-exact k t s.0 s.1 r).0) in
-            let b = simp length-append at (ap length (after-exact (key_text k) t u h)) in
-            let i : length t - length s.1 ≡ length (key_text k) + (length u - length s.1) =
-            omega (arith, a, b, length-line k s.0) in
-            rw (← g, r) (ap (λ j. Some (record { number = s.0; length = j })) i, omega (arith, a, b, length-line k s.0))
+-- a text that ends with its key, or before it
+pub read_line-short : (k : Key) (t : List ℕ) → length t ≤ length (key_text k) → read_line k t ≡ none
+read_line-short k t h = go (after (key_text k) t) refl
+  where
+    go : (o : Math (List ℕ)) → after (key_text k) t ≡ o → read_line k t ≡ none
+    go none e = read_line-missing k t e
+    go (some u) e =
+        let b = simp length-append at (ap length (after-exact (key_text k) t u e)) in
+        read_line-behind k t e ∙ read_body-nil u (omega (arith, b))
 
 -- the slice from a place is the rest of the text
 abbrev pub rest : List ℕ → ℕ → List ℕ

@@ -1,8 +1,7 @@
--- Whether a text begins with a key, as the library's methods tell it, and what follows the key:
---     begins-starts            `starts_with`
---     after-unmarked, -marked  `strip_prefix`
-use Prim.Native.Nat.{ℕ, ◌+◌}
-use denote.Bor.{Bor}
+-- Whether a text begins with a key, as the library's method tells it, and what follows the key:
+--     begins-starts            `starts_with`, for a key
+--     after-starts, -not       the same, for any prefix
+use Prim.Native.Nat.{ℕ}
 use mathlib.Core.Bool.{Bool, true, false}
 use mathlib.Core.List.{List, ◌++◌}
 use mathlib.Core.Logic.{◌≢◌}
@@ -10,10 +9,9 @@ use mathlib.Core.Option.{Option, none, some}
 use mathlib.Core.Path.{◌≡◌, refl, sym, ap, ◌∙◌}
 use lib.Dec.{eqb}
 use lib.ListN.{length, take, drop}
-use Rattle.std.specs.Prelude.{Some, None}
 use Rattle.std.specs.Cmp.Lexicographic.{pointwise}
 use Rattle.std.proofs.lemmas.Bool.Decides.{Decides-eqb}
-use Rattle.std.proofs.lemmas.Slice.Eq.{starts_is, strip_prefix_is}
+use Rattle.std.proofs.lemmas.Slice.Eq.{starts_is}
 use Rattle.trace.specs.declared.Key.{Key}
 use Rattle.trace.specs.Line.{key_text, after}
 use Rattle.trace.specs.Reader.{from, begins}
@@ -31,12 +29,11 @@ module _ (p t : List ℕ) where
   after-there : (u : List ℕ) → t ≡ p ++ u → after p t ≡ some u
   after-there u h = ap (after p) h ∙ after-append p u
 
-  pub after-unmarked : pointwise eqb (take (length p) t) p ≡ false → after p t ≡ none
-  after-unmarked h = after-missing (strip_prefix_is Decides-eqb t p None h)
+  pub after-starts : {r : Bool} → r ≡ pointwise eqb p (take (length p) t) → r ≡ true → after p t ≡ some (drop (length p) t)
+  after-starts {r} h e = after-there (drop (length p) t) ((starts_is Decides-eqb t p r h).0 e)
 
-  pub after-marked : (u : Bor (List ℕ)) → (pointwise eqb (take (length p) t) p ≡ true)
-      × (u.now ≡ drop (length p) t) × (length u.now + length p ≡ length t) → after p t ≡ some u.now
-  after-marked u h = after-there u.now (strip_prefix_is Decides-eqb t p (Some u) h)
+  pub after-starts-not : {r : Bool} → r ≡ pointwise eqb p (take (length p) t) → r ≡ false → after p t ≡ none
+  after-starts-not {r} h e = after-missing λ u f. cc ((starts_is Decides-eqb t p r h).1 u f)
 
 module _ (k : Key) (t : List ℕ) where
   begins-false : after (key_text k) t ≡ none → begins k (from 0 t) ≡ false

@@ -16,8 +16,6 @@ use lib.Dec.{eqb}
 use lib.ListN.{length, get_or, drop}
 use lib.Seq.{drop-cons}
 use Rattle.std.specs.Char.{is_ascii_digit}
-use Rattle.std.specs.Prelude.{Result, Ok, Err, Some, None, OkIff}
-use Rattle.std.specs.Result.{result_ok}
 use Rattle.laws.specs.Lists.{all?}
 use Rattle.laws.proofs.Tests.{and-false-l, and_false_r}
 use Rattle.laws.proofs.Lists.{all?-nil, all?-cons, all?-append}
@@ -32,28 +30,6 @@ use Rattle.trace_line_reader.specs.Code.{read_body}
 pub is_digit-ascii : (b : ℕ) → is_ascii_digit b ≡ is_digit b
 unfolding is_digit
 is_digit-ascii b = refl
-
--- the library's conversion to 32 bits
-module _ {E : Type 0} (r : Result ℕ E) (n : ℕ) (h : OkIff r (n < 4294967296) n) where
-  pub narrow-none : result_ok r ≡ None → clock_end < n
-  narrow-none = go r h
-    where
-      go : (r : Result ℕ E) → OkIff r (n < 4294967296) n → result_ok r ≡ None → clock_end < n
-      go (Ok x) f e =
-          let z : ◌≡◌ {A = ℕ} 0 1 = cc in
-          absurd (omega arith)
-      go (Err x) f e = omega (arith, f)
-
-  pub narrow-some : {m : ℕ} → result_ok r ≡ Some m → (m ≡ n) × (m ≤ clock_end)
-  narrow-some {m} = go r h
-    where
-      go : (r : Result ℕ E) → OkIff r (n < 4294967296) n → result_ok r ≡ Some m → (m ≡ n) × (m ≤ clock_end)
-      go (Ok x) f e =
-          let g : x ≡ m = cc in
-          (omega (arith, f.1), omega (arith, f.0, f.1))
-      go (Err x) f e =
-          let z : ◌≡◌ {A = ℕ} 0 1 = cc in
-          absurd (omega arith)
 
 -- a text up to its line feed, behind digits
 
