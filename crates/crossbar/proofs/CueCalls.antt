@@ -37,7 +37,7 @@ use Rattle.model.proofs.CueLaws.{return-bad, return_held, return_new}
 use Rattle.model.proofs.FirstPlace.{first_passes, first-most}
 use Rattle.cue_store.specs.Code.{place_start, table_at, place_of, place_for}
 use Rattle.cue_store.specs.Names.{name_number}
-use Rattle.crossbar.specs.HeldPlace.{HeldAt, HeldNowhere}
+use Rattle.crossbar.specs.CodeHeldPlace.{HeldAt, HeldNowhere}
 use Rattle.cue_store.proofs.Names.{number-zero, number-some}
 use Rattle.cue_store.proofs.Found.{place-named, place-free, table-at, put-cue, put-free, cues-four}
 

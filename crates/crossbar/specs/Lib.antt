@@ -1,2 +1,2 @@
-pub mod HeldPlace
+pub mod CodeHeldPlace
 pub mod HostCalls

@@ -5,7 +5,7 @@ ghost use Rattle.layout.specs.Cues.{store_call, store_buffer, store_check_call, 
 ghost use Rattle.layout.specs.Cues.{store_after, table_returned};
 ghost use Rattle.layout.specs.Host.{result_of};
 ghost use Rattle.fair_table.specs.Results.{number_of_result};
-ghost use Rattle.crossbar.specs.HeldPlace.{HeldAt, HeldNowhere};
+ghost use Rattle.crossbar.specs.CodeHeldPlace.{HeldAt, HeldNowhere};
 
 use cell::Refusal;
 use cue_store::check::is_store;
