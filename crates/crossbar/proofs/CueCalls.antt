@@ -123,10 +123,6 @@ module _ (store name : List ℕ) (cues : Cues (Fair Switch)) (d : decode_store s
   place-new : ltb old cue_limit ≡ false → place_for store (name_number name) ≡ free
   place-new h = place-for ∙ ap {B = ℕ} (λ b. elim b [ true ↦ old | false ↦ free ]) h
 
-  pub place-most : place_of store (name_number name) ≤ cue_limit
-  unfolding old
-  place-most = omega (arith, found, first-most (is_named name) cues, four)
-
   pub place-for-most : place_for store (name_number name) ≤ cue_limit
   unfolding old free
   place-for-most = go (ltb old cue_limit) refl
