@@ -26,6 +26,7 @@ pub fn run(table: &mut [u8], sets: &mut Sets, answer: &mut [u8])
     ensures table_after { table.new ≡ encode (course_of (state_of table.old)).switch }
     ensures answer_after { answer.new
         ≡ filled (answer_bytes (answer_of (course_of (state_of table.old)))) answer.old }
+    ensures kept { (sets.new.crossed ≡ sets.old.crossed) × (sets.new.buffered ≡ sets.old.buffered) }
 {
     let mut best = [NOWHERE; PORTS];
     let reports = schedule(table, sets, &mut best);
@@ -40,7 +41,8 @@ pub fn run(table: &mut [u8], sets: &mut Sets, answer: &mut [u8])
 fn schedule(table: &mut [u8], sets: &mut Sets, best: &mut [u16; PORTS]) -> [Report; PHASES]
     requires table { IsTable table.old × (best.old ≡ replicate port_limit nowhere) }
     requires sets_in { SetsIn table.old sets.old }
-    ensures { Scheduled (state_of table.old) table.new best.new result }
+    ensures scheduled { Scheduled (state_of table.old) table.new best.new result }
+    ensures kept { (sets.new.crossed ≡ sets.old.crossed) × (sets.new.buffered ≡ sets.old.buffered) }
 {
     let mut cross = [[NOWHERE; PORTS]; PORTS];
     let mut keys = [[NO_KEY; PORTS]; PORTS];

@@ -26,6 +26,8 @@ loop-n-init c =
             bests = l.bests;
           };
       both = refl;
+      crossed = refl;
+      buffered = refl;
     }
 
 pub phase-requires : goal.phase-requires
@@ -40,10 +42,12 @@ loop-n-preserved c =
           p.table_after p.proposals_value p.occupancies_of;
       viewed = p.viewed;
       both = simp length-set h.both;
+      crossed = h.crossed;
+      buffered = h.buffered;
     }
 
-pub returns : goal.returns
-returns c =
+pub returns-clause-scheduled : goal.returns-clause-scheduled
+returns-clause-scheduled c =
     let h = c.loop-n.invariant in
     let last : c.loop-n.n ≡ 2 = omega arith in
     let all = subst (λ k. Phased (state_of c.args.table.now) k c.loop-n.table c.loop-n.reports) last h.phased in

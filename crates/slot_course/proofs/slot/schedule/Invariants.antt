@@ -11,4 +11,6 @@ invariant-loop-n l =
       phased : Phased (state_of l.fn.table) l.n l.table l.reports;
       viewed : Viewed l.table l.sets.listed l.sets.heads l.cross l.keys l.best;
       both : length l.reports ≡ 2;
+      crossed : l.sets.crossed ≡ l.fn.sets.crossed;
+      buffered : l.sets.buffered ≡ l.fn.sets.buffered;
     }
