@@ -1,5 +1,5 @@
 // The calls of cues: up to four, each under a name, hold the whole switch, clock and memory included, in a cue store that
-// the host keeps. No call is lent a tally, so none is wound back.
+// the host keeps. No call is lent a tally, so none is wound back. What a call comes to is a number, as C is given it.
 ghost use Rattle.std.specs.Prelude.{◌≡◌, MatchResult};
 ghost use Rattle.layout.specs.Cues.{store_call, store_buffer, store_check_call, set_call, drop_call, return_call};
 ghost use Rattle.layout.specs.Cues.{store_after, table_returned};

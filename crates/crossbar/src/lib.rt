@@ -1,4 +1,5 @@
-// What the chassis host calls: numbers and byte slices, no call with a condition on what it is lent. The calls of a
+// What the chassis host calls: numbers and byte slices, no call with a condition on what it is lent. What a call comes to is a
+// number, not a Result, as C is given it: the exports promise the clauses that stand here. The calls of a
 // switch are here, those of its cues in `cues`, and those for older tables and cue stores in `convert` and
 // `convert_cues`.
 #![tactic(auto)]

@@ -1,4 +1,5 @@
-// What a host calls of the output-queued switch: numbers and byte slices, no call with a condition on what it is lent.
+// What a host calls of the output-queued switch: numbers and byte slices, no call with a condition on what it is lent. What a
+// call comes to is a number, not a Result, as C is given it: the exports promise the clauses that stand here.
 #![tactic(auto)]
 
 mod check;

@@ -260,6 +260,7 @@ fn fill(
     if last {
         return Ok(Filling { filled, last });
     }
+    // A while: how much a read brings is not known before it.
     while filled < window.len() {
         match input.read(&mut window[filled..]) {
             Ok(0) => return Ok(Filling { filled, last: true }),

@@ -104,6 +104,7 @@ pub fn take_turns(
     let mut line = line;
     let mut used = 0;
     let mut written = 0;
+    // A while: how much room a turn takes is not known before it.
     while TURN_ROOM <= out.len() - written {
         let turn = take_turn(
             engine,

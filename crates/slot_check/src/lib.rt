@@ -202,6 +202,7 @@ fn shares_slot(bytes: &[u8], k: usize, first: usize, others: u64) -> bool
 {
     let slot = entry::slot_of(bytes, k);
     let mut left = others;
+    // A while: it goes down a set and counts no index.
     while left != 0 {
         if entry::slot_of(bytes, first + sets::first(left)) == slot {
             return true;

@@ -103,6 +103,7 @@ fn heads_of(table: &[u8], input: usize, listed: u64) -> u64
     let mut heads = 0;
     let mut last = NO_FLOW;
     let mut left = listed;
+    // A while: it goes down a set and counts no index.
     while left != 0 {
         let j = sets::first(left);
         let flow = layout_table::entry::flow_word_of(table, CELLS * input + j);
@@ -129,6 +130,7 @@ fn load_crossed(
         cross.new keys.new }
 {
     let mut left = crossed;
+    // A while: it goes down a set and counts no index.
     while left != 0 {
         cross_cell(table, CELLS * input + sets::first(left), cross, keys);
         left = sets::rest(left);
@@ -170,6 +172,7 @@ fn load_buffered(
         best.new rivals.new }
 {
     let mut left = buffered;
+    // A while: it goes down a set and counts no index.
     while left != 0 {
         choose_cell(table, CELLS * input + sets::first(left), best, rivals);
         left = sets::rest(left);

@@ -32,6 +32,7 @@ pub fn find_matching(table: &[u8], candidates: [u64; PORTS]) -> Matched
     let mut proposals: u32 = 0;
     for input in 0..PORTS {
         let mut asked = next_in(left[input], input);
+        // A while: it asks until no cell is refused.
         while asked < NOWHERE {
             asked = propose(table, &mut left, &mut held, asked);
             proposals += 1;

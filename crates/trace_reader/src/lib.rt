@@ -99,7 +99,8 @@ fn verify_blocks(text: &[u8], first: u32) -> Result<u32, usize>
     let mut rest = text;
     let mut clock = first;
     let mut line: usize = 3;
-    // with this test the compiler sees one call of read_block, and puts it in line
+    // A while: how long a block is, is not known before it is read. With this test the compiler sees one call of read_block, and
+    // puts it in line.
     while !rest.is_empty() {
         match read_block(rest, clock, true, &mut numbers) {
             Answer::Slot(_, used, lines) => {
