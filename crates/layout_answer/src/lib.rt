@@ -8,7 +8,7 @@ ghost use Rattle.laws.specs.CodeOptions.{option_of};
 ghost use Rattle.cell.specs.Limits.{port_limit};
 ghost use Rattle.layout.specs.Number.{bytes_of};
 ghost use Rattle.layout.specs.Answer.{departure_size, departures_size, occupancies_size, answer_size, departure_bytes};
-ghost use Rattle.layout.specs.Answer.{seven_bytes, words_bytes, departure_in};
+ghost use Rattle.layout.specs.Answer.{seven_bytes, words_bytes, cell_in, departure_in};
 ghost use Rattle.layout.specs.Code.{put};
 ghost use Rattle.layout_answer.specs.Code.{sent_in};
 
@@ -85,12 +85,20 @@ pub fn departure_in(sent: &[u8]) -> Option<Cell>
     if word::read_u32(sent, 0) == 0 {
         return None;
     }
-    Some(Cell {
+    Some(cell_in(sent))
+}
+
+// The cell that stands in a departure, whether or not it says that one leaves.
+pub fn cell_in(sent: &[u8]) -> Cell
+    requires { length sent.now ≡ departure_size }
+    ensures { result ≡ cell_in sent.now }
+{
+    Cell {
         input: word::read_u32(sent, 4),
         output: word::read_u32(sent, 8),
         flow: word::read_u32(sent, 12),
         rank: word::read_u32(sent, 16),
         tag: word::read_u32(sent, 20),
         slot: word::read_u32(sent, 24),
-    })
+    }
 }
