@@ -163,10 +163,13 @@ fn sort_entries(
         return None;
     }
     let listed = sets::minus(places.low, places.high);
-    let heads = slot_section::flows_together(bytes, first, listed, mark + 1, marks)?;
+    let flows = slot_section::flows_together(bytes, first, listed, mark + 1, marks);
+    if !flows.together {
+        return None;
+    }
     Some(Sorted {
         listed,
-        heads,
+        heads: flows.heads,
         crossed,
         buffered: sets::both(places.low, places.high),
     })

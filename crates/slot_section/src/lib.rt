@@ -25,6 +25,14 @@ pub struct Places {
     pub high: u64,
 }
 
+// Whether the cells of each flow stand together, and which of them are the first of their flow.
+// No Option round the heads: what they are is promised where the flows are not together too (heads_value).
+#[derive(Clone, Copy)]
+pub struct Flows {
+    pub together: bool,
+    pub heads: u64,
+}
+
 // So many unused records are gathered together: their number is known, and the processor's wide registers serve.
 const BLOCK: usize = 8;
 
@@ -145,21 +153,21 @@ pub fn crosspoints_differ(bytes: &[u8], first: usize, crossed: u64) -> bool
     !twice
 }
 
-// Which of the entries at these positions are the first of their flow; `None` unless the cells of each flow stand
-// together in output priority. They are of one input, so none ties with another, whatever the number of ports. `last` is
-// the flow of the entry before; the flows passed are marked. Nothing branches on them, as that would be guessed badly.
+// Whether of the entries at these positions the cells of each flow stand together in output priority, and which are the
+// first of their flow. They are of one input, so none ties with another, whatever the number of ports. `last` is the flow
+// of the entry before; the flows passed are marked. Nothing branches on them, as that would be guessed badly.
 pub fn flows_together(
     bytes: &[u8],
     first: usize,
     listed: u64,
     mark: u8,
     marks: &mut [u8; 256],
-) -> Option<u64>
+) -> Flows
     requires bytes_len { (length bytes.now ≡ table_size) × (first + section_room ≤ entry_limit) × (first % section_room ≡ 0) }
     requires listed_value { all? in_range (entries_in bytes.now first listed) ≡ true }
     requires marks_below { MarksBelow mark marks.old }
-    ensures by_index { (ports : ℕ) → is_some result ≡ together ports (entries_in bytes.now first listed) }
-    ensures heads_value { IfSome result (λ heads. heads ≡ heads_in bytes.now first listed) }
+    ensures by_index { (ports : ℕ) → result.together ≡ together ports (entries_in bytes.now first listed) }
+    ensures heads_value { result.heads ≡ heads_in bytes.now first listed }
     ensures marks_below_2 { MarksBelow (mark + 1) marks.new }
 {
     let mut broken = false;
@@ -180,10 +188,10 @@ pub fn flows_together(
         last_key = key;
         left = sets::rest(left);
     }
-    if broken {
-        return None;
+    Flows {
+        together: !broken,
+        heads,
     }
-    Some(heads)
 }
 
 // Whether an entry breaks its flow: the one before it is of its flow and does not go first, or is of another flow and

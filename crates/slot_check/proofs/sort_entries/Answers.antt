@@ -1,5 +1,6 @@
 -- Each question in turn: one that is not answered, or all of them.
 use Rattle.std.proofs.Common.{◌≡◌, is_some, sym, ◌∙◌, ap}
+use Rattle.std.proofs.lemmas.Bool.{not-true, not-false}
 use Rattle.laws.specs.Lists.{pairwise}
 use Rattle.model.specs.Sound.{together, other_slot, other_crosspoint}
 use Rattle.layout.specs.Code.{entries_between}
@@ -62,18 +63,18 @@ returns-then-not-crosspoints_differ-clause-sound_value c =
     unsound-crosspoints a.ports a.clock a.bytes.now a.first a.end
     (sym (crosspoints at.After-crosspoints_differ (found-there at.In_ok-places)) ∙ c.if-not-crosspoints_differ.true)
 
-pub flows_together-requires-clause-listed_value : goal.flows_together-requires-clause-listed_value
-flows_together-requires-clause-listed_value c =
-    let at = goal.at.flows_together-requires-clause-listed_value c in
+pub flows_together-flows-requires-clause-listed_value : goal.flows_together-flows-requires-clause-listed_value
+flows_together-flows-requires-clause-listed_value c =
+    let at = goal.at.flows_together-flows-requires-clause-listed_value c in
     rw c.minus-listed.ensures (found-there at.In_ok-places).listed-range
 
-pub returns-in_err-heads-clause-sound_value : goal.returns-in_err-heads-clause-sound_value
-returns-in_err-heads-clause-sound_value c =
+pub returns-then-not-flows-clause-sound_value : goal.returns-then-not-flows-clause-sound_value
+returns-then-not-flows-clause-sound_value c =
     let a = c.args in
-    let at = goal.at.returns-in_err-heads-clause-sound_value c in
+    let at = goal.at.returns-then-not-flows-clause-sound_value c in
     let there = found-there at.In_ok-places in
-    ap is_some c.from_residual-in_err-heads.ensures
-    ∙ c.in_err-heads.ensures.by_index a.ports
+    sym (not-true _ c.if-not-flows.true)
+    ∙ c.flows_together-flows.ensures.by_index a.ports
     ∙ ap (λ s. together a.ports (entries_in a.bytes.now a.first s)) c.minus-listed.ensures
     ∙ ap (together a.ports) there.listed
     ∙ sound-flows a.ports a.clock a.bytes.now a.first a.end (sym c.in_ok-places.ensures.entries)
@@ -85,7 +86,8 @@ returns-clause-sound_value c =
     let a = c.args in
     let at = goal.at.returns-clause-sound_value c in
     let there = found-there at.In_ok-places in
-    c.in_ok-heads.ensures.by_index a.ports
+    sym (not-false _ c.if-not-flows.false)
+    ∙ c.flows_together-flows.ensures.by_index a.ports
     ∙ ap (λ s. together a.ports (entries_in a.bytes.now a.first s)) c.minus-listed.ensures
     ∙ ap (together a.ports) there.listed
     ∙ sound-flows a.ports a.clock a.bytes.now a.first a.end (sym c.in_ok-places.ensures.entries)
@@ -95,5 +97,5 @@ returns-clause-sound_value c =
 pub returns-clause-sorts : goal.returns-clause-sorts
 returns-clause-sorts c =
     let at = goal.at.returns-clause-sorts c in
-    rw (c.in_ok-heads.ensures.heads_value, c.minus-listed.ensures, c.minus-crossed.ensures, c.both.ensures)
+    rw (c.flows_together-flows.ensures.heads_value, c.minus-listed.ensures, c.minus-crossed.ensures, c.both.ensures)
     ((found-there at.In_ok-places).sorts c.requires.section_room_bound.1)

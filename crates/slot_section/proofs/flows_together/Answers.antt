@@ -1,4 +1,4 @@
-use Rattle.std.proofs.Common.{◌≡◌, ◌+◌, ◌<◌, sym, ◌∙◌, ap, arith, not}
+use Rattle.std.proofs.Common.{◌≡◌, ◌+◌, ◌<◌, ◌∙◌, ap, arith}
 use mathlib.Core.List.{Memᴰ}
 use Rattle.sets.specs.Sets.{first_of}
 use Rattle.sets.proofs.Members.{first-position, rest-less}
@@ -76,13 +76,8 @@ loop-left-preserved c =
     (flows-next _ _ _ _ _ _ _ _ _ _ l.invariant (some at) (good at) c.flow_number-flow.result c.key_of-key.result flow
     c.flow_number-flow.ensures.1 first)
 
-pub returns-then-broken-clause-by_index : goal.returns-then-broken-clause-by_index
-returns-then-broken-clause-by_index c ports =
-    sym (ap not c.if-broken.true) ∙ flows-end _ _ _ _ _ _ _ _ _ _ c.loop-left.invariant c.loop-left-test.false ports
-
 pub returns-clause-by_index : goal.returns-clause-by_index
-returns-clause-by_index c ports =
-    sym (ap not c.if-broken.false) ∙ flows-end _ _ _ _ _ _ _ _ _ _ c.loop-left.invariant c.loop-left-test.false ports
+returns-clause-by_index c = flows-end _ _ _ _ _ _ _ _ _ _ c.loop-left.invariant c.loop-left-test.false
 
 pub returns-clause-heads_value : goal.returns-clause-heads_value
 returns-clause-heads_value c = flows-heads _ _ _ _ _ _ _ _ _ _ c.loop-left.invariant c.loop-left-test.false
