@@ -20,6 +20,7 @@ use layout_tally::count;
 use slot_course::slot::run;
 use slot_loading::fill_sets;
 use slot_records::{take_records, take_sound};
+use slot_view::Sets;
 
 // Takes a slot on the lent table with the lent records. The table is then the one after the slot, the first bytes of
 // the answer's buffer are its answer, and the tally counts it. A refusal is the first one of: 2, the table is broken;
@@ -64,7 +65,8 @@ fn run_slot(table: &mut [u8], records: &[Arrival], answer: &mut [u8]) -> Result<
     ensures answer_after { answer.new ≡ answer_after answer.old
         (records_slot table.old (length answer.old) records.now) }
 {
-    let mut sets = take_records(table, answer.len(), records)?;
+    let mut sets = Sets::EMPTY;
+    take_records(table, answer.len(), &mut sets, records)?;
     run(table, &mut sets, answer);
     Ok(departures_in(answer))
 }

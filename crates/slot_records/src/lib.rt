@@ -2,13 +2,13 @@
 // was. The sets of its cells by place follow it.
 #![tactic(auto)]
 
-ghost use Rattle.std.specs.Prelude.{◌≡◌, ℕ, ◌≤◌, length, IfOk};
+ghost use Rattle.std.specs.Prelude.{◌≡◌, ℕ, ◌≤◌, length};
 ghost use Rattle.layout.specs.Answer.{answer_size};
 ghost use Rattle.layout.specs.Arrivals.{held_limit};
 ghost use Rattle.layout.specs.Table.{IsTable};
 ghost use Rattle.slot_arrival.specs.CodeArrival.{Arriving};
 ghost use Rattle.slot_course.specs.Code.{SetsIn};
-ghost use Rattle.slot_records.specs.CodeTaken.{Entered, Taken};
+ghost use Rattle.slot_records.specs.CodeTaken.{Entered, SetsIf, Taken};
 
 use cell::{Arrival, Fault, Refusal};
 use layout::ANSWER_BYTES;
@@ -17,26 +17,32 @@ use slot_faults::first_fault;
 use slot_view::Sets;
 
 // Takes no more records than are looked at on a lent table, with so much room for the answer: 2, then 10, then what the
-// clock and the records say. The check of the table sorts its cells by place, and the sets are handed on.
-pub fn take_records(table: &mut [u8], room: usize, records: &[Arrival]) -> Result<Sets, Fault>
+// clock and the records say. The check of the table sorts its cells by place: the lent sets are then those of the table,
+// of a refused slot too.
+pub fn take_records(
+    table: &mut [u8],
+    room: usize,
+    sets: &mut Sets,
+    records: &[Arrival],
+) -> Result<(), Fault>
     requires { length records.now ≤ held_limit }
     ensures taken { Taken table.old room records.now result table.new }
-    ensures sets_in { IfOk result (SetsIn table.new) }
+    ensures sets_if { SetsIf table.new sets.new }
 {
-    let Some(mut sets) = slot_check::sort_table(table) else {
+    let Some(sorted) = slot_check::sort_table(table) else {
         return Err(Fault {
             refusal: Refusal::BrokenTable,
             place: 0,
         });
     };
+    *sets = sorted;
     if room < ANSWER_BYTES {
         return Err(Fault {
             refusal: Refusal::ShortBuffer,
             place: 0,
         });
     }
-    take_sound(table, &mut sets, records)?;
-    Ok(sets)
+    take_sound(table, sets, records)
 }
 
 // The same on a sound table whose cells are sorted by place, for a caller that has room for the answer.
