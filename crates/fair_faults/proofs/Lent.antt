@@ -1,9 +1,10 @@
 -- What is lent to a slot of either engine, before its records are looked at.
 --     lent-refused    where it is turned back
+--     lent-whole      torn records may be looked at before the table is
 --     lent-room       where it is not, it is a table, whole records, and room for the answer
 --     lent-called     then it is the slot of its state with its records
 use Prim.Native.Nat.{ℕ, ◌/◌, ◌%◌, ◌≤◌}
-use mathlib.Core.Bool.{Bool, true, false}
+use mathlib.Core.Bool.{Bool, true, false, ◌&&◌}
 use mathlib.Core.List.{List}
 use mathlib.Core.Option.{some}
 use mathlib.Core.Path.{◌≡◌, refl, sym, ap, ap₂, ◌∙◌}
@@ -26,6 +27,18 @@ use Rattle.layout.proofs.Engine.{lent_slot-arrivals, lent_slot-short, lent_slot-
 use Rattle.layout.proofs.Fair.{is-table-with, is_table_with-none}
 use Rattle.slot_faults.proofs.Faults.{clear-not}
 use Rattle.fair_faults.specs.Lent.{lent_fault}
+
+pub lent-whole : (is_table : Bool) (arrivals room size : ℕ)
+    → lent_fault (eqb (arrivals % arrival_size) 0 && is_table) arrivals room size ≡ lent_fault is_table arrivals room size
+unfolding lent_fault
+lent-whole is_table arrivals room size = go is_table (eqb (arrivals % arrival_size) 0) refl
+  where
+    go : (t w : Bool) → eqb (arrivals % arrival_size) 0 ≡ w
+        → lent_fault (w && t) arrivals room size ≡ lent_fault t arrivals room size
+    go false false f = refl
+    go false true f = refl
+    go true false f = rw (f, lent_fault)
+    go true true f = refl
 
 -- nothing turns it back
 pub record Lends (is_table : Bool) (arrivals room size : ℕ) : Type 0 where

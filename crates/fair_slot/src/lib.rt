@@ -1,13 +1,13 @@
 // A slot of the crossbar on the table that a host keeps: its cells, and the memory of its fair outputs.
 #![tactic(auto)]
 
-ghost use Rattle.std.specs.Prelude.{true, ◌≡◌, ◌≤◌, length};
+ghost use Rattle.std.specs.Prelude.{true, ◌&&◌, ◌≡◌, ◌%◌, ◌≤◌, eqb, length};
 ghost use Rattle.std.proofs.Math.Option.{some};
 ghost use Rattle.laws.specs.Lists.{all?};
 ghost use Rattle.cell.specs.Cell.{arrival_fits};
 ghost use Rattle.model.specs.Fair.{fair_slot};
 ghost use Rattle.layout.specs.Answer.{answer_size};
-ghost use Rattle.layout.specs.Arrivals.{held_limit};
+ghost use Rattle.layout.specs.Arrivals.{arrival_size, held_limit};
 ghost use Rattle.layout.specs.Frame.{is_fair_table};
 ghost use Rattle.layout.specs.Fair.{fair_of};
 ghost use Rattle.layout.specs.TallyBytes.{tally_size};
@@ -61,10 +61,22 @@ fn take_slot(table: &mut [u8], arrivals: &[u8], answer: &mut [u8]) -> Result<(),
         table.old arrivals.now answer.old
         result table.new answer.new }
 {
-    lent_fault(is_fair_table(table), arrivals, answer.len(), ANSWER_BYTES)?;
+    lent_fault(
+        is_lent(table, arrivals),
+        arrivals,
+        answer.len(),
+        ANSWER_BYTES,
+    )?;
     let mut records = read_records(arrivals);
     let many = few(arrivals.len() / ARRIVAL_BYTES);
     sound_slot(table, &mut records[..many], answer)
+}
+
+// Whether whole records and a table are lent. Torn records are seen first: they cost no look at the table.
+fn is_lent(table: &[u8], arrivals: &[u8]) -> bool
+    ensures { result ≡ (eqb (length arrivals.now % arrival_size) 0 && is_fair_table table.now) }
+{
+    arrivals.len() % ARRIVAL_BYTES == 0 && is_fair_table(table)
 }
 
 // The slot with the records, on a sound table and with room for the answer. Where no record has a fault the ranks are

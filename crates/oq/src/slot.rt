@@ -1,9 +1,9 @@
 // A slot on what the host lends, but for the tally: that is counted from what comes of the slot.
-ghost use Rattle.std.specs.Prelude.{true, ◌≡◌, ◌≤◌, length};
+ghost use Rattle.std.specs.Prelude.{true, ◌&&◌, ◌≡◌, ◌%◌, ◌≤◌, eqb, length};
 ghost use Rattle.laws.specs.Lists.{all?};
 ghost use Rattle.cell.specs.Cell.{arrival_fits};
 ghost use Rattle.layout.specs.Answer.{departures_size};
-ghost use Rattle.layout.specs.Arrivals.{held_limit};
+ghost use Rattle.layout.specs.Arrivals.{arrival_size, held_limit};
 ghost use Rattle.layout.specs.CodeFair.{is_fair_oq_table};
 ghost use Rattle.oq.specs.Code.{lent_call, LentLeaves, HeldLeaves};
 
@@ -25,7 +25,7 @@ pub(crate) fn take_slot(table: &mut [u8], arrivals: &[u8], answer: &mut [u8]) ->
         result table.new answer.new }
 {
     lent_fault(
-        is_fair_oq_table(table),
+        is_lent(table, arrivals),
         arrivals,
         answer.len(),
         DEPARTURES_BYTES,
@@ -33,6 +33,13 @@ pub(crate) fn take_slot(table: &mut [u8], arrivals: &[u8], answer: &mut [u8]) ->
     let mut records = read_records(arrivals);
     let many = few(arrivals.len() / ARRIVAL_BYTES);
     held_slot(table, &mut records[..many], answer)
+}
+
+// Whether whole records and a table are lent. Torn records are seen first: they cost no look at the table.
+fn is_lent(table: &[u8], arrivals: &[u8]) -> bool
+    ensures { result ≡ (eqb (length arrivals.now % arrival_size) 0 && is_fair_oq_table table.now) }
+{
+    arrivals.len() % ARRIVAL_BYTES == 0 && is_fair_oq_table(table)
 }
 
 // Takes a slot with the records. Where no output is fair their ranks stand, and nothing is remembered.

@@ -6,7 +6,7 @@ use Rattle.layout.specs.Answer.{departures_size}
 use Rattle.layout.specs.CodeFair.{is_fair_oq_table}
 use Rattle.layout_table.proofs.Places.{known_bytes}
 use Rattle.fair_faults.specs.Lent.{lent_fault}
-use Rattle.fair_faults.proofs.Lent.{Lends, lent-room}
+use Rattle.fair_faults.proofs.Lent.{Lends, lent-room, lent-whole}
 use Rattle.oq.proofs.Slots.{lent-refuses, lent-held, firsts-fit}
 use Rattle.oq.proofs.slot.take_slot.Goals as goal
 use Rattle.oq.proofs.slot.take_slot.Goals.{After-lent_fault}
@@ -17,8 +17,8 @@ found : (c : After-lent_fault)
     ≡ lent_fault (is_fair_oq_table a.table.now) (length a.arrivals.now) (length a.answer.now) departures_size
 found c =
     c.lent_fault.ensures
-    ∙ ap (λ t. lent_fault t (length c.args.arrivals.now) (length c.args.answer.now) departures_size)
-    c.is_fair_oq_table.ensures
+    ∙ ap (λ t. lent_fault t (length c.args.arrivals.now) (length c.args.answer.now) departures_size) c.is_lent.ensures
+    ∙ lent-whole _ _ _ _
 
 -- nothing was found there
 clear : (c : After-lent_fault) → c.lent_fault.result ≡ no_fault
