@@ -1,19 +1,31 @@
 -- Runs of bytes.
---     put_whole               a run put that is as long as the string
+--     put-more, put_whole     one byte more of a run that is put, and a run as long as the string
 --     put-zeros               a run put where zeros begin
 --     zeros-all               whether bytes are zeros, one by one
-use Prim.Native.Nat.{ℕ, zero, suc, ◌+◌, ◌≤◌}
+use Prim.Native.Nat.{ℕ, zero, suc, ◌+◌, ◌≤◌, ◌<◌}
 use native.Mathlib.Nat.{zero-add, suc-add}
+use native.Mathlib.Numerals.{add-one}
 use native.Mathlib.Omega.{arith}
 use mathlib.Core.Bool.{◌&&◌}
-use mathlib.Core.List.{List, [], ◌∷◌, ◌++◌, append-nil}
+use mathlib.Core.List.{List, [], ◌∷◌, ◌++◌, append_assoc, append-nil}
 use mathlib.Core.Path.{◌≡◌, refl, sym, ◌∙◌, ap, ap₂}
 use lib.Dec.{eqb}
-use lib.ListN.{length, drop, replicate, length-replicate, drop_of_length-le}
-use lib.Seq.{take_at, drop_at, drop-drop, drop-append-le}
+use lib.ListN.{length, take, drop, get_or, set, replicate, length-replicate, drop_of_length-le}
+use lib.Seq.{paste, paste-suc, take_at, drop_at, drop-drop, drop-append-le}
 use Rattle.std.specs.List.{list_all}
 use Rattle.layout.specs.Code.{put}
 use Rattle.layout.specs.Number.{same_bytes}
+
+-- one byte more of a run that is put
+pub put-more : (at i b : ℕ) (xs old mid : List ℕ) → at + i < length old → i < length xs → mid ≡ put at i (take i xs) old
+    → b ≡ get_or xs i 0 → set mid (at + i) b ≡ put at (i + 1) (take (i + 1) xs) old
+put-more at i b xs old mid room more so_far byte =
+    ap₂ (λ l x. set l (at + i) x) (so_far ∙ sym (pasted i)) byte
+    ∙ paste-suc old at xs i 0 room more
+    ∙ rw add-one (pasted (suc i))
+  where
+    pasted : (n : ℕ) → paste old at xs n ≡ put at n (take n xs) old
+    pasted n = append_assoc (take at old) (take n xs) (drop (at + n) old)
 
 -- a run as long as the string
 pub put_whole : (n : ℕ) (xs old : List ℕ) → length old ≡ n → put 0 n xs old ≡ xs

@@ -25,5 +25,8 @@ pub fn copy(from: &[u8], start: usize, bytes: &mut [u8], at: usize, count: usize
     ensures { bytes.new
         ≡ put at count (take count (drop start from.now)) bytes.old }
 {
-    bytes[at..at + count].copy_from_slice(&from[start..start + count]);
+    // Kept by hand: for the library's copy the compiler calls memmove, which the archives for C ask of nobody.
+    for i in 0..count {
+        bytes[at + i] = from[start + i];
+    }
 }
