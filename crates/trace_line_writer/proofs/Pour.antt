@@ -6,14 +6,14 @@
 use Prim.Native.Nat.{ℕ, suc, ◌+◌, ◌-◌, ◌≤◌, ◌<◌}
 use native.Mathlib.Omega.{arith}
 use native.Mathlib.Nat.{add-zero, add-suc, suc-add}
+use native.Mathlib.Numerals.{add-one}
 use mathlib.Core.Bool.{Bool, true, false}
 use mathlib.Core.List.{List, [], ◌∷◌, ◌++◌, append_assoc}
 use mathlib.Core.Path.{◌≡◌, refl, sym, ap, ◌∙◌}
 use borrow.Author.Tests.{leb-true, leb-false, le-leb, lt-leb}
 use lib.Dec.{leb}
-use lib.ListN.{length, length-append, take, drop, set, length-set}
-use lib.Seq.{set_comm, sets, length-sets, sets-eq, drop-drop}
-use borrow.Rule.Slice.PartMut.{put_mid}
+use lib.ListN.{length, length-append, take, drop, set, length-set, get_or}
+use lib.Seq.{set_comm, sets, length-sets, sets-eq, length-take-le, take-suc, take-length}
 use Rattle.trace.proofs.Flat.{sets-append}
 use Rattle.trace_line_writer.specs.Writing.{last_place, place_after, with_text, Ends, Put}
 use Rattle.trace_line_writer.specs.Code.{Tried, Written}
@@ -103,19 +103,21 @@ written_then {b} {i} {s} {t} p q =
 pub written_byte : (b : List ℕ) (end a : ℕ) → 1 ≤ end → Written b end (a ∷ []) (set b (end - 1) a) (end - 1)
 written_byte b end a h = record { bytes = refl; starts = omega arith }
 
--- a text that is copied to before a place
-pub written_part : {b t c : List ℕ} {end : ℕ} → length t ≤ end → end ≤ length b → c ≡ t
-    → Written b end t (put_mid (end - length t) (end - (end - length t)) b c) (end - length t)
-written_part {b} {t} {end} h k e =
-    let i : ℕ = end - length t in
-    let n : i + (end - i) ≡ i + length t = omega arith in
-    record {
-      bytes =
-          ap (λ x. take i b ++ (x ++ drop (end - i) (drop i b))) e
-          ∙ ap (λ x. take i b ++ (t ++ x)) (drop-drop (end - i) i b ∙ ap (λ m. drop m b) n)
-          ∙ sym (sets-eq t b i (omega arith) ∙ append_assoc (take i b) t (drop (i + length t) b));
-      starts = omega arith;
-    }
+-- a text that is written from its start on: one byte more
+pub written_more : (b text c : List ℕ) (start i : ℕ) → i < length text → c ≡ sets b start (take i text)
+    → set c (start + i) (get_or text i 0) ≡ sets b start (take (i + 1) text)
+written_more b text c start i more e =
+    let a = get_or text i 0 in
+    ap (λ x. sets x (start + i) (a ∷ [])) e
+    ∙ ap (λ n. sets (sets b start (take i text)) (start + n) (a ∷ [])) (sym (length-take-le i text (omega (arith, more))))
+    ∙ sym (sets-append b start (take i text) (a ∷ []))
+    ∙ ap (sets b start) (sym (take-suc text i 0 more) ∙ ap (λ n. take n text) (sym (add-one i)))
+
+-- all of it
+pub written_all : {b text c : List ℕ} {end i : ℕ} → length text ≤ end → i ≡ length text
+    → c ≡ sets b (end - length text) (take i text) → Written b end text c (end - length text)
+written_all {b} {text} {c} {end} h k e =
+    record { bytes = e ∙ ap (sets b (end - length text)) (ap (λ n. take n text) k ∙ take-length text); starts = omega (arith, h) }
 
 -- a loop: what is left to write, and the whole
 

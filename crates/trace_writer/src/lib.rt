@@ -15,7 +15,7 @@ ghost use Rattle.trace_writer.specs.Code.{few, flat_has_text};
 
 use cell::{Arrival, Refusal, Switch};
 use trace::{BLOCK_LIMIT, FIELDS, Key};
-use trace_line_writer::{TraceLine, put_lines};
+use trace_line_writer::{TraceLine, put_lines, put_one};
 
 // The clock's end, as a count of slots.
 const CLOCK_END: usize = Switch::CLOCK_END as usize;
@@ -110,7 +110,7 @@ fn pour_slots(out: &mut [u8], at: usize, first: u32, counts: &[u32], numbers: &[
         key: Key::End,
         number: first as usize + counts.len(),
     };
-    put_lines(out, place, &[end])
+    put_one(out, place, end)
 }
 
 // block = slot-line arrival*
@@ -123,7 +123,7 @@ fn pour_block(out: &mut [u8], at: usize, clock: usize, count: u32, numbers: &[u3
         key: Key::Slot,
         number: clock,
     };
-    let arrivals = put_lines(out, at, &[slot]);
+    let arrivals = put_one(out, at, slot);
     pour_arrivals(out, arrivals, count, numbers)
 }
 

@@ -1,5 +1,4 @@
 use Rattle.std.proofs.Common.{arith}
-use Rattle.trace_line_writer.proofs.Lines.{put-one}
 use Rattle.trace_writer.proofs.Writing.{rest-slot, rest-slots-end}
 use Rattle.trace_writer.proofs.pour_slots.Goals as goal
 
@@ -18,4 +17,4 @@ returns c =
     rest-slots-end (omega arith) c.args.first c.args.counts.now l.i l.left.now
     (omega arith)
     l.invariant
-    (put-one _ c.put_lines.ensures)
+    c.put_one.ensures
