@@ -50,7 +50,9 @@ fn is_place(store: &[u8], k: usize) -> bool
     if !is_name(number) {
         return false;
     }
-    if place_of(store, number) != Some(k) {
+    // The first place of this name, which is k or one before it.
+    let found = place_of(store, number).unwrap_or(CUES);
+    if found < k {
         return false;
     }
     fair_table::is_fair_table(&store[at..at + FAIR_BYTES])

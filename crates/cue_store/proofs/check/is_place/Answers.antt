@@ -1,27 +1,22 @@
 -- Each rule of a place in turn: one that is broken, or none but the table's.
-use Rattle.std.proofs.Common.{◌≡◌, ℕ, ◌+◌, ◌-◌, ◌<◌, ◌∙◌, sym, refl, ap, ap₂, take, drop, replicate, arith, Bool, true, false, not}
+use Rattle.std.proofs.Common.{◌≡◌, ℕ, ◌+◌, ◌-◌, ◌<◌, ◌∙◌, sym, ap, ap₂, take, drop, replicate, arith}
 use Rattle.std.proofs.Common.{Option, None, Some}
-use Rattle.std.specs.Option.{MatchOption, option_eq}
-use borrow.Author.Tests.{eq-eqb, ne_eqb, eqb-true}
-use lib.Dec.{eqb}
+use Rattle.std.specs.Option.{MatchOption, unwrap_or}
 use Rattle.model.specs.Cues.{cue_limit, name_limit}
 use Rattle.layout.specs.Frame.{is_fair_table}
 use Rattle.layout.specs.Fair.{fair_size}
 use Rattle.layout.specs.Number.{same_bytes}
 use Rattle.cue_store.specs.Code.{table_at, place_of}
 use Rattle.cue_store.specs.Names.{is_name}
+use Rattle.cue_store.proofs.PlaceLoops.{place-before}
 use Rattle.cue_store.proofs.PlaceTests.{place-zeros, place_other, place-again, place-table}
 use Rattle.cue_store.proofs.check.is_place.Goals as goal
 
--- whether the place found is this one
-found : (o : Option ℕ) (n k : ℕ) → MatchOption o (n ≡ cue_limit) (λ j. (j ≡ n) × (j < cue_limit)) → k < cue_limit
-    → option_eq eqb o (Some k) ≡ eqb n k
-found None n k h more = sym (ne_eqb n k (λ e. omega arith))
-found (Some j) n k h more = ap (λ m. eqb m k) h.0
-
-not-false : (b : Bool) → not b ≡ false → b ≡ true
-not-false true h = refl
-not-false false h = cc
+-- the place found
+found : (o : Option ℕ) (n r : ℕ) → MatchOption o (n ≡ cue_limit) (λ j. (j ≡ n) × (j < cue_limit)) → r ≡ unwrap_or o cue_limit
+    → r ≡ n
+found None n r h e = e ∙ sym h
+found (Some j) n r h e = e ∙ h.0
 
 pub returns-then-number-eq0 : goal.returns-then-number-eq0
 unfolding table_at
@@ -41,15 +36,15 @@ returns-then-not-is_name c =
     (place_other a.store.now a.k (λ z. c.if-number-eq0.false (number ∙ z))
     (ap is_name (sym number) ∙ sym c.is_name.ensures ∙ c.if-not-is_name.true))
 
-pub returns-then-ne : goal.returns-then-ne
-returns-then-ne c =
+pub returns-then-found-k : goal.returns-then-found-k
+returns-then-found-k c =
     let a = c.args in
     let store = a.store.now in
     let number = c.name_at-number.ensures in
-    let other = c.ne.ensures ∙ ap not (found _ _ a.k c.place_of.ensures c.requires.1) in
+    let here = found _ _ _ c.place_of.ensures c.unwrap_or-found.ensures in
     sym
     (place-again store a.k (λ z. c.if-number-eq0.false (number ∙ z))
-    (λ e. let same = ap not (eq-eqb _ a.k (ap (place_of store) number ∙ e)) in cc (other, same, c.if-ne.true)))
+    (λ e. omega (arith, here, ap (place_of store) number ∙ e, c.if-found-k.true)))
 
 pub returns : goal.returns
 unfolding table_at
@@ -58,11 +53,11 @@ returns c =
     let store = a.store.now in
     let number = c.name_at-number.ensures in
     let start = c.start_of-at.result in
-    let other = c.ne.ensures ∙ ap not (found _ _ a.k c.place_of.ensures c.requires.1) in
+    let here = found _ _ _ c.place_of.ensures c.unwrap_or-found.ensures in
     let long : start + name_limit + fair_size - (start + name_limit) ≡ fair_size = omega arith in
     c.is_fair_table.ensures
     ∙ ap₂ (λ n at. is_fair_table (take n (drop (at + name_limit) store))) long c.start_of-at.ensures
     ∙ sym
     (place-table store a.k (λ z. c.if-number-eq0.false (number ∙ z))
     (ap is_name (sym number) ∙ sym c.is_name.ensures ∙ c.if-not-is_name.false)
-    (sym (ap (place_of store) number) ∙ eqb-true _ a.k (not-false _ (sym other ∙ c.if-ne.false))))
+    (omega (arith, here, ap (place_of store) number, place-before store a.k c.requires.1, c.if-found-k.false)))
