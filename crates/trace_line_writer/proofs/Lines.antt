@@ -1,6 +1,6 @@
 -- Line after line:
 --     lines_text-more, -end, -within   the lines from one on, which are no longer than all
---     put-two                          two lines
+--     put-two, put-five                two lines, and five
 --     ends-more, ends-all              they are measured from the first to the last
 --     back-start, -line, -room, -done  they are written from the last to the first
 use Rattle.std.proofs.Common.{◌≡◌, ℕ, ◌+◌, ◌≤◌, ◌<◌, List, [], ◌∷◌, ◌++◌, length, get_or, drop, arith, refl, sym, ap, ◌∙◌, append_assoc, length-append}
@@ -35,6 +35,24 @@ pub put-two : {b c : List ℕ} {at next : ℕ} (l m : TraceLine) → Put b at (l
     → Put b at (line l.key l.number ++ line m.key m.number) c next
 unfolding lines_text
 put-two l m p = rw append-nil at p
+
+lines_text-five : (ls : List TraceLine) (d : TraceLine) → length ls ≡ 5
+    → lines_text ls ≡ line_at ls 0 d ++ (line_at ls 1 d ++ (line_at ls 2 d ++ (line_at ls 3 d ++ line_at ls 4 d)))
+lines_text-five ls d h =
+    rw (
+      lines_text-more ls 0 d (omega (arith, h)),
+      lines_text-more ls 1 d (omega (arith, h)),
+      lines_text-more ls 2 d (omega (arith, h)),
+      lines_text-more ls 3 d (omega (arith, h)),
+      lines_text-more ls 4 d (omega (arith, h)),
+      lines_text-end ls 5 (omega (arith, h)),
+      append-nil,
+    ) refl
+
+pub put-five : {b c : List ℕ} {at next : ℕ} (ls : List TraceLine) (d : TraceLine) → length ls ≡ 5
+    → Put b at (line_at ls 0 d ++ (line_at ls 1 d ++ (line_at ls 2 d ++ (line_at ls 3 d ++ line_at ls 4 d)))) c next
+    → Put b at (lines_text ls) c next
+put-five ls d h p = rw (lines_text-five ls d h) p
 
 -- what is left to measure
 

@@ -15,7 +15,7 @@ ghost use Rattle.trace_writer.specs.Code.{few, flat_has_text};
 
 use cell::{Arrival, Refusal, Switch};
 use trace::{BLOCK_LIMIT, FIELDS, Key};
-use trace_line_writer::{TraceLine, put_lines, put_one};
+use trace_line_writer::{TraceLine, put_five, put_lines, put_one};
 
 // The clock's end, as a count of slots.
 const CLOCK_END: usize = Switch::CLOCK_END as usize;
@@ -153,7 +153,7 @@ fn put_arrival(out: &mut [u8], at: usize, a: Arrival) -> usize
         TraceLine::new(Key::Rank, a.rank),
         TraceLine::new(Key::Tag, a.tag),
     ];
-    put_lines(out, at, &lines)
+    put_five(out, at, lines)
 }
 
 // The arrival that these numbers begin with.

@@ -1,52 +1,16 @@
--- Five lines that were measured are written where they fit.
-use Rattle.std.proofs.Common.{arith}
+use Rattle.std.proofs.lemmas.List.{append-nil}
 use Rattle.trace.specs.Lines.{departure_text}
-use Rattle.trace_line_writer.proofs.Pour.{ends-then, put-short, tried_then, tried-written, put-tried}
+use Rattle.trace_line_writer.specs.Writing.{lines_text}
 use Rattle.trace_line_writer.proofs.put_departure.Goals as goal
 
-pub returns-then-out-end : goal.returns-then-out-end
-unfolding departure_text
-returns-then-out-end c =
-    put-short
-    (ends-then c.line_end-in_at.ensures
-    (ends-then c.line_end-flow_at.ensures
-    (ends-then c.line_end-rank_at.ensures (ends-then c.line_end-tag_at.ensures c.line_end-end.ensures))))
-    c.if-out-end.true
-
-pub write_line-requires : goal.write_line-requires
-write_line-requires c = omega arith
-
-pub write_line-requires-2 : goal.write_line-requires-2
-write_line-requires-2 c = omega arith
-
-pub write_line-requires-3 : goal.write_line-requires-3
-write_line-requires-3 c = omega arith
-
-pub write_line-requires-4 : goal.write_line-requires-4
-write_line-requires-4 c = omega arith
-
-pub write_line-requires-5 : goal.write_line-requires-5
-write_line-requires-5 c =
-    omega (
-      arith,
-      c.if-out-end.false,
-      c.line_end-end.ensures.place,
-      c.write_line.auto.out,
-      c.write_line-2.auto.out,
-      c.write_line-3.auto.out,
-      c.write_line-4.auto.out,
-    )
-
 pub returns : goal.returns
-unfolding departure_text
+unfolding departure_text lines_text
 returns c =
-    let k₁ = c.write_line.auto.out in
-    let k₂ = c.write_line-2.auto.out in
-    let k₃ = c.write_line-3.auto.out in
-    let k₄ = c.write_line-4.auto.out in
-    put-tried c.if-out-end.false (omega arith)
-    (tried_then (omega arith) (tried-written (omega arith) c.line_end-in_at.ensures c.write_line.ensures)
-    (tried_then (omega arith) (tried-written (omega arith) c.line_end-flow_at.ensures c.write_line-2.ensures)
-    (tried_then (omega arith) (tried-written (omega arith) c.line_end-rank_at.ensures c.write_line-3.ensures)
-    (tried_then (omega arith) (tried-written (omega arith) c.line_end-tag_at.ensures c.write_line-4.ensures)
-    (tried-written (omega arith) c.line_end-end.ensures c.write_line-5.ensures)))))
+    rw (
+      c.new.ensures,
+      c.new-2.ensures,
+      c.new-3.ensures,
+      c.new-4.ensures,
+      c.new-5.ensures,
+      append-nil,
+    ) at c.put_five.ensures

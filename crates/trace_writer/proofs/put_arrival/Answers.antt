@@ -13,4 +13,4 @@ returns c =
       c.new-4.ensures,
       c.new-5.ensures,
       append-nil,
-    ) at c.put_lines.ensures
+    ) at c.put_five.ensures
