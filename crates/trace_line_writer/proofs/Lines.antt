@@ -1,5 +1,5 @@
 -- Line after line:
---     lines_text-more, -end, -within   the lines from one on, which are no longer than all
+--     lines_text-more, -end, -append   the lines from one on, and those of two lists
 --     put-two, put-five                two lines, and five
 --     ends-more, ends-all              they are measured from the first to the last
 --     back-start, -line, -room, -done  they are written from the last to the first

@@ -103,7 +103,7 @@ pub fn put_lines(out: &mut [u8], at: usize, lines: &[TraceLine]) -> usize
 }
 
 // Five lines, those of a cell, if all of them fit. Always inlined and kept line by line: the compiler then sees the keys at
-// each call. By `put_lines`, which looks a key's text up in a loop, the player takes 11 % longer and the writer a third.
+// each call. By `put_lines`, which looks a key's text up in a loop, the player takes 11 % longer.
 #[inline(always)]
 pub fn put_five(out: &mut [u8], at: usize, lines: [TraceLine; 5]) -> usize
     ensures { Put out.old at (lines_text lines) out.new result }
@@ -152,7 +152,7 @@ pub fn write_number(out: &mut [u8], end: usize, n: usize) -> usize
     let mut place = end;
     loop {
         place -= 1;
-        // The first digit needs no division and each other one: for a remainder and a quotient the compiler divides twice.
+        // The leading digit is what is left at last, and needs no division; each other digit takes one.
         if rest < 10 {
             out[place] = b'0' + rest as u8;
             return place;
