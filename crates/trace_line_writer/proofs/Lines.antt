@@ -1,6 +1,6 @@
 -- Line after line:
 --     lines_text-more, -end, -append   the lines from one on, and those of two lists
---     put-two, put-five                two lines, and five
+--     put-one, put-two, put-five       one line, two, and five
 --     ends-more, ends-all              they are measured from the first to the last
 --     back-start, -line, -room, -done  they are written from the last to the first
 use Rattle.std.proofs.Common.{◌≡◌, ℕ, ◌+◌, ◌≤◌, ◌<◌, List, [], ◌∷◌, ◌++◌, length, get_or, drop, arith, refl, sym, ap, ◌∙◌, append_assoc, length-append}
@@ -30,6 +30,11 @@ unfolding lines_text
 lines_text-append [] b = refl
 lines_text-append (l ∷ a) b =
     ap (λ t. line l.key l.number ++ t) (lines_text-append a b) ∙ sym (append_assoc (line l.key l.number) (lines_text a) (lines_text b))
+
+pub put-one : {b c : List ℕ} {at next : ℕ} (l : TraceLine) → Put b at (lines_text (l ∷ [])) c next
+    → Put b at (line l.key l.number) c next
+unfolding lines_text
+put-one l p = rw append-nil at p
 
 pub put-two : {b c : List ℕ} {at next : ℕ} (l m : TraceLine) → Put b at (lines_text (l ∷ m ∷ [])) c next
     → Put b at (line l.key l.number ++ line m.key m.number) c next
